@@ -1,0 +1,4 @@
+pub mod Steps
+pub mod ReaderLemmas
+pub mod Order
+pub mod OrderLaws

@@ -1,0 +1,55 @@
+ghost use Rattle.std.specs.Prelude.{◌≡◌, MatchResult};
+ghost use Rattle.zi_version.specs.Fault.{FaultMeans};
+ghost use Rattle.zi_version.specs.Value.{IsVersion, version_cmp};
+
+use crate::fault::VersionFault;
+use crate::reader::{Word, read};
+use std::alloc::Global;
+use std::cmp::Ordering;
+use std::marker::Model;
+use zi_text::Text;
+
+/// A version, which contracts see as the text that it was written as.
+#[derive(Debug, Drop)]
+pub struct Version {
+    text: Text,
+    words: Vec<Word>,
+}
+
+impl Model for Version {
+    ghost use Rattle.std.specs.Prelude.{◌≡◌, List, ℕ, Some};
+    ghost use Rattle.zi_version.specs.Reading.{packed};
+
+    ghost Value = { List ℕ };
+
+    ghost view = { λ v. v.text };
+
+    ghost invariant = { λ v. packed v.text ≡ Some v.words.items };
+}
+
+impl Version {
+    /// The version that a text is.
+    #[tactic(auto, using(crate::proofs::Steps::packed_is_version))]
+    pub fn parse(alloc: Global, text: &str) -> Result<Version, VersionFault>
+        ensures { MatchResult result (λ v. (v ≡ text.now) × IsVersion text.now) (FaultMeans text.now) }
+    {
+        let words = read(alloc, text.as_bytes())?;
+        let text = Text::from_str(alloc, text)?;
+        Ok(Version { text, words })
+    }
+
+    /// The order of the values.
+    pub fn cmp(&self, other: &Version) -> Ordering
+        ensures { result ≡ version_cmp self.now other.now }
+    {
+        self.words.as_slice().cmp(other.words.as_slice())
+    }
+
+    /// The text as it was written.
+    pub fn text(&self) -> &str
+        ensures text { result.now ≡ self.now }
+        ensures right { IsVersion self.now }
+    {
+        self.text.as_str()
+    }
+}
