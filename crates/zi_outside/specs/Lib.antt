@@ -1,0 +1,5 @@
+pub mod Count
+pub mod Memory
+pub mod Outside
+pub mod Place
+pub mod Vars
