@@ -1,0 +1,44 @@
+-- The line on the error stream, and the exit code, of each outcome.
+use Rattle.std.specs.Prelude.{◌≡◌, ℕ, Option, Result, Ok, Err, List, [], ◌++◌, codes}
+use Rattle.std.specs.Fmt.{decimal}
+use Rattle.zi_outside.specs.Count.{Rose}
+use Rattle.zi_outside.specs.Outside.{gained, GainsFront}
+use Rattle.zi_outside.specs.declared.sink.SinkFault.{SinkFault as Fault}
+use Rattle.zi_outside.specs.declared.sink.SinkFault.TheVariants as fault
+use Rattle.zi_app.specs.declared.outcome.Outcome.{Outcome}
+use Rattle.zi_app.specs.declared.outcome.Outcome.TheVariants.{Done, Usage, FeedRead, NoRootFeed, FeedTooLong, SinkFault, Memory, Unbuilt}
+
+abbrev pub text_of : Outcome → List ℕ
+text_of Done = []
+text_of (Usage index) = codes "usage at word " ++ decimal index
+text_of (FeedRead uri) = codes "cannot read " ++ uri
+text_of NoRootFeed = codes "no feed for the root"
+text_of (FeedTooLong uri limit) = uri ++ codes " is longer than " ++ decimal limit ++ codes " bytes"
+text_of SinkFault = codes "cannot write"
+text_of Memory = codes "out of memory"
+text_of Unbuilt = codes "not built yet"
+
+abbrev pub line_of : Outcome → List ℕ
+line_of Done = []
+line_of o = codes "zi: " ++ text_of o ++ codes "\n"
+
+abbrev pub code_of : Outcome → ℕ
+code_of Done = 0
+code_of (Usage index) = 64
+code_of (FeedRead uri) = 65
+code_of NoRootFeed = 66
+code_of (FeedTooLong uri limit) = 68
+code_of SinkFault = 93
+code_of Memory = 94
+code_of Unbuilt = 95
+
+-- what puts of a text piece by piece add: all of it, or after a fault a front of it
+abbrev pub PutsAll : {T : Type 0} → Option (List ℕ) → List ℕ → Result T Fault → Option (List ℕ) → Type 0
+PutsAll old text (Ok x) new = new ≡ gained old text
+PutsAll old text (Err e) new = GainsFront old text new
+
+-- putting pieces fails only where the count rose
+abbrev pub FailsWhereRose : {T : Type 0} → ℕ → Result T Fault → ℕ → Type 0
+FailsWhereRose before (Ok x) after = Unit {0}
+FailsWhereRose before (Err fault.Failed) after = Rose before after
+FailsWhereRose before (Err fault.Memory) after = Unit {0}

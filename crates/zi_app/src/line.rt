@@ -1,0 +1,131 @@
+ghost use Rattle.std.specs.Prelude.{◌≡◌, ◌≤◌, ◌<◌, ◌+◌, [], ◌∷◌, ◌++◌};
+ghost use Rattle.std.specs.Fmt.{decimal};
+ghost use Rattle.zi_app.specs.Line.{PutsAll, FailsWhereRose, line_of};
+
+use crate::Outcome;
+use zi_outside::{Sink, SinkFault};
+
+// Two pieces, one behind the other.
+
+#[tactic(auto, using(crate::proofs::LineLemmas::pieces))]
+fn put_two<E: Sink>(a: &[u8], b: &[u8], err: &mut E) -> Result<(), SinkFault>
+    ensures puts { PutsAll (E.written err.old) (a.now ++ b.now) result (E.written err.new) }
+    ensures count { E.faults err.old ≤ E.faults err.new }
+    ensures failed { FailsWhereRose (E.faults err.old) result (E.faults err.new) }
+{
+    match err.put(a) {
+        Ok(()) => err.put(b),
+        Err(e) => Err(e),
+    }
+}
+
+// Three pieces.
+
+#[tactic(auto, using(crate::proofs::LineLemmas::pieces))]
+fn put_three<E: Sink>(a: &[u8], b: &[u8], c: &[u8], err: &mut E) -> Result<(), SinkFault>
+    ensures puts { PutsAll (E.written err.old) (a.now ++ b.now ++ c.now) result (E.written err.new) }
+    ensures count { E.faults err.old ≤ E.faults err.new }
+    ensures failed { FailsWhereRose (E.faults err.old) result (E.faults err.new) }
+{
+    match put_two(a, b, err) {
+        Ok(()) => err.put(c),
+        Err(e) => Err(e),
+    }
+}
+
+// A digit.
+#[tactic(auto, using(crate::proofs::LineLemmas::pieces))]
+fn put_digit<E: Sink>(digit: u8, err: &mut E) -> Result<(), SinkFault>
+    requires { digit < 10 }
+    ensures puts { PutsAll (E.written err.old) ((48 + digit) ∷ []) result (E.written err.new) }
+    ensures count { E.faults err.old ≤ E.faults err.new }
+    ensures failed { FailsWhereRose (E.faults err.old) result (E.faults err.new) }
+{
+    err.put(&[b'0' + digit])
+}
+
+// A number in decimal digits.
+#[tactic(auto, using(crate::proofs::LineLemmas::numbers))]
+fn put_number<E: Sink>(n: u64, err: &mut E) -> Result<(), SinkFault>
+    ensures puts { PutsAll (E.written err.old) (decimal n) result (E.written err.new) }
+    ensures count { E.faults err.old ≤ E.faults err.new }
+    ensures failed { FailsWhereRose (E.faults err.old) result (E.faults err.new) }
+{
+    if n < 10 {
+        return put_digit(n as u8, err);
+    }
+    match put_number(n / 10, err) {
+        Ok(()) => put_digit((n % 10) as u8, err),
+        Err(e) => Err(e),
+    }
+}
+
+// A number behind a piece.
+#[tactic(auto, using(crate::proofs::LineLemmas::pieces))]
+fn put_behind<E: Sink>(a: &[u8], n: u64, err: &mut E) -> Result<(), SinkFault>
+    ensures puts { PutsAll (E.written err.old) (a.now ++ decimal n) result (E.written err.new) }
+    ensures count { E.faults err.old ≤ E.faults err.new }
+    ensures failed { FailsWhereRose (E.faults err.old) result (E.faults err.new) }
+{
+    match err.put(a) {
+        Ok(()) => put_number(n, err),
+        Err(e) => Err(e),
+    }
+}
+
+// A number between two pieces.
+#[tactic(auto, using(crate::proofs::LineLemmas::pieces))]
+fn put_around<E: Sink>(a: &[u8], n: u64, b: &[u8], err: &mut E) -> Result<(), SinkFault>
+    ensures puts { PutsAll (E.written err.old) (a.now ++ decimal n ++ b.now) result (E.written err.new) }
+    ensures count { E.faults err.old ≤ E.faults err.new }
+    ensures failed { FailsWhereRose (E.faults err.old) result (E.faults err.new) }
+{
+    match put_behind(a, n, err) {
+        Ok(()) => err.put(b),
+        Err(e) => Err(e),
+    }
+}
+
+// Two pieces, and a number between two more.
+#[tactic(auto, using(crate::proofs::LineLemmas::pieces))]
+fn put_five<E: Sink>(
+    a: &[u8],
+    b: &[u8],
+    c: &[u8],
+    n: u64,
+    d: &[u8],
+    err: &mut E,
+) -> Result<(), SinkFault>
+    ensures puts { PutsAll (E.written err.old) ((a.now ++ b.now) ++ (c.now ++ decimal n ++ d.now)) result (E.written err.new) }
+    ensures count { E.faults err.old ≤ E.faults err.new }
+    ensures failed { FailsWhereRose (E.faults err.old) result (E.faults err.new) }
+{
+    match put_two(a, b, err) {
+        Ok(()) => put_around(c, n, d, err),
+        Err(e) => Err(e),
+    }
+}
+
+/// Writes the line of an outcome.
+
+pub fn tell<E: Sink>(outcome: &Outcome, err: &mut E) -> Result<(), SinkFault>
+    ensures puts { PutsAll (E.written err.old) (line_of outcome.now) result (E.written err.new) }
+    ensures count { E.faults err.old ≤ E.faults err.new }
+    ensures failed { FailsWhereRose (E.faults err.old) result (E.faults err.new) }
+{
+    match outcome {
+        Outcome::Done => Ok(()),
+        Outcome::Usage { index } => put_around(b"zi: usage at word ", *index, b"\n", err),
+        Outcome::FeedRead { uri } => {
+            put_three(b"zi: cannot read ", uri.as_str().as_bytes(), b"\n", err)
+        }
+        Outcome::NoRootFeed => err.put(b"zi: no feed for the root\n"),
+        Outcome::FeedTooLong { uri, limit } => {
+            let uri = uri.as_str().as_bytes();
+            put_five(b"zi: ", uri, b" is longer than ", *limit, b" bytes\n", err)
+        }
+        Outcome::SinkFault => err.put(b"zi: cannot write\n"),
+        Outcome::Memory => err.put(b"zi: out of memory\n"),
+        Outcome::Unbuilt => err.put(b"zi: not built yet\n"),
+    }
+}
