@@ -1,0 +1,89 @@
+//! Feeds in files.
+ghost use Rattle.std.specs.Prelude.{None, IfOk};
+ghost use Rattle.zi.specs.Found.{FitsIn};
+
+use crate::piecewise::{Found, deliver, fault_of, read_up_to};
+use percent_encoding::{AsciiSet, NON_ALPHANUMERIC, ascii_set, utf8_percent_encode};
+use std::fs;
+use std::io::{Error, ErrorKind};
+use std::rt::Files;
+use zi_outside::{Feeds, FeedsFault, Got};
+use zi_text::{Memory, Text};
+
+// Every byte of an address but letters, digits, `-`, `.` and `_` is escaped in the name of its file.
+const ESCAPED: AsciiSet = ascii_set!(NON_ALPHANUMERIC.remove(b'-').remove(b'.').remove(b'_'));
+
+/// Feeds in files, which don't tell what they hold: a web address is a file of the folder, any other text is a path.
+#[derive(Drop)]
+pub struct FolderFeeds<'a, R: Files + AllocGlobal> {
+    rt: &'a R,
+    folder: Text,
+    faults: u64,
+}
+
+impl<'a, R: Files + AllocGlobal> FolderFeeds<'a, R> {
+    /// The feeds of a folder, without a fault.
+    pub fn new(rt: &'a R, folder: Text) -> FolderFeeds<'a, R> {
+        FolderFeeds {
+            rt,
+            folder,
+            faults: 0,
+        }
+    }
+
+    // The path of a key.
+    fn path_of(&self, key: &str) -> Result<String, Memory> {
+        if !key.starts_with("http://") && !key.starts_with("https://") {
+            return Ok(String::from_str(self.rt.alloc(), key)?);
+        }
+        let mut path = String::from_str(self.rt.alloc(), self.folder.as_str())?;
+        path.push('/')?;
+        utf8_percent_encode(key, ESCAPED).append_to(&mut path)?;
+        Ok(path)
+    }
+
+    // What a key holds.
+    fn read(&self, key: &str, limit: u64) -> Result<Found, FeedsFault>
+        ensures { IfOk result (FitsIn limit) }
+    {
+        let path = self.path_of(key)?;
+        match fs::open(self.rt, path.as_str()) {
+            Ok(mut file) => read_up_to(self.rt.alloc(), &mut file, limit),
+            Err(error) => {
+                if names_nothing(&error) {
+                    Ok(Found::Absent)
+                } else {
+                    Err(fault_of(&error))
+                }
+            }
+        }
+    }
+}
+
+// Whether no file can stand under a name: none does, a part on the way is a file, or the name is too long or has a NUL.
+fn names_nothing(error: &Error) -> bool {
+    matches!(
+        error.kind(),
+        ErrorKind::NotFound
+            | ErrorKind::NotADirectory
+            | ErrorKind::InvalidFilename
+            | ErrorKind::InvalidInput
+    )
+}
+
+impl<R: Files + AllocGlobal> Feeds for FolderFeeds<'_, R> {
+    ghost holds = { λ f. None };
+
+    ghost faults = { λ f. f.faults };
+
+    fn get(&mut self, uri: &str, limit: u64, into: &mut Vec<u8>) -> Result<Got, FeedsFault> {
+        match self.read(uri, limit) {
+            Ok(found) => deliver(&found, limit, into),
+            Err(FeedsFault::Memory) => Err(FeedsFault::Memory),
+            Err(FeedsFault::Failed) => {
+                self.faults = self.faults.saturating_add(1);
+                Err(FeedsFault::Failed)
+            }
+        }
+    }
+}

@@ -1,0 +1,71 @@
+//! Reading in pieces up to a limit.
+ghost use Rattle.std.specs.Prelude.{◌≡◌, ◌≤◌, ℕ, List, None, IfOk, IfErr, vec_len};
+ghost use Rattle.zi.specs.Found.{FitsIn};
+ghost use Rattle.zi_outside.specs.Outside.{Gets};
+
+use std::alloc::Global;
+use std::io::{self, Read};
+use zi_outside::{FeedsFault, Got};
+
+// The most bytes that are read at once.
+const PIECE: usize = 65_536;
+
+/// What stands under a name.
+#[derive(Drop)]
+pub enum Found {
+    Bytes(Vec<u8>),
+    Absent,
+    TooLong,
+}
+
+/// The fault that an error of the system is.
+pub fn fault_of(error: &io::Error) -> FeedsFault {
+    if error.kind() == io::ErrorKind::OutOfMemory {
+        FeedsFault::Memory
+    } else {
+        FeedsFault::Failed
+    }
+}
+
+/// All that a reader gives, where that is within the limit. At most one piece past the limit is read.
+pub fn read_up_to<R: Read>(alloc: Global, reader: &mut R, limit: u64) -> Result<Found, FeedsFault>
+    ensures { IfOk result (FitsIn limit) }
+{
+    let mut bytes = Vec::new(alloc);
+    let mut piece = [0u8; PIECE];
+    for _ in 0..u64::MAX {
+        match reader.read(&mut piece) {
+            Ok(0) => return Ok(Found::Bytes(bytes)),
+            Ok(count) => {
+                if (bytes.len() as u64).saturating_add(count as u64) > limit {
+                    return Ok(Found::TooLong);
+                }
+                if bytes.extend_from_slice(&piece[..count]).is_err() {
+                    return Err(FeedsFault::Memory);
+                }
+            }
+            Err(error) => {
+                if error.kind() != io::ErrorKind::Interrupted {
+                    return Err(fault_of(&error));
+                }
+            }
+        }
+    }
+    Err(FeedsFault::Failed)
+}
+
+/// Adds what was found to the buffer.
+pub fn deliver(found: &Found, limit: u64, into: &mut Vec<u8>) -> Result<Got, FeedsFault>
+    requires { FitsIn limit found.now }
+    ensures gets { (key : List ℕ) → Gets None key limit into.old.items result into.new.items }
+    ensures cause { IfErr result (λ fault. fault ≡ FeedsFault.Memory) }
+{
+    match found {
+        Found::Bytes(bytes) => match into.extend_from_slice(bytes.as_slice()) {
+            Ok(()) => Ok(Got::Held),
+            Err(_) => Err(FeedsFault::Memory),
+        },
+        Found::Absent => Ok(Got::Absent),
+        Found::TooLong => Ok(Got::TooLong),
+    }
+}
