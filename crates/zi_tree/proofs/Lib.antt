@@ -1,0 +1,9 @@
+pub mod Hung
+pub mod Items
+pub mod Order
+pub mod Halves
+pub mod Sizes
+pub mod Pieces
+pub mod Replaced
+pub mod Joins
+pub mod Rests
