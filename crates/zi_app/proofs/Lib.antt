@@ -6,3 +6,5 @@ pub mod ContentLemmas
 pub mod LineLemmas
 pub mod RunLemmas
 pub mod SeenLemmas
+pub mod GrammarParts
+pub mod GrammarLaws

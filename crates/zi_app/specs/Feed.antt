@@ -1,4 +1,5 @@
--- Plain feeds: one element `interface` with plain implementations, in the feed format's namespace.
+-- How a plain feed is read from the front: each function gives what it reads and the text behind it. What a plain feed is,
+-- is said by the grammar.
 use Rattle.std.specs.Prelude.{◌≡◌, ℕ, ◌≤◌, ◌<◌, Bool, true, not, ◌&&◌, ◌==◌, if◌then◌else◌, List, [], ◌∷◌, length, codes, Option, Some, None, is_some}
 use Rattle.std.specs.List.{list_any, starts_with}
 use Rattle.std.specs.Str.{bytes_eq}
@@ -39,13 +40,14 @@ start_at text =
     after (codes ">") (after_space f) >>= λ g.
     Some (after_space g)
 
+-- nothing is left
+abbrev pub nothing_left : List ℕ → Option (List ℕ)
+nothing_left [] = Some []
+nothing_left (b ∷ bs) = None
+
 -- the end tag and white space, and no more
 unfoldable pub ends : List ℕ → Bool
-ends text = is_some (after (codes "</interface") text >>= λ a. after (codes ">") (after_space a) >>= λ b. nothing (after_space b))
-  where
-    nothing : List ℕ → Option (List ℕ)
-    nothing [] = Some []
-    nothing (b ∷ bs) = None
+ends text = is_some (after (codes "</interface") text >>= λ a. after (codes ">") (after_space a) >>= λ b. nothing_left (after_space b))
 
 -- these implementations, one behind the other, and then the end
 abbrev pub AreImpls : List Impl → List ℕ → Type 0
@@ -64,8 +66,8 @@ pub record IsContent (text : List ℕ) (impls : List Impl) : Type 0 where
   pub few : length impls ≤ 65536
   pub distinct : are_distinct impls ≡ true
 
--- the bytes are a plain feed of these implementations
-pub record IsPlainFeed (bytes : List ℕ) (impls : List Impl) : Type 0 where
+-- reading the bytes finds these implementations
+pub record ReadsAs (bytes : List ℕ) (impls : List Impl) : Type 0 where
   pub text : List ℕ
   pub start : start_at bytes ≡ Some text
   pub content : IsContent text impls

@@ -6,7 +6,7 @@ use Rattle.zi_outside.specs.Outside.{Holding, gained, GainsFront}
 use Rattle.zi_app.specs.declared.imp.Impl.{Impl}
 use Rattle.zi_app.specs.declared.outcome.Outcome.{Outcome}
 use Rattle.zi_app.specs.declared.outcome.Outcome.TheVariants.{Done, Usage, FeedRead, NoRootFeed, FeedTooLong, SinkFault, Memory, Unbuilt}
-use Rattle.zi_app.specs.Feed.{IsPlainFeed}
+use Rattle.zi_app.specs.Grammar.{IsPlainFeed}
 use Rattle.zi_app.specs.Best.{IsBest}
 use Rattle.zi_app.specs.Document.{document}
 use Rattle.zi_app.specs.Words.{AsksFor, Right}

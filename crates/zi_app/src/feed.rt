@@ -1,7 +1,8 @@
 ghost use Rattle.std.specs.HashSet.{contains_text};
 ghost use Rattle.std.specs.Prelude.{◌≡◌, ◌<◌, ◌⊎◌, ◌||◌, not, ℕ, true, false, All, OnOk, IfSome, List as Items, Some, None, IfOk, MatchOption, length};
 ghost use Rattle.std.specs.Option.{option_copied, option_map};
-ghost use Rattle.zi_app.specs.Feed.{start_at, values_at, made_of, implementation_at, ends, four_now, impl_now, IsContent, IsPlainFeed};
+ghost use Rattle.zi_app.specs.Feed.{start_at, values_at, made_of, implementation_at, ends, four_now, impl_now, IsContent, ReadsAs};
+ghost use Rattle.zi_app.specs.Grammar.{IsPlainFeed};
 ghost use Rattle.zi_app.specs.declared.imp.Impl.{Impl as AnImpl};
 ghost use Rattle.std.specs.Str.{bytes_eq};
 
@@ -133,12 +134,23 @@ fn content(alloc: Global, text: &[u8]) -> Result<Option<List<Impl>>, Memory>
     Ok(ended(impls, rest))
 }
 
-/// The implementations of a plain feed; None where the bytes aren't one.
-pub fn read(alloc: Global, bytes: &[u8]) -> Result<Option<List<Impl>>, Memory>
-    ensures { IfOk result (λ o. MatchOption o ((is : Items AnImpl) → ¬ IsPlainFeed bytes.now is) (IsPlainFeed bytes.now)) }
+// The implementations that reading the bytes from the front finds.
+fn found_in(alloc: Global, bytes: &[u8]) -> Result<Option<List<Impl>>, Memory>
+    ensures { IfOk result (λ o. MatchOption o ((is : Items AnImpl) → ¬ ReadsAs bytes.now is) (ReadsAs bytes.now)) }
 {
     match start(bytes) {
         None => Ok(None),
         Some(text) => content(alloc, text),
+    }
+}
+
+/// The implementations of a plain feed; None exactly where the bytes aren't one. Memory is its one refusal.
+#[tactic(auto, using(crate::proofs::GrammarLaws::plain_means))]
+pub fn read(alloc: Global, bytes: &[u8]) -> Result<Option<List<Impl>>, Memory>
+    ensures { IfOk result (λ o. MatchOption o ((is : Items AnImpl) → ¬ IsPlainFeed bytes.now is) (IsPlainFeed bytes.now)) }
+{
+    match found_in(alloc, bytes) {
+        Ok(impls) => Ok(impls),
+        Err(fault) => Err(fault),
     }
 }
