@@ -2,3 +2,8 @@ pub mod Steps
 pub mod ReaderLemmas
 pub mod Order
 pub mod OrderLaws
+pub mod VersionBytes
+pub mod CutLemmas
+pub mod RangeLemmas
+pub mod ExpressionLemmas
+pub mod ReadLemmas

@@ -2,3 +2,5 @@ pub mod Value
 pub mod Reading
 pub mod Fault
 pub mod Laws
+pub mod Range
+pub mod Cuts

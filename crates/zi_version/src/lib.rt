@@ -1,14 +1,17 @@
-//! Versions of the Zero Install feed format, and their order.
+//! Versions of the Zero Install feed format, their order, and the expressions that admit them.
 //! A version is kept packed, as one flat list of numbers and marks; contracts see the text that it was written as, and
-//! cite the value that the format gives to that text.
+//! cite the value that the format gives to that text. An expression is kept as its ranges.
 #![tactic(auto)]
 
+mod alternative;
 mod fault;
 pub mod laws;
+mod range;
 mod reader;
 mod version;
 
-pub use fault::VersionFault;
+pub use alternative::{Alternative, Range};
+pub use fault::{RangeFault, VersionFault};
 pub use version::Version;
 
 #[cfg(test)]
@@ -96,5 +99,112 @@ mod tests {
         for (text, place) in rows {
             assert_eq!(rt; place_of(rt.alloc(), text), place, "at {text}");
         }
+    }
+
+    // The place at which an expression is refused; 99 where it isn't.
+    fn range_place(alloc: Global, text: &str) -> u64 {
+        match Range::parse(alloc, text) {
+            Err(RangeFault::Bad { place }) => place,
+            _ => 99,
+        }
+    }
+
+    const BAD_RANGES: [(&str, u64); 36] = [
+        ("", 0),
+        ("  ", 2),
+        ("..3", 2),
+        ("1.x", 2),
+        ("1-.5", 3),
+        ("1-po..", 4),
+        ("1-po.5", 4),
+        ("!1..", 3),
+        ("!..", 1),
+        ("! 1", 1),
+        ("1...", 3),
+        (".", 1),
+        (".5", 1),
+        ("1.2.", 4),
+        ("1-.", 3),
+        ("|1", 0),
+        ("1|", 2),
+        ("1 |", 3),
+        ("1||2", 2),
+        ("1 2", 2),
+        ("1 ..", 2),
+        ("1.. !2", 4),
+        ("1..2", 3),
+        ("1..!", 4),
+        ("1..!2..", 6),
+        ("1..!2 x", 6),
+        ("1..!2 |x", 7),
+        ("2.6..!3 | ..3", 12),
+        ("18446744073709551616..", 19),
+        ("1é", 1),
+        ("1\t", 1),
+        ("1-..!2-", 99),
+        ("..", 99),
+        (" ..|!1 ", 99),
+        ("1..", 99),
+        ("..!1", 99),
+    ];
+
+    #[test]
+    fn ranges_have_their_places(rt: HostRuntime) {
+        for (text, place) in BAD_RANGES {
+            assert_eq!(rt; range_place(rt.alloc(), text), place, "at {text}");
+        }
+    }
+
+    // Whether an expression admits a version; neither is bad.
+    fn is_admitted(alloc: Global, range: &str, version: &str) -> Result<bool, Fail> {
+        let r = Range::parse(alloc, range)?;
+        let v = Version::parse(alloc, version)?;
+        Ok(r.admits(&v))
+    }
+
+    const ADMISSIONS: [(&str, &str, bool); 22] = [
+        ("2.6..!3 | 3.2.2..", "2.6", true),
+        ("2.6..!3 | 3.2.2..", "3-pre", true),
+        ("2.6..!3 | 3.2.2..", "3.2.2", true),
+        ("2.6..!3 | 3.2.2..", "3", false),
+        ("2.6..!3 | 3.2.2..", "2.5", false),
+        ("..", "0-pre", true),
+        ("1..", "1", true),
+        ("1..", "1-rc", false),
+        ("..!2", "2", false),
+        ("..!2", "2-pre", true),
+        ("1..!2", "2", false),
+        ("1..!2", "1", true),
+        ("2..!1", "1", false),
+        ("1", "01", true),
+        ("1", "1-", true),
+        ("1", "1.0", false),
+        ("!1", "1", false),
+        ("!1", "1-", false),
+        ("!1", "1.0", true),
+        ("  1  |  2  ", "2", true),
+        ("1|2", "3", false),
+        ("1-..!1-post", "1", true),
+    ];
+
+    #[test]
+    fn ranges_admit(rt: HostRuntime) -> Result<(), Fail> {
+        for (range, version, admitted) in ADMISSIONS {
+            assert_eq!(rt;
+                is_admitted(rt.alloc(), range, version)?,
+                admitted,
+                "{version} by {range}"
+            );
+        }
+        Ok(())
+    }
+
+    #[test]
+    fn ends_admit(rt: HostRuntime) -> Result<(), Fail> {
+        let first = Version::parse(rt.alloc(), "1")?;
+        let range = Range::between(Some(first), None);
+        assert!(rt; range.admits(&Version::parse(rt.alloc(), "1.0")?));
+        assert!(rt; !range.admits(&Version::parse(rt.alloc(), "0.9")?));
+        Ok(())
     }
 }
