@@ -2,8 +2,11 @@
 //! Contracts see both types as plain data, with each version as the text that it was written as.
 //! They are made by `Range::parse` and `Range::between`.
 
+ghost use Rattle.std.specs.Prelude.{◌≡◌, IfOk};
+
 use crate::version::Version;
-use zi_text::List;
+use std::alloc::Global;
+use zi_text::{List, Memory};
 
 /// One range of a version expression of the Zero Install feed format.
 #[derive(Debug, Drop)]
@@ -23,4 +26,70 @@ pub enum Range {
     One(Alternative),
     /// Those of which one of the ranges holds.
     Any(List<Alternative>),
+}
+
+// The same end once more.
+fn copy_end(alloc: Global, end: &Option<Version>) -> Result<Option<Version>, Memory>
+    ensures { IfOk result (λ e. e ≡ end.now) }
+{
+    match end {
+        None => Ok(None),
+        Some(v) => {
+            let w = v.copy(alloc)?;
+            Ok(Some(w))
+        }
+    }
+}
+
+impl Alternative {
+    /// The same range once more. Memory is its one refusal.
+    pub fn copy(&self, alloc: Global) -> Result<Alternative, Memory>
+        ensures { IfOk result (λ a. a ≡ self.now) }
+    {
+        match self {
+            Alternative::Equal(v) => {
+                let w = v.copy(alloc)?;
+                Ok(Alternative::Equal(w))
+            }
+            Alternative::Other(v) => {
+                let w = v.copy(alloc)?;
+                Ok(Alternative::Other(w))
+            }
+            Alternative::Within(start, end) => {
+                let low = copy_end(alloc, start)?;
+                let high = copy_end(alloc, end)?;
+                Ok(Alternative::Within(low, high))
+            }
+        }
+    }
+}
+
+// The same ranges once more.
+fn copy_all(alloc: Global, ranges: &[Alternative]) -> Result<List<Alternative>, Memory>
+    ensures { IfOk result (λ copies. copies ≡ ranges.now) }
+{
+    let mut copies = List::new(alloc);
+    for a in ranges {
+        let b = a.copy(alloc)?;
+        copies.push(b)?;
+    }
+    Ok(copies)
+}
+
+impl Range {
+    /// The same expression once more. Memory is its one refusal.
+    pub fn copy(&self, alloc: Global) -> Result<Range, Memory>
+        ensures { IfOk result (λ r. r ≡ self.now) }
+    {
+        match self {
+            Range::One(a) => {
+                let b = a.copy(alloc)?;
+                Ok(Range::One(b))
+            }
+            Range::Any(ranges) => {
+                let copies = copy_all(alloc, ranges.as_slice())?;
+                Ok(Range::Any(copies))
+            }
+        }
+    }
 }

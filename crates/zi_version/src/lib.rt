@@ -207,4 +207,13 @@ mod tests {
         assert!(rt; !range.admits(&Version::parse(rt.alloc(), "0.9")?));
         Ok(())
     }
+
+    #[test]
+    fn ranges_are_copied(rt: HostRuntime) -> Result<(), Fail> {
+        let range = Range::parse(rt.alloc(), "1|!2|3..!4")?.copy(rt.alloc())?;
+        let version = Version::parse(rt.alloc(), "2")?.copy(rt.alloc())?;
+        assert_eq!(rt; version.text(), "2");
+        assert!(rt; !range.admits(&version));
+        Ok(())
+    }
 }

@@ -13,6 +13,50 @@ use crate::version::Version;
 use std::alloc::Global;
 use zi_text::{List as Items, Memory};
 
+impl Range {
+    /// The expression that a text is, by the feed format's attribute `version`: ranges joined by `|`, each with optional
+    /// spaces (U+0020) around it. A range is `v` (equal to it), `!v` (any other), `a..!b` (at least the first and less than
+    /// the second), `a..`, `..!b` or `..` (every version). Bad exactly where the text is none, at the length of its longest
+    /// front that is also a front of some expression; want of memory is the other refusal.
+    pub fn parse(alloc: Global, text: &str) -> Result<Range, RangeFault>
+        ensures { MatchResult result (λ r. range_of text.now ≡ Some r) (FaultAt IsExpression text.now) }
+    {
+        let mut ranges = Items::new(alloc);
+        let mut left = text;
+        while let Some((piece, more)) = cut(left, '|') {
+            match spaced(alloc, piece) {
+                Ok(a) => ranges.push(a)?,
+                Err(f) => return Err(moved(f, text.len() - left.len())),
+            }
+            left = more;
+        }
+        match spaced(alloc, left) {
+            Ok(a) => {
+                ranges.push(a)?;
+                Ok(Range::Any(ranges))
+            }
+            Err(f) => Err(moved(f, text.len() - left.len())),
+        }
+    }
+
+    /// The versions from the first on that are less than the second, where they are there. It takes no memory.
+    pub fn between(not_before: Option<Version>, before: Option<Version>) -> Range
+        ensures { result ≡ between not_before before }
+    {
+        Range::One(Alternative::Within(not_before, before))
+    }
+
+    /// Whether the expression admits a version: one of its ranges holds of it. It takes no memory.
+    pub fn admits(&self, v: &Version) -> bool
+        ensures { result ≡ admits self.now v.now }
+    {
+        match self {
+            Range::One(a) => holds(a, v),
+            Range::Any(ranges) => one_holds(ranges.as_slice(), v),
+        }
+    }
+}
+
 fn is_from(v: &Version, start: &Option<Version>) -> bool
     ensures { result ≡ is_from v.now start.now }
 {
@@ -277,49 +321,5 @@ fn spaced(alloc: Global, text: &str) -> Result<Alternative, RangeFault>
     match first_word(alloc, word) {
         Ok(a) => Ok(a),
         Err(f) => Err(moved(f, text.len() - word.len())),
-    }
-}
-
-impl Range {
-    /// The expression that a text is, by the feed format's attribute `version`: ranges joined by `|`, each with optional
-    /// spaces (U+0020) around it. A range is `v` (equal to it), `!v` (any other), `a..!b` (at least the first and less than
-    /// the second), `a..`, `..!b` or `..` (every version). Bad exactly where the text is none, at the length of its longest
-    /// front that is also a front of some expression; want of memory is the other refusal.
-    pub fn parse(alloc: Global, text: &str) -> Result<Range, RangeFault>
-        ensures { MatchResult result (λ r. range_of text.now ≡ Some r) (FaultAt IsExpression text.now) }
-    {
-        let mut ranges = Items::new(alloc);
-        let mut left = text;
-        while let Some((piece, more)) = cut(left, '|') {
-            match spaced(alloc, piece) {
-                Ok(a) => ranges.push(a)?,
-                Err(f) => return Err(moved(f, text.len() - left.len())),
-            }
-            left = more;
-        }
-        match spaced(alloc, left) {
-            Ok(a) => {
-                ranges.push(a)?;
-                Ok(Range::Any(ranges))
-            }
-            Err(f) => Err(moved(f, text.len() - left.len())),
-        }
-    }
-
-    /// The versions from the first on that are less than the second, where they are there. It takes no memory.
-    pub fn between(not_before: Option<Version>, before: Option<Version>) -> Range
-        ensures { result ≡ between not_before before }
-    {
-        Range::One(Alternative::Within(not_before, before))
-    }
-
-    /// Whether the expression admits a version: one of its ranges holds of it. It takes no memory.
-    pub fn admits(&self, v: &Version) -> bool
-        ensures { result ≡ admits self.now v.now }
-    {
-        match self {
-            Range::One(a) => holds(a, v),
-            Range::Any(ranges) => one_holds(ranges.as_slice(), v),
-        }
     }
 }

@@ -1,4 +1,4 @@
-ghost use Rattle.std.specs.Prelude.{◌≡◌, MatchResult};
+ghost use Rattle.std.specs.Prelude.{◌≡◌, IfOk, MatchResult};
 ghost use Rattle.zi_version.specs.Fault.{FaultMeans};
 ghost use Rattle.zi_version.specs.Value.{IsVersion, version_cmp};
 
@@ -7,7 +7,7 @@ use crate::reader::{Word, read};
 use std::alloc::Global;
 use std::cmp::Ordering;
 use std::marker::Model;
-use zi_text::Text;
+use zi_text::{Memory, Text};
 
 /// A version, which contracts see as the text that it was written as.
 #[derive(Debug, Drop)]
@@ -51,5 +51,14 @@ impl Version {
         ensures right { IsVersion self.now }
     {
         self.text.as_str()
+    }
+
+    /// The same version once more. Memory is its one refusal.
+    pub fn copy(&self, alloc: Global) -> Result<Version, Memory>
+        ensures { IfOk result (λ v. v ≡ self.now) }
+    {
+        let text = self.text.copy(alloc)?;
+        let words = Vec::from_slice(alloc, self.words.as_slice())?;
+        Ok(Version { text, words })
     }
 }
