@@ -1,0 +1,4 @@
+pub mod Sketch
+pub mod Manifest
+pub mod Walk
+pub mod Frames

@@ -1,0 +1,79 @@
+//! The lines of a manifest, each with its LF.
+
+ghost use Rattle.std.specs.Prelude.{◌≡◌, ◌++◌, length, IfOk};
+ghost use Rattle.zi_manifest.specs.Sketch.{hash_of, file_line, link_line, folder_line};
+
+use itoa::Buffer;
+use std::alloc::Global;
+use zi_digest::{Algorithm, Hasher};
+use zi_text::{Memory, Text};
+
+/// The hash of these bytes in lower-case hexadecimal.
+#[tactic(auto, unfolding(crate::specs::Sketch::hash_of))]
+fn hash_text(alloc: Global, a: Algorithm, bytes: &[u8]) -> Result<Text, Memory>
+    ensures { IfOk result (λ t. t ≡ hash_of a bytes.now) }
+{
+    let mut hasher = Hasher::new(a);
+    hasher.update(bytes);
+    hasher.finish().hex(alloc)
+}
+
+/// The line of a file.
+pub(crate) fn file_line(
+    alloc: Global,
+    a: Algorithm,
+    name: &str,
+    bytes: &[u8],
+    exec: bool,
+    mtime: i64,
+) -> Result<Vec<u8>, Memory>
+    ensures { IfOk result (λ line. line.items ≡ file_line (hash_of a bytes.now) exec mtime (length bytes.now) name.now) }
+{
+    let hash = hash_text(alloc, a, bytes)?;
+    let mut buffer = Buffer::new();
+    let mut line = if exec {
+        Vec::from_slice(alloc, b"X ")?
+    } else {
+        Vec::from_slice(alloc, b"F ")?
+    };
+    line.extend_from_slice(hash.as_str().as_bytes())?;
+    line.extend_from_slice(b" ")?;
+    line.extend_from_slice(buffer.format(mtime).as_bytes())?;
+    line.extend_from_slice(b" ")?;
+    line.extend_from_slice(buffer.format(bytes.len()).as_bytes())?;
+    line.extend_from_slice(b" ")?;
+    line.extend_from_slice(name.as_bytes())?;
+    line.extend_from_slice(b"\n")?;
+    Ok(line)
+}
+
+/// The line of a link.
+pub(crate) fn link_line(
+    alloc: Global,
+    a: Algorithm,
+    name: &str,
+    target: &str,
+) -> Result<Vec<u8>, Memory>
+    ensures { IfOk result (λ line. line.items ≡ link_line (hash_of a target.now) (length target.now) name.now) }
+{
+    let hash = hash_text(alloc, a, target.as_bytes())?;
+    let mut buffer = Buffer::new();
+    let mut line = Vec::from_slice(alloc, b"S ")?;
+    line.extend_from_slice(hash.as_str().as_bytes())?;
+    line.extend_from_slice(b" ")?;
+    line.extend_from_slice(buffer.format(target.len()).as_bytes())?;
+    line.extend_from_slice(b" ")?;
+    line.extend_from_slice(name.as_bytes())?;
+    line.extend_from_slice(b"\n")?;
+    Ok(line)
+}
+
+/// The line of the folder at this path.
+pub(crate) fn folder_line(alloc: Global, path: &str) -> Result<Vec<u8>, Memory>
+    ensures { IfOk result (λ line. line.items ≡ folder_line path.now) }
+{
+    let mut line = Vec::from_slice(alloc, b"D /")?;
+    line.extend_from_slice(path.as_bytes())?;
+    line.extend_from_slice(b"\n")?;
+    Ok(line)
+}
