@@ -4,11 +4,18 @@
 #![tactic(auto)]
 
 mod acceptance;
+mod cut;
+mod fault;
 pub mod laws;
+mod line;
 mod marks;
 mod proof;
+mod reader;
 pub mod steps;
+mod words;
 
 pub use acceptance::{check, check_block, follow};
+pub use fault::ProofFault;
 pub use marks::Marks;
 pub use proof::{Block, Certificate, Lemma, Proof};
+pub use reader::read;
