@@ -80,9 +80,10 @@ pub took_end : (bytes : List ℕ) (ms ms2 : List Lemma) (bs bs2 : List Block) (l
     → s ≡ step.End → Took text ms bs (Ok s) ms2 bs2 → (all_pieces 10 bytes ≡ front_lines ms2 bs2 ++ end_line ∷ left2) × PartsNumbered ms2 bs2 × (taken + 2 ≡ length (front_lines ms2 bs2) + 2)
 took_end bytes ms ms2 bs bs2 left left2 text taken s b e is t =
     let k = subst (λ x. TookOk text ms bs x ms2 bs2) is (took_ok text ms bs s ms2 bs2 t) in
-    let f : front_lines ms bs ≡ front_lines ms2 bs2 = ap₂ front_lines (sym k.1) (sym k.2) in
-    (b.cut ∙ ap (λ ls. front_lines ms bs ++ ls) e ∙ ap₂ (λ ls l. ls ++ l ∷ left2) f k.0,
-     subst (λ xs. PartsNumbered xs bs2) (sym k.1) (subst (PartsNumbered ms) (sym k.2) b.numbered),
-     omega (arith, b.count, ap length f))
+    let f : front_lines ms bs ≡ front_lines ms2 bs2 = ap₂ front_lines (sym k.1) (sym k.2) in (
+      b.cut ∙ ap (λ ls. front_lines ms bs ++ ls) e ∙ ap₂ (λ ls l. ls ++ l ∷ left2) f k.0,
+      subst (λ xs. PartsNumbered xs bs2) (sym k.1) (subst (PartsNumbered ms) (sym k.2) b.numbered),
+      omega (arith, b.count, ap length f),
+    )
 
 pub ruleset laws = (taken_few, body_starts)

@@ -17,10 +17,10 @@ use Rattle.zi_proof.specs.Reading.{lemma_of, block_of, Says, front_lines, PartsN
 use Rattle.zi_proof.proofs.NumberLaws.{lemma_told, lemma_read, block_told, block_read}
 use Rattle.zi_proof.proofs.FreeLaws.{text_of_pieces, text_of_lines, lemma_pieces, block_pieces, certificate_pieces}
 
-head_same : (x y : List ℕ) (xs ys : List (List ℕ)) → x ∷ xs ≡ y ∷ ys → x ≡ y
+pub head_same : (x y : List ℕ) (xs ys : List (List ℕ)) → x ∷ xs ≡ y ∷ ys → x ≡ y
 head_same x y xs ys e = cc
 
-tail_same : (x y : List ℕ) (xs ys : List (List ℕ)) → x ∷ xs ≡ y ∷ ys → xs ≡ ys
+pub tail_same : (x y : List ℕ) (xs ys : List (List ℕ)) → x ∷ xs ≡ y ∷ ys → xs ≡ ys
 tail_same x y xs ys e = cc
 
 first_same : (x y : ℕ) (xs ys : List ℕ) → x ∷ xs ≡ y ∷ ys → x ≡ y
@@ -32,7 +32,7 @@ not_block m b e = let k : ◌≡◌ {A = ℕ} 108 98 = first_same 108 98 (behind
 pub lemma_not_end : (m : Lemma) → lemma_line m ≡ end_line → ⊥
 lemma_not_end m e = let k : ◌≡◌ {A = ℕ} 108 101 = first_same 108 101 (behind 32 (lemma_words m)) [] e in absurd (omega arith)
 
-block_not_end : (b : Block) → block_line b ≡ end_line → ⊥
+pub block_not_end : (b : Block) → block_line b ≡ end_line → ⊥
 block_not_end b e = let k : ◌≡◌ {A = ℕ} 98 101 = first_same 98 101 (behind 32 (block_words b)) [] e in absurd (omega arith)
 
 -- a line by its words

@@ -4,7 +4,9 @@ use Rattle.zi_formula.specs.declared.formula.Lit.{Lit}
 use Rattle.zi_formula.specs.declared.formula.Formula.{Formula}
 use Rattle.zi_formula.specs.Truth.{Models, lit_true, all_true}
 use Rattle.zi_proof.specs.declared.proof.Lemma.{Lemma}
+use Rattle.zi_proof.specs.declared.proof.Certificate.{Certificate}
 use Rattle.zi_proof.specs.Accepted.{follows, accepted, lemma_clause}
+use Rattle.zi_proof.specs.ProofText.{Numbered, IsProofText, certificate_text}
 
 -- the assignment makes every literal of the list true
 abbrev pub MakesTrue : (ℕ → Bool) → List Lit → Type 0
@@ -20,3 +22,7 @@ LemmasAreTrue =
 abbrev pub BlocksExclude : Type 0
 BlocksExclude =
     (f : Formula) (ms : List Lemma) (assumed : List Lit) (hints : List ℕ) (v : ℕ → Bool) → follows f ms ≡ true → accepted f ms assumed hints ≡ true → Models v f → MakesTrue v assumed → ⊥
+
+-- A text is that of one certificate at most. (That a certificate has one text is what `certificate_text` says.)
+abbrev pub ATextHasOneCertificate : Type 0
+ATextHasOneCertificate = (bytes : List ℕ) (c d : Certificate) → IsProofText bytes c → IsProofText bytes d → c ≡ d

@@ -13,9 +13,14 @@ mod proof;
 mod reader;
 pub mod steps;
 mod words;
+mod writer;
 
 pub use acceptance::{check, check_block, follow};
 pub use fault::ProofFault;
 pub use marks::Marks;
 pub use proof::{Block, Certificate, Lemma, Proof};
 pub use reader::read;
+pub use writer::write;
+
+#[cfg(test)]
+mod tests;
