@@ -1,0 +1,12 @@
+pub mod TrailLaws
+pub mod GroupLaws
+pub mod FrameLaws
+pub mod MoveLaws
+pub mod CiteLaws
+pub mod EndLaws
+pub mod FreshStep
+pub mod FreshLaws
+pub mod EntryLaws
+pub mod CountLaws
+pub mod FewLaws
+pub mod LeastLaws
