@@ -4,9 +4,8 @@
 #![tactic(auto)]
 
 use std::alloc::Global;
-use std::env;
-use std::io;
 use std::process::ExitCode;
+use std::{env, io};
 use thiserror::Error;
 use zi_digest::Algorithm;
 use zi_manifest::digest;
@@ -37,6 +36,7 @@ impl From<InsertFault> for Fault {
 }
 
 /// How many folders a tree has, how many files each has, and how many bytes each file.
+#[derive(Clone, Copy)]
 struct Shape {
     folders: u32,
     files: u32,
