@@ -2,3 +2,4 @@ pub mod Sketch
 pub mod Manifest
 pub mod Walk
 pub mod Frames
+pub mod Listing

@@ -4,9 +4,12 @@
 #![tactic(auto)]
 
 mod frames;
+pub mod laws;
 mod lines;
+mod listing;
 mod writing;
 
+pub use listing::{Line, Listing};
 pub use writing::{ManifestOutFault, digest, write};
 
 #[cfg(test)]
