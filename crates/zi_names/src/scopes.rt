@@ -1,0 +1,71 @@
+ghost use Rattle.std.specs.Prelude.{◌≡◌, [], ◌∷◌, ◌<◌, drop, length, IfOk};
+ghost use Rattle.zi_names.specs.Names.{first_scope};
+ghost use Rattle.zi_names.specs.Scopes.{Enters};
+
+use crate::attributes::Raw;
+use crate::entered::{Entered, Started};
+use crate::repeats::has_repeated;
+use crate::scope::Scope;
+use crate::tags::{has_bad_prefix, started};
+use std::alloc::Global;
+use std::marker::Model;
+use zi_text::{List, Memory, Text};
+
+/// The scopes of the open elements (Namespaces in XML 1.0, 6.1). Contracts see them as a list: the innermost first, and
+/// behind that of the root the one in which `xml` alone is bound. Each is the list of its bindings, the newest first.
+#[derive(Drop)]
+pub struct Scopes {
+    scope: Scope,
+    // How many bindings each open element declares, the outermost first.
+    counts: Vec<usize>,
+}
+
+impl Model for Scopes {
+    ghost use Rattle.std.specs.Prelude.{List, reverse};
+    ghost use Rattle.zi_names.specs.declared.attributes.Binding.{Binding};
+    ghost use Rattle.zi_names.specs.Levels.{levels};
+
+    ghost Value = { List (List Binding) };
+
+    ghost view = { λ s. levels (reverse s.counts.items) s.scope };
+}
+
+impl Scopes {
+    /// The scope before the root. Memory is its one refusal.
+    pub fn new(alloc: Global) -> Result<Scopes, Memory>
+        ensures { IfOk result (λ s. s ≡ first_scope ∷ []) }
+    {
+        let scope = Scope::new(alloc)?;
+        Ok(Scopes {
+            scope,
+            counts: Vec::new(alloc),
+        })
+    }
+
+    /// Takes a start tag, of this name as it is written and with these attributes. Memory is its one refusal.
+    /// After anything but `Started` nothing is promised of the scopes.
+    pub fn enter(&mut self, alloc: Global, name: &Text, raw: List<Raw>) -> Result<Entered, Memory>
+        ensures { IfOk result (λ e. Enters name.now raw self.old self.new e) }
+    {
+        let count = self.scope.declare(alloc, raw.as_slice())?;
+        self.counts.push(count)?;
+        if has_bad_prefix(name.as_str(), raw.as_slice(), &self.scope) {
+            return Ok(Entered::BadPrefix);
+        }
+        if has_repeated(alloc, raw.as_slice(), &self.scope)? {
+            return Ok(Entered::Repeated);
+        }
+        let tag = started(alloc, name.as_str(), raw, &self.scope)?;
+        Ok(Entered::Started(tag))
+    }
+
+    /// Takes the end tag of the innermost element.
+    pub fn leave(&mut self)
+        requires { 1 < length self.old }
+        ensures { self.new ≡ drop 1 self.old }
+    {
+        if let Some(count) = self.counts.pop() {
+            self.scope.forget(count);
+        }
+    }
+}
