@@ -1,6 +1,6 @@
 -- Namespaces in XML 1.0 (Third Edition). Names, prefixes and addresses are lists of bytes in UTF-8.
-use Rattle.std.specs.Prelude.{ℕ, Bool, true, false, ◌||◌, ◌&&◌, ◌==◌, not, List, [], ◌∷◌, ◌++◌, Option, unwrap_or, if◌then◌else◌, codes, map, filter, find, reverse, is_none}
-use Rattle.std.specs.List.{list_any, before_first, after_first}
+use Rattle.std.specs.Prelude.{ℕ, Bool, true, false, ◌||◌, ◌&&◌, ◌==◌, not, List, [], ◌∷◌, ◌++◌, Option, unwrap_or, if◌then◌else◌, codes, nat_eq, map, filter, find, reverse, is_none}
+use Rattle.std.specs.List.{list_any, before_first, after_first, starts_with}
 use Rattle.std.specs.Option.{option_map}
 use Rattle.std.specs.Str.{bytes_eq}
 use Rattle.zi_elements.specs.declared.element.Attr.{Attr}
@@ -36,9 +36,9 @@ xml_address = codes "http://www.w3.org/XML/1998/namespace"
 abbrev pub xmlns_address : List ℕ
 xmlns_address = codes "http://www.w3.org/2000/xmlns/"
 
--- 3 [1] to [3]: an attribute that is named `xmlns`, or has the prefix `xmlns`, is a declaration
+-- 3 [1] to [3]: an attribute whose name is `xmlns`, or begins with `xmlns:`, is a declaration
 unfoldable pub is_declaration : Raw → Bool
-is_declaration a = bytes_eq a.name (codes "xmlns") || bytes_eq (prefix a.name) (codes "xmlns")
+is_declaration a = bytes_eq a.name (codes "xmlns") || starts_with nat_eq a.name (codes "xmlns:")
 
 -- 3: what a declaration binds, the empty prefix being the default namespace
 unfoldable pub binding_of : Raw → Binding

@@ -15,3 +15,6 @@ mod tags;
 pub use attributes::{Binding, Raw};
 pub use entered::{Entered, Started};
 pub use scopes::Scopes;
+
+#[cfg(test)]
+mod tests;

@@ -41,7 +41,7 @@ pub fn is_declaration(attribute: &Raw) -> bool
     ensures { result ≡ is_declaration attribute.now }
 {
     let name = attribute.name.as_str();
-    name == "xmlns" || split(name).0 == "xmlns"
+    name == "xmlns" || name.as_bytes().starts_with(b"xmlns:".as_slice())
 }
 
 /// The prefix that a declaration declares, empty for the default namespace (Namespaces in XML 1.0, 3).
