@@ -1,5 +1,5 @@
 -- The scopes of the open elements as start tags come.
-use Rattle.std.proofs.Common.{◌≡◌, ℕ, List, [], ◌∷◌, ◌++◌, length, drop, reverse, refl, sym, ap, ◌∙◌}
+use Rattle.std.proofs.Common.{◌≡◌, ℕ, ◌<◌, arith, List, [], ◌∷◌, ◌++◌, length, drop, reverse, refl, sym, ap, ◌∙◌}
 use Rattle.std.proofs.lemmas.List.{reverse-append, length-reverse, drop_at}
 use Rattle.zi_names.specs.declared.attributes.Raw.{Raw}
 use Rattle.zi_names.specs.declared.attributes.Binding.{Binding}
@@ -21,3 +21,7 @@ pub levels_more : (counts more : List ℕ) (n : ℕ) (ws : List Raw) (scope insi
 levels_more counts more n ws scope inside e count at =
     ap (λ ms. levels ms inside) (ap reverse e ∙ reverse-append counts (n ∷ []))
     ∙ ap (λ s. inside ∷ levels (reverse counts) s) (ap (drop n) at ∙ outer_scope ws scope n count)
+
+pub levels_some : (ns : List ℕ) (scope : List Binding) → 0 < length (levels ns scope)
+levels_some [] scope = omega arith
+levels_some (n ∷ ns) scope = omega arith

@@ -1,5 +1,5 @@
 -- The index of the newest bindings, as bindings come and go.
-use Rattle.std.proofs.Common.{◌≡◌, ℕ, ◌+◌, ◌<◌, Bool, true, false, cond, Option, Some, None, List, [], ◌∷◌, ◌++◌, length, get_or, reverse, refl, sym, ap, ◌∙◌, subst, arith, rules}
+use Rattle.std.proofs.Common.{◌≡◌, ℕ, ◌<◌, true, false, cond, Option, Some, None, List, [], ◌∷◌, ◌++◌, length, get_or, reverse, refl, sym, ap, ◌∙◌, subst, arith, rules}
 use Rattle.std.specs.Prelude.{find}
 use Rattle.std.specs.Str.{bytes_eq}
 use Rattle.std.specs.BTreeMap.{BTreeMap, get_by_text}
@@ -7,10 +7,10 @@ use Rattle.std.specs.declared.alloc.Global.{Global}
 use Rattle.std.specs.declared.string.String.{String}
 use Rattle.std.proofs.lemmas.Bool.Decides.{nat_tests}
 use Rattle.std.proofs.lemmas.Slice.Eq.{bytes_eq-Decides}
-use Rattle.std.proofs.lemmas.List.{reverse-append, reverse-reverse, length-reverse, get_or_append_left, get_or_at}
+use Rattle.std.proofs.lemmas.List.{reverse-append, length-reverse, get_or_append_left, get_or_at}
 use Rattle.zi_names.specs.declared.attributes.Binding.{Binding}
 use Rattle.zi_names.specs.declared.bound.Bound.{Bound}
-use Rattle.zi_names.specs.Places.{bindings_of, place, IsLinked, IsIndexed}
+use Rattle.zi_names.specs.Places.{bindings_of, place, IsIndexed}
 
 pub place_in : (bs : List Bound) (p : List ℕ) (i : ℕ) → place bs p ≡ Some i → i < length bs
 place_in [] p i h = cc

@@ -1,5 +1,5 @@
 -- What start tags mean in the scopes of the open elements (Namespaces in XML 1.0, 6).
-use Rattle.std.specs.Prelude.{◌≡◌, ℕ, Bool, true, false, List, [], ◌∷◌}
+use Rattle.std.specs.Prelude.{◌≡◌, ℕ, true, false, List, [], ◌∷◌}
 use Rattle.zi_names.specs.declared.attributes.Raw.{Raw}
 use Rattle.zi_names.specs.declared.attributes.Binding.{Binding}
 use Rattle.zi_names.specs.declared.entered.Started.{Started as Tag}

@@ -59,10 +59,10 @@ impl Scopes {
         Ok(Entered::Started(tag))
     }
 
-    /// Takes the end tag of the innermost element.
+    /// Takes the end tag of the innermost element. Where none is open, nothing changes.
     pub fn leave(&mut self)
-        requires { 1 < length self.old }
-        ensures { self.new ≡ drop 1 self.old }
+        ensures inner { 1 < length self.old → self.new ≡ drop 1 self.old }
+        ensures none { length self.old ≡ 1 → self.new ≡ self.old }
     {
         if let Some(count) = self.counts.pop() {
             self.scope.forget(count);

@@ -1,4 +1,4 @@
-use Rattle.std.proofs.Common.{◌≡◌, ◌+◌, ℕ, List, Bool, take, drop, suc, cond, ◌||◌, ◌&&◌, true, false, Bor, ap, sym, ◌∙◌, ◌∷◌, [], ◌++◌}
+use Rattle.std.proofs.Common.{◌≡◌, ◌+◌, List, Bool, take, drop, suc, cond, ◌||◌, ◌&&◌, true, false, ap, sym, ◌∙◌, ◌∷◌, [], ◌++◌}
 use Rattle.std.specs.Prelude.{filter}
 use Rattle.std.specs.BTreeSet as tree
 use Rattle.std.specs.List.{list_any}

@@ -1,4 +1,4 @@
-use Rattle.std.proofs.Common.{◌≡◌, ◌+◌, ℕ, List, Bool, take, drop, suc, not, cond, ◌||◌, true, false, Bor, ap, sym, ◌∙◌, refl, ◌∷◌, [], ◌++◌, drop-cons}
+use Rattle.std.proofs.Common.{◌≡◌, ◌+◌, ℕ, List, Bool, take, drop, suc, cond, ◌||◌, true, false, Bor, ap, sym, ◌∙◌, ◌∷◌, [], ◌++◌, drop-cons}
 use Rattle.std.specs.Ordering.{nat_cmp}
 use Rattle.std.specs.Cmp.Lexicographic.{slice_cmp}
 use Rattle.std.specs.BTreeSet as tree

@@ -1,4 +1,4 @@
-use Rattle.std.proofs.Common.{◌≡◌, ◌+◌, ◌≤◌, ℕ, List, ◌∷◌, [], ◌++◌, length, take, get_or, sym, ap, ◌∙◌, subst, arith, true, false}
+use Rattle.std.proofs.Common.{◌≡◌, ◌+◌, ℕ, List, ◌∷◌, [], ◌++◌, length, take, sym, ap, ◌∙◌, arith, true, false}
 use Rattle.std.proofs.lemmas.List.{take_more, length-take}
 use Rattle.zi_names.specs.declared.attributes.Raw.{Raw}
 use Rattle.zi_names.specs.declared.attributes.Binding.{Binding}

@@ -1,8 +1,7 @@
-use Rattle.std.proofs.Common.{◌≡◌, ℕ, true, cond, List, ◌∷◌, [], ◌++◌, Option, None, Some, IsSome, is_some, length, reverse, sym, ap, ◌∙◌, subst, refl}
+use Rattle.std.proofs.Common.{◌≡◌, cond, ◌∷◌, [], Some, is_some, length, reverse, ap, ◌∙◌, subst}
 use Rattle.std.proofs.lemmas.List.{reverse-append}
 use Rattle.std.specs.Str.{bytes_eq}
 use Rattle.std.specs.BTreeMap.{get_by_text}
-use Rattle.zi_names.specs.declared.bound.Bound.{Bound}
 use Rattle.zi_names.specs.Places.{place, IsIndexed}
 use Rattle.zi_names.proofs.PlacesLemmas.{bytes_itself, indexed_less}
 use Rattle.zi_names.proofs.scope.Scope.pop.Goals as goal

@@ -1,4 +1,4 @@
-use Rattle.std.proofs.Common.{◌≡◌, ℕ, true, false, cond, List, ◌∷◌, [], ◌++◌, Option, Some, Result, Ok, Err, is_err, OnOk, length, reverse, sym, ap, ◌∙◌, subst, refl, string_bytes}
+use Rattle.std.proofs.Common.{◌≡◌, false, cond, ◌∷◌, [], Some, Result, Ok, Err, is_err, OnOk, length, reverse, sym, ap, ◌∙◌, subst, string_bytes}
 use Rattle.std.proofs.lemmas.List.{reverse-append, length-reverse}
 use Rattle.std.proofs.lemmas.Map.Text.{btree_map_updates_text}
 use Rattle.std.specs.BTreeMap.{get_by_text}

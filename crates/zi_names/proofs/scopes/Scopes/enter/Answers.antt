@@ -1,6 +1,4 @@
-use Rattle.std.proofs.Common.{◌≡◌, List, ◌∷◌, false, true, length, reverse, sym, ap, ◌∙◌, subst}
-use Rattle.zi_names.specs.declared.attributes.Raw.{Raw}
-use Rattle.zi_names.specs.declared.attributes.Binding.{Binding}
+use Rattle.std.proofs.Common.{◌≡◌, ◌∷◌, length, reverse, sym, ap, ◌∙◌, subst}
 use Rattle.zi_names.specs.Names.{declared, scope_in, has_bad_prefix, has_repeated}
 use Rattle.zi_names.specs.Levels.{levels}
 use Rattle.zi_names.specs.Scopes.{innermost, Resolves}
