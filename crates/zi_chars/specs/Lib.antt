@@ -1,0 +1,5 @@
+pub mod Places
+pub mod Answers
+pub mod Lift
+pub mod Longest
+pub mod Unique

@@ -1,0 +1,9 @@
+pub mod CharLemmas
+pub mod Order
+pub mod Forward
+pub mod ForwardDocuments
+pub mod Fronts
+pub mod Nearest
+pub mod Follows
+pub mod Backward
+pub mod Law
