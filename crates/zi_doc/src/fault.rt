@@ -1,6 +1,7 @@
 ghost use Rattle.std.specs.Prelude.{◌≡◌};
 ghost use Rattle.zi_doc.specs.Kinds.{number_of};
 
+use std::alloc::{AllocError, AllocFailed};
 use zi_text::Memory;
 
 /// The kinds of faults of a document. Where two faults end at the same byte, the one of the least number is answered.
@@ -58,6 +59,28 @@ impl From<Memory> for DocFault {
     ghost from_gives = { λ _ e. e ≡ Lacking };
 
     fn from(_: Memory) -> DocFault {
+        DocFault::Memory
+    }
+}
+
+impl From<AllocError> for DocFault {
+    ghost use Rattle.std.specs.Prelude.{◌≡◌};
+    ghost use Rattle.zi_doc.specs.declared.fault.DocFault.TheVariants.{Memory as Lacking};
+
+    ghost from_gives = { λ _ e. e ≡ Lacking };
+
+    fn from(_: AllocError) -> DocFault {
+        DocFault::Memory
+    }
+}
+
+impl<T: Drop> From<AllocFailed<T>> for DocFault {
+    ghost use Rattle.std.specs.Prelude.{◌≡◌};
+    ghost use Rattle.zi_doc.specs.declared.fault.DocFault.TheVariants.{Memory as Lacking};
+
+    ghost from_gives = { λ _ e. e ≡ Lacking };
+
+    fn from(_: AllocFailed<T>) -> DocFault {
         DocFault::Memory
     }
 }

@@ -3,7 +3,19 @@
 //! A fault has its kind, with a number, and its place in bytes.
 #![tactic(auto)]
 
+mod chars;
+mod content;
+mod declaration;
 mod fault;
+mod laws;
+mod markup;
+mod reader;
+mod references;
+mod state;
+mod tags;
+mod texts;
 
 pub use fault::{DocFault, DocKind};
+pub use laws::one_answer;
+pub use reader::read;
 pub use zi_elements::{Attr, Element, Node};

@@ -92,6 +92,16 @@ abbrev pub scope_of : List Frame → List Binding
 scope_of [] = first_scope
 scope_of (f ∷ fs) = f.scope
 
+-- whether there is any
+abbrev pub has : List Frame → Bool
+has [] = false
+has (f ∷ fs) = true
+
+-- the name of the innermost
+abbrev pub top_name : List Frame → List ℕ
+top_name [] = []
+top_name (f ∷ fs) = f.name
+
 abbrev pub new_tag : Level → ℕ → Tag
 new_tag o c = record { name = c ∷ []; raw = []; outer = o }
 
@@ -165,8 +175,7 @@ enter fs o l c = to (naming fs (new_tag o c)) (blame_if (nat_le 65 (suc (length 
 -- what may stand behind `<!` but a comment
 abbrev pub bang_word : Spot → ℕ → Level → ℕ → Option State
 bang_word (before b) p l c = if c == 68 then to (wording (doctype_word p) 79 (codes "CTYPE")) (tick c l) else None
-bang_word (among []) p l c = None
-bang_word (among (f ∷ fs)) p l c = if c == 91 then to (wording (section_word (f ∷ fs)) 67 (codes "DATA[")) (tick c l) else None
+bang_word (among fs) p l c = if has fs then (if c == 91 then to (wording (section_word fs) 67 (codes "DATA[")) (tick c l) else None) else None
 
 abbrev pub is_xml : List ℕ → Bool
 is_xml n = same_letters n (codes "xml")
@@ -213,11 +222,9 @@ abbrev pub go : Doing → Level → ℕ → Option State
 go begun l c = if c == 65279 then to (front true) (tick c l) else front_step true l c
 go (front b) l c = front_step b l c
 go (opened (before b) o) l c = if is_first c then enter [] o l c else markup (before b) o l c
-go (opened (among []) o) l c = markup (among []) o l c
-go (opened (among (f ∷ fs)) o) l c =
-    if is_first c then enter (f ∷ fs) o l c
-    else if c == 47 then to (closing (f ∷ fs) f.name) (tick c l)
-    else markup (among (f ∷ fs)) o l c
+go (opened (among fs) o) l c =
+    if has fs then (if is_first c then enter fs o l c else if c == 47 then to (closing fs (top_name fs)) (tick c l) else markup (among fs) o l c)
+    else markup (among fs) o l c
 go (banged s p) l c = if c == 45 then to (wording (comment_word s) 45 []) (tick c l) else bang_word s p l c
 go (commenting s) l c = if c == 45 then to (halting s) (tick c l) else if is_char c then to (commenting s) (tick c l) else None
 go (halting s) l c = if c == 45 then to (over s) (tick c l) else if is_char c then to (commenting s) (tick c l) else None
@@ -293,11 +300,15 @@ go (hexing h p n) l c =
     if is_hex c then to (hexing h p (grown 16 n (hex_value c))) (tick c l)
     else if c == 59 then Some (refer h (carried n) p (tick c l))
     else None
-go (inside [] n) l c = if is_white c then to (inside [] 0) (tick c l) else if c == 60 then to (opened (among []) l) (tick c l) else None
-go (inside (f ∷ fs) n) l c =
-    if is_said n c then to (inside (f ∷ fs) (brackets n c)) (heard c l)
-    else if c == 60 then to (opened (among (f ∷ fs)) l) (tick c l)
-    else if c == 38 then to (amped (in_text (f ∷ fs)) l.at) (tick c l)
+go (inside fs n) l c =
+    if has fs
+    then
+      (if is_said n c then to (inside fs (brackets n c)) (heard c l)
+        else if c == 60 then to (opened (among fs) l) (tick c l)
+        else if c == 38 then to (amped (in_text fs) l.at) (tick c l)
+        else None)
+    else if is_white c then to (inside fs 0) (tick c l)
+    else if c == 60 then to (opened (among fs) l) (tick c l)
     else None
 go (closing fs []) l c = if c == 62 then Some (closed fs (tick c l)) else if is_white c then to (closing fs []) (tick c l) else None
 go (closing fs (x ∷ left)) l c = if c == x then to (closing fs left) (tick c l) else None
@@ -340,8 +351,7 @@ abbrev pub kin : Doing → List ℕ
 kin begun = encode_utf8 65279
 kin (front b) = []
 kin (opened (before b) o) = encode_utf8 65533
-kin (opened (among []) o) = []
-kin (opened (among (f ∷ fs)) o) = encode_utf8 65533
+kin (opened (among fs) o) = if has fs then encode_utf8 65533 else []
 kin (banged s p) = []
 kin (commenting s) = encode_utf8 65533
 kin (halting s) = encode_utf8 65533
@@ -374,8 +384,7 @@ kin (hashed h p) = []
 kin (counting h p n) = []
 kin (hexed h p) = []
 kin (hexing h p n) = []
-kin (inside [] n) = []
-kin (inside (f ∷ fs) n) = encode_utf8 65533
+kin (inside fs n) = if has fs then encode_utf8 65533 else []
 kin (closing fs []) = []
 kin (closing fs (x ∷ left)) = encode_utf8 x
 

@@ -1,0 +1,5 @@
+pub mod TextLemmas
+pub mod Stacks
+pub mod Turns
+pub mod Roots
+pub mod Law
