@@ -1,7 +1,7 @@
 -- From characters to bytes: how far bytes can go on as a document, when it is known of characters.
-use Rattle.std.proofs.Common.{◌≡◌, ℕ, suc, ◌+◌, ◌<◌, ◌≤◌, List, [], ◌∷◌, ◌++◌, length, take, drop, refl, sym, ap, ◌∙◌, subst, append_assoc, arith, ◌⊎◌, inl, inr}
+use Rattle.std.proofs.Common.{◌≡◌, ℕ, suc, ◌<◌, ◌≤◌, List, [], ◌∷◌, ◌++◌, length, take, drop, refl, sym, ap, ◌∙◌, subst, append_assoc, arith}
 use Rattle.std.proofs.lemmas.Str.{encode_same, cons_from_encodes, encodes-append, encode_ascii}
-use Rattle.std.proofs.lemmas.List.{take-append-drop, length-take-le, take-append-le, length-append, take_all}
+use Rattle.std.proofs.lemmas.List.{take-append-drop, length-take-le, length-append, take_all}
 use Rattle.std.proofs.Math.Seq.{take-append_seam}
 use Rattle.std.proofs.Math.Utf8.{encode, encodes}
 

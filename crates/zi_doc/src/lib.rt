@@ -19,3 +19,6 @@ pub use fault::{DocFault, DocKind};
 pub use laws::one_answer;
 pub use reader::read;
 pub use zi_elements::{Attr, Element, Node};
+
+#[cfg(test)]
+mod tests;

@@ -1,21 +1,19 @@
 -- What the reader reads to its end is written as a parse tree.
-use Rattle.std.proofs.Common.{◌≡◌, ℕ, suc, zero, ◌+◌, ◌*◌, ◌<◌, ◌==◌, ◌&&◌, Bool, true, false, List, [], ◌∷◌, ◌++◌, Option, Some, None, cond, length, refl, sym, ap, ◌∙◌, subst, append_assoc, arith, ◌⊎◌, inl, inr}
+use Rattle.std.proofs.Common.{◌≡◌, ℕ, ◌+◌, ◌*◌, ◌==◌, ◌&&◌, Bool, true, false, List, [], ◌∷◌, ◌++◌, Option, Some, None, cond, refl, sym, ap, ◌∙◌, subst, append_assoc, arith, ◌⊎◌, inl, inr}
 use Rattle.std.proofs.Math.Utf8.{encode}
 use Rattle.std.proofs.lemmas.Str.{encodes_same}
 use Rattle.std.proofs.lemmas.Bool.Decides.{nat_tests}
 use Rattle.zi_xml.proofs.CharLemmas.{append_none, passed_append, is_code, white_char, white_not_ask, held, carried_held, ten_held, sixteen_held}
-use Rattle.zi_xml.proofs.Forward.{then_run, run, written_levels, tag_with, Wait, none, one, two, count, more, await, awaited, wait_on, bracket_heard}
+use Rattle.zi_xml.proofs.Forward.{then_run, run, written_levels, tag_with, Wait, none, one, two, count, await, bracket_heard}
 use Rattle.zi_xml.proofs.ForwardDocuments.{declaration_flat}
-use Rattle.zi_xml.proofs.Follows.{Tail, Rest, Front, First, Fronted, Marked, At, close_of, Goes, Ends, Closes, Values, Over, Headed, Quoted, Equals, Named, Attribute, Chosen, Heading, Declaring, Numbered, Numbering, Coded, Commented, Halted, Instructed, Answering, Xml, Targeted, Asked, Sections, Bracketed, Twice, Special, Banged, Marks, Begins, Shut, Closing, Opens, Refers, counted, hex_counted, Referring, Counting, Hexing, Hexed, Hashed, Amped, Words, Follows, Then}
+use Rattle.zi_xml.proofs.Follows.{Tail, Rest, Front, First, Fronted, Marked, At, close_of, Goes, Ends, Closes, Values, Over, Headed, Quoted, Equals, Named, Attribute, Chosen, Heading, Declaring, Numbered, Coded, Commented, Halted, Instructed, Answering, Xml, Targeted, Asked, Sections, Bracketed, Twice, Special, Banged, Marks, Begins, Shut, Closing, Opens, Refers, counted, hex_counted, Referring, Counting, Hexing, Hexed, Hashed, Amped, Words, Follows, Then}
 use Rattle.std.specs.Str.{bytes_eq}
-use Rattle.std.specs.Prelude.{codes, not, nat_le, encode_utf8, encode_utf8_all, min}
-use Rattle.zi_elements.specs.declared.element.Node.{Node}
+use Rattle.std.specs.Prelude.{codes, not, encode_utf8, encode_utf8_all}
 use Rattle.zi_names.specs.declared.attributes.Raw.{Raw}
-use Rattle.zi_names.specs.Names.{first_scope}
-use Rattle.zi_xml.specs.Chars.{width, is_white, is_first, is_name, is_char, is_plain, is_quote, is_valued, is_digit, is_hex, is_encoding_first, is_encoding, digit_value, hex_value, decimal_from, hex_from, entity, same_letters}
-use Rattle.zi_xml.specs.Syntax.{Bit, letter, entity_of, decimal, hexadecimal, Written, Content, stop, bit, section, comment, instruction, void, pair, bit_text, bits_text, written_text, all_text, tag_rest, end_tag, section_text, comment_text, instruction_text, text, AllAre, IsName, SomeAre, IsBit, AreBits, IsWritten, AreWritten, brackets, is_unclosed, Unclosed, IsSection, Undashed, IsComment, Unanswered, IsApart, IsInstruction, is_said, brackets_after, IsContentAfter, Misc, white, remark, order, misc_text, miscs_text, IsMisc, AreMisc, Key, version_key, encoding_key, standalone_key, key_text, Setting, setting_front, setting_text, IsSet, IsSetting, optional_text, IsOptional, Declaration, declaration_text, IsDeclaration, Root, alone, whole, doctype, root_text, IsRoot, Document, mark_text, declared_text, document_text, IsDeclared, IsDocument}
-use Rattle.zi_xml.specs.Meaning.{Level, Fault, Kind, encoding_kind, doctype_kind, entity_kind, prefix_kind, repeated_kind, depth_kind, tick, passed, add, blame, blame_if, line_end, value_end, heard, heard_all, carried, target, is_lacking, resolved, meant, bit_told, bit_passed, bits_passed, is_return, in_value, value_of, written_passed, all_passed, raw_of, Tag, tag_of, Frame, framed, judged, fresh, adopt, element_of, named_on, tag_passed, told, root_told, set, setting_told, optional_told, declaration_told, declared_told, start, document_told}
-use Rattle.zi_xml.specs.Machine.{Spot, before, among, Host, in_text, in_value as to_value, Owner, of_attr, of_key, Word, doctype_word, section_word, comment_word, over_word, key_word, version_word, reply_word, declared_word, void_word, Doing, begun, front, opened, banged, commenting, halting, asked, targeting, instructing, asking, wording, sectioning, bracketed, twice, declaring, heading, headed, numbering, numbered, coding, coded, replying, named, equalled, naming, spaced, attr_naming, valuing, valued, amped, referring, hashed, counting, hexed, hexing, inside, closing, State, state, to, go, step, at_of, found_of, initial, second, others, keyed, choose, quoted, emptied, after_word, worded, markup, enter, bang_word, is_xml, declare, leave, leave_name, refer, grown, closed, front_step, declared_end, over, scope_of, back_to, new_tag, named_more, with_attribute, done, finish, first_state}
+use Rattle.zi_xml.specs.Chars.{is_white, is_first, is_name, is_char, is_quote, is_valued, is_digit, is_hex, is_encoding_first, is_encoding, digit_value, hex_value, decimal_from, hex_from, entity, same_letters}
+use Rattle.zi_xml.specs.Syntax.{Bit, letter, entity_of, decimal, hexadecimal, Written, stop, bit, section, comment, instruction, void, pair, bit_text, bits_text, all_text, tag_rest, end_tag, section_text, comment_text, instruction_text, text, AllAre, IsBit, IsWritten, brackets, is_unclosed, Unclosed, IsSection, IsComment, Unanswered, IsInstruction, is_said, brackets_after, Misc, white, remark, order, misc_text, miscs_text, IsMisc, Key, version_key, encoding_key, standalone_key, key_text, Setting, setting_text, IsSetting, optional_text, IsOptional, declaration_text, alone, whole, doctype, root_text}
+use Rattle.zi_xml.specs.Meaning.{Level, encoding_kind, doctype_kind, tick, passed, add, blame, blame_if, heard, heard_all, carried, bit_told, bit_passed, bits_passed, is_return, in_value, value_of, all_passed, raw_of, Tag, Frame, root_told, set, setting_told, optional_told}
+use Rattle.zi_xml.specs.Machine.{Spot, before, among, Host, in_text, in_value as to_value, Owner, of_attr, of_key, Word, doctype_word, section_word, comment_word, over_word, key_word, version_word, reply_word, declared_word, void_word, Doing, begun, front, opened, banged, commenting, halting, asked, targeting, instructing, asking, wording, sectioning, bracketed, twice, declaring, heading, headed, numbering, numbered, coding, coded, replying, named, equalled, naming, spaced, attr_naming, valuing, valued, amped, referring, hashed, counting, hexed, hexing, inside, closing, State, to, go, step, initial, second, others, keyed, choose, quoted, after_word, markup, enter, bang_word, is_xml, declare, leave, leave_name, refer, closed, front_step, declared_end, back_to, with_attribute, done}
 
 -- by the outcome of a test
 test : {Q : Type 0} (b : Bool) (x y : Option State) (w : List ℕ) (r : Level)

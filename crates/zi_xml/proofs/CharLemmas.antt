@@ -1,7 +1,7 @@
 -- Kinds of characters that exclude each other, and small laws on lists and levels.
-use Rattle.std.proofs.Common.{◌≡◌, ℕ, suc, ◌+◌, ◌*◌, ◌<◌, ◌≤◌, ◌==◌, Bool, true, false, List, [], ◌∷◌, ◌++◌, Option, Some, None, cond, length, refl, sym, ap, ◌∙◌, subst, append_assoc, arith, eq-eqb, min}
+use Rattle.std.proofs.Common.{◌≡◌, ℕ, ◌+◌, ◌*◌, ◌==◌, true, false, List, [], ◌∷◌, ◌++◌, refl, ap, arith, eq-eqb, min}
 use Rattle.std.proofs.lemmas.Bool.Decides.{nat_tests}
-use Rattle.zi_xml.specs.Chars.{is_white, is_first, is_name, is_char, is_plain, is_quote, is_valued, is_digit, is_hex, is_encoding_first, is_encoding}
+use Rattle.zi_xml.specs.Chars.{is_white, is_first, is_name, is_char, is_plain, is_quote, is_valued, is_digit, is_encoding}
 use Rattle.zi_xml.specs.Meaning.{Level, tick, passed, carried}
 
 pub append_none : {A : Type 0} (xs : List A) → xs ++ [] ≡ xs

@@ -1,29 +1,23 @@
 -- The reader's answer is right.
-use Rattle.std.proofs.Common.{◌≡◌, ℕ, suc, zero, ◌+◌, List, [], ◌∷◌, ◌++◌, Option, Some, None, length, refl, sym, ap, ◌∙◌, subst, ◌⊎◌, inl, inr}
-use Rattle.std.proofs.Math.Utf8.{encode, encodes, scalar, scalars}
+use Rattle.std.proofs.Common.{◌≡◌, ℕ, suc, zero, List, [], ◌∷◌, ◌++◌, Option, Some, None, refl, sym, ap, ◌∙◌, subst, inl, inr}
+use Rattle.std.proofs.Math.Utf8.{scalar, scalars}
 use Rattle.std.specs.Prelude.{true}
 use Rattle.std.proofs.lemmas.Str.{encodes_same}
 use Rattle.zi_chars.specs.Longest as longest
-use Rattle.zi_chars.specs.Answers as machines
-use Rattle.zi_xml.specs.Documents.{SaysChars, Says, Shows, Stops, faults_of, end_of}
+use Rattle.zi_xml.specs.Documents.{SaysChars, end_of}
 use Rattle.zi_xml.specs.Right.{Right, IsRight, IsOne}
-use Rattle.zi_xml.specs.Machine.{shared, kin, common, answer, Answer, finish_in}
-use Rattle.zi_xml.proofs.Forward.{then_run, run}
+use Rattle.zi_xml.specs.Machine.{shared, answer, Answer, finish_in}
+use Rattle.zi_xml.proofs.Forward.{run}
 use Rattle.zi_xml.proofs.ForwardDocuments.{run_document}
 use Rattle.zi_xml.proofs.Order.{Grown, Later, go_grows, AreAt}
 use Rattle.zi_xml.proofs.Fronts.{way_out, reads_out, read_out}
 use Rattle.zi_xml.proofs.Nearest.{Refuses, refuses}
 use Rattle.zi_xml.proofs.Follows.{Marked}
 use Rattle.zi_xml.proofs.Backward.{sound}
-use Rattle.std.specs.Str.{bytes_eq}
-use Rattle.std.specs.Prelude.{codes, not, nat_le, encode_utf8, encode_utf8_all, min}
-use Rattle.zi_elements.specs.declared.element.Node.{Node}
-use Rattle.zi_names.specs.declared.attributes.Raw.{Raw}
-use Rattle.zi_names.specs.Names.{first_scope}
-use Rattle.zi_xml.specs.Chars.{width, is_white, is_first, is_name, is_char, is_plain, is_quote, is_valued, is_digit, is_hex, is_encoding_first, is_encoding, digit_value, hex_value, decimal_from, hex_from, entity, same_letters}
-use Rattle.zi_xml.specs.Syntax.{Bit, letter, entity_of, decimal, hexadecimal, Written, Content, stop, bit, section, comment, instruction, void, pair, bit_text, bits_text, written_text, all_text, tag_rest, end_tag, section_text, comment_text, instruction_text, text, AllAre, IsName, SomeAre, IsBit, AreBits, IsWritten, AreWritten, brackets, is_unclosed, Unclosed, IsSection, Undashed, IsComment, Unanswered, IsApart, IsInstruction, is_said, brackets_after, IsContentAfter, Misc, white, remark, order, misc_text, miscs_text, IsMisc, AreMisc, Key, version_key, encoding_key, standalone_key, key_text, Setting, setting_front, setting_text, IsSet, IsSetting, optional_text, IsOptional, Declaration, declaration_text, IsDeclaration, Root, alone, whole, doctype, root_text, IsRoot, Document, mark_text, declared_text, document_text, IsDeclared, IsDocument}
-use Rattle.zi_xml.specs.Meaning.{Level, Fault, Kind, encoding_kind, doctype_kind, entity_kind, prefix_kind, repeated_kind, depth_kind, tick, passed, add, blame, blame_if, line_end, value_end, heard, heard_all, carried, target, is_lacking, resolved, meant, bit_told, bit_passed, bits_passed, is_return, in_value, value_of, written_passed, all_passed, raw_of, Tag, tag_of, Frame, framed, judged, fresh, adopt, element_of, named_on, tag_passed, told, root_told, set, setting_told, optional_told, declaration_told, declared_told, start, document_told}
-use Rattle.zi_xml.specs.Machine.{Spot, before, among, Host, in_text, in_value as to_value, Owner, of_attr, of_key, Word, doctype_word, section_word, comment_word, over_word, key_word, version_word, reply_word, declared_word, void_word, Doing, begun, front, opened, banged, commenting, halting, asked, targeting, instructing, asking, wording, sectioning, bracketed, twice, declaring, heading, headed, numbering, numbered, coding, coded, replying, named, equalled, naming, spaced, attr_naming, valuing, valued, amped, referring, hashed, counting, hexed, hexing, inside, closing, State, state, to, go, step, at_of, found_of, initial, second, others, keyed, choose, quoted, emptied, after_word, worded, markup, enter, bang_word, is_xml, declare, leave, leave_name, refer, grown, closed, front_step, declared_end, over, scope_of, back_to, new_tag, named_more, with_attribute, done, finish, first_state}
+use Rattle.zi_xml.specs.Chars.{width}
+use Rattle.zi_xml.specs.Syntax.{mark_text, declared_text}
+use Rattle.zi_xml.specs.Meaning.{Level, Fault, start}
+use Rattle.zi_xml.specs.Machine.{Doing, inside, State, state, step, at_of, found_of, done, finish, first_state}
 
 grown_is : (l : Level) (n : ℕ) (o : Option State) (t : State) → Grown l n o → o ≡ Some t → Later l n t.level
 grown_is l n None t h e = cc

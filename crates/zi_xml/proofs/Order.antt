@@ -1,12 +1,11 @@
 -- A character takes the place on by its bytes, and each fault that it shows ends there.
-use Rattle.std.proofs.Common.{◌≡◌, ℕ, suc, ◌+◌, ◌==◌, Bool, true, false, List, [], ◌∷◌, ◌++◌, Option, Some, None, cond, length, refl, sym, ap, ◌∙◌, subst, append_assoc, inl}
+use Rattle.std.proofs.Common.{◌≡◌, ℕ, ◌+◌, ◌==◌, Bool, true, false, List, [], ◌∷◌, ◌++◌, Option, Some, None, cond, refl, sym, ap, ◌∙◌, append_assoc}
 use Rattle.std.specs.Str.{bytes_eq}
-use Rattle.std.specs.Prelude.{codes, not, nat_le}
-use Rattle.zi_xml.specs.Chars.{width, is_white, is_first, is_name, is_char, is_quote, is_valued, is_digit, is_hex, is_encoding_first, is_encoding, entity, same_letters}
+use Rattle.std.specs.Prelude.{codes}
+use Rattle.zi_xml.specs.Chars.{width, is_white, is_first, is_name, is_char, is_quote, is_valued, is_digit, is_hex, is_encoding_first, is_encoding, entity}
 use Rattle.zi_xml.specs.Syntax.{Key, is_said}
-use Rattle.zi_xml.specs.Meaning.{Level, Fault, Kind, encoding_kind, doctype_kind, entity_kind, prefix_kind, repeated_kind, depth_kind, tick, add, blame, blame_if, heard, carried, is_lacking, resolved, meant, Tag, Frame, framed, judged, fresh, adopt}
-use Rattle.zi_xml.specs.Machine
-use Rattle.zi_xml.specs.Machine.{Spot, before, among, Host, in_text, in_value, Owner, of_attr, of_key, Word, doctype_word, section_word, comment_word, over_word, key_word, version_word, reply_word, declared_word, void_word, Doing, begun, front, opened, banged, commenting, halting, asked, targeting, instructing, asking, wording, sectioning, bracketed, twice, declaring, heading, headed, numbering, numbered, coding, coded, replying, named, equalled, naming, spaced, attr_naming, valuing, valued, amped, referring, hashed, counting, hexed, hexing, inside, closing, State, state, to, go, step, at_of, found_of, initial, choose, after_word, worded, markup, enter, bang_word, is_xml, declare, leave, leave_name, refer, closed, front_step, scope_of, back_to}
+use Rattle.zi_xml.specs.Meaning.{Level, Fault, Kind, encoding_kind, doctype_kind, entity_kind, prefix_kind, repeated_kind, depth_kind, tick, blame_if, carried, is_lacking, Tag, Frame, judged}
+use Rattle.zi_xml.specs.Machine.{Spot, before, among, Host, in_text, in_value, Owner, of_attr, Word, doctype_word, section_word, comment_word, over_word, key_word, version_word, reply_word, declared_word, void_word, Doing, begun, front, opened, banged, commenting, halting, asked, targeting, instructing, asking, wording, sectioning, bracketed, twice, declaring, heading, headed, numbering, numbered, coding, coded, replying, named, equalled, naming, spaced, attr_naming, valuing, valued, amped, referring, hashed, counting, hexed, hexing, inside, closing, State, go, initial, choose, after_word, worded, markup, enter, bang_word, is_xml, declare, leave, leave_name, refer, closed, front_step, scope_of}
 use Rattle.zi_xml.proofs.CharLemmas.{append_none}
 
 abbrev pub AreAt : ℕ → List Fault → Type 0

@@ -1,5 +1,5 @@
 -- The kinds of characters (XML 1.0, Fifth Edition, 2.2, 2.3, 4.1 and 4.3.3). A character is its code.
-use Rattle.std.specs.Prelude.{ℕ, ◌+◌, ◌*◌, ◌-◌, Bool, true, false, ◌||◌, ◌&&◌, ◌==◌, nat_le, not, List, [], ◌∷◌, Option, Some, None, if◌then◌else◌, codes, encode_utf8, length, min}
+use Rattle.std.specs.Prelude.{ℕ, ◌+◌, ◌*◌, ◌-◌, Bool, true, false, ◌||◌, ◌&&◌, ◌==◌, nat_le, not, List, [], ◌∷◌, Option, Some, None, if◌then◌else◌, codes, encode_utf8, length}
 use Rattle.std.specs.Str.{bytes_eq}
 
 abbrev pub is_between : ℕ → ℕ → ℕ → Bool

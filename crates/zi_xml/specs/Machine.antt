@@ -1,13 +1,12 @@
 -- The states of a reader of documents, and what a character does. No definition of documents names it.
-use Rattle.std.specs.Prelude.{◌≡◌, ℕ, zero, suc, ◌+◌, ◌*◌, min, nat_le, Bool, true, false, not, List, [], ◌∷◌, ◌++◌, Option, Some, None, if◌then◌else◌, ◌==◌, length, codes, encode_utf8}
+use Rattle.std.specs.Prelude.{ℕ, zero, suc, ◌+◌, ◌*◌, min, nat_le, Bool, true, false, not, List, [], ◌∷◌, ◌++◌, Option, Some, None, if◌then◌else◌, ◌==◌, length, codes, encode_utf8}
 use Rattle.std.specs.Str.{bytes_eq}
-use Rattle.zi_names.specs.declared.attributes.Raw.{Raw}
 use Rattle.zi_names.specs.declared.attributes.Binding.{Binding}
 use Rattle.zi_names.specs.Names.{first_scope}
 use Rattle.zi_chars.specs.Answers as machines
 use Rattle.zi_xml.specs.Chars.{is_white, is_first, is_name, is_char, is_quote, is_valued, is_digit, is_hex, is_encoding_first, is_encoding, digit_value, hex_value, same_letters, entity}
 use Rattle.zi_xml.specs.Syntax.{Key, version_key, encoding_key, standalone_key, brackets, is_said}
-use Rattle.zi_xml.specs.Meaning.{Fault, Kind, encoding_kind, doctype_kind, depth_kind, Level, tick, add, heard, blame, blame_if, value_end, carried, meant, resolved, Tag, Frame, framed, judged, fresh, adopt, set, start}
+use Rattle.zi_xml.specs.Meaning.{Fault, encoding_kind, doctype_kind, depth_kind, Level, tick, add, heard, blame, blame_if, value_end, carried, meant, resolved, Tag, Frame, framed, judged, fresh, adopt, start}
 
 -- Where a comment or an instruction stands: before the root, at the very start or not, or inside these elements, the
 -- innermost first; inside none is behind the root.
@@ -303,10 +302,10 @@ go (hexing h p n) l c =
 go (inside fs n) l c =
     if has fs
     then
-      (if is_said n c then to (inside fs (brackets n c)) (heard c l)
-        else if c == 60 then to (opened (among fs) l) (tick c l)
-        else if c == 38 then to (amped (in_text fs) l.at) (tick c l)
-        else None)
+    (if is_said n c then to (inside fs (brackets n c)) (heard c l)
+    else if c == 60 then to (opened (among fs) l) (tick c l)
+    else if c == 38 then to (amped (in_text fs) l.at) (tick c l)
+    else None)
     else if is_white c then to (inside fs 0) (tick c l)
     else if c == 60 then to (opened (among fs) l) (tick c l)
     else None

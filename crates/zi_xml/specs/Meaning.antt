@@ -1,5 +1,5 @@
 -- What parse trees mean: the tree, the faults, and places in bytes (XML 1.0, 2.11, 3.3.3, 4.1, 4.6; Namespaces in XML 1.0).
-use Rattle.std.specs.Prelude.{◌≡◌, ℕ, suc, ◌+◌, nat_le, Bool, true, false, not, ◌==◌, ◌&&◌, List, [], ◌∷◌, ◌++◌, Option, Some, None, if◌then◌else◌, codes, length, encode_utf8, encode_utf8_all}
+use Rattle.std.specs.Prelude.{ℕ, suc, ◌+◌, nat_le, Bool, true, false, not, ◌==◌, ◌&&◌, List, [], ◌∷◌, ◌++◌, Option, Some, None, if◌then◌else◌, codes, encode_utf8, encode_utf8_all}
 use Rattle.zi_elements.specs.declared.element.Attr.{Attr}
 use Rattle.zi_elements.specs.declared.element.Element.{Element}
 use Rattle.zi_elements.specs.declared.element.Node.{Node}
@@ -8,7 +8,7 @@ use Rattle.zi_names.specs.declared.attributes.Raw.{Raw}
 use Rattle.zi_names.specs.declared.attributes.Binding.{Binding}
 use Rattle.zi_names.specs.Names.{first_scope, scope_in, has_bad_prefix, has_repeated, address_of, prefix, local, attributes_of}
 use Rattle.zi_xml.specs.Chars.{width, is_char, is_white, entity, decimal_from, hex_from, same_letters}
-use Rattle.zi_xml.specs.Syntax.{Bit, letter, entity_of, decimal, hexadecimal, bit_text, Written, Content, stop, bit, section, comment, instruction, void, pair, comment_text, instruction_text, end_tag, Misc, miscs_text, Key, version_key, encoding_key, standalone_key, Setting, setting_front, Declaration, Root, alone, whole, doctype, Document, mark_text}
+use Rattle.zi_xml.specs.Syntax.{Bit, letter, entity_of, decimal, hexadecimal, bit_text, Written, Content, stop, bit, section, comment, instruction, void, pair, comment_text, instruction_text, end_tag, miscs_text, Key, version_key, encoding_key, standalone_key, Setting, setting_front, Declaration, Root, alone, whole, doctype, Document, mark_text}
 
 -- Kinds of faults that leave the syntax alone, in the order of their numbers.
 pub data Kind : Type 0 where

@@ -1,5 +1,5 @@
 -- When the answer of the reader is right.
-use Rattle.std.specs.Prelude.{◌≡◌, ℕ, true, List, [], ◌∷◌, encode_utf8_all}
+use Rattle.std.specs.Prelude.{◌≡◌, ℕ, true, List, [], encode_utf8_all}
 use Rattle.std.proofs.Common.{inl, inr}
 use Rattle.std.proofs.Math.Utf8.{scalars}
 use Rattle.zi_xml.specs.Meaning.{Level}

@@ -1,7 +1,6 @@
 -- Documents as parse trees over characters: what they are written as (XML 1.0, Fifth Edition, without a document type declaration).
 -- Numbers in brackets are the productions of the standard.
-use Rattle.std.specs.Prelude.{◌≡◌, ℕ, Bool, true, false, not, ◌==◌, ◌&&◌, ◌||◌, List, [], ◌∷◌, ◌++◌, Option, Some, None, if◌then◌else◌, codes, encode_utf8_all}
-use Rattle.std.specs.Str.{bytes_eq}
+use Rattle.std.specs.Prelude.{◌≡◌, ℕ, Bool, true, false, not, ◌==◌, ◌&&◌, List, [], ◌∷◌, ◌++◌, Option, Some, None, if◌then◌else◌, codes, encode_utf8_all}
 use Rattle.zi_xml.specs.Chars.{is_char, is_white, is_first, is_name, is_plain, is_quote, is_valued, is_digit, is_hex, is_encoding_first, is_encoding, same_letters}
 
 -- A character that stands for itself, or a reference ([66] to [68]).
