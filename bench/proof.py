@@ -6,15 +6,18 @@ of implications each says the next variable, by the one before it and a clause. 
 same lemmas without their hints; else the time is held against `wc`, which reads the same bytes. Each figure is the best of
 three. Two sizes show whether the time is linear.
 """
+import sys
+
+sys.path.pop(0)  # select.py beside this file has the name of a module that subprocess needs
+
 import pathlib
 import shutil
 import subprocess
-import sys
 import tempfile
 import time
 
 RUNS = 3
-LENGTHS = (90_000, 360_000)
+LENGTHS = (95_000, 380_000)
 TOP = pathlib.Path(__file__).resolve().parent.parent
 PROGRAM = TOP / "crates/proof_speed/out/proof_speed"
 
