@@ -169,7 +169,8 @@ fn the_first_fault_is_answered(rt: HostRuntime) -> Result<(), Fail> {
 
 #[test]
 fn each_cut_stops_at_its_length(rt: HostRuntime) -> Result<(), Fail> {
-    let text = b"<?xml version=\"1.0\"?><!-- \xC3\xA9 --><i xmlns=\"u\"><g a='&#9;'>t<![CDATA[]]]>&lt;</g></i>";
+    let text =
+        b"<?xml version=\"1.0\"?><!-- \xC3\xA9 --><i xmlns=\"u\"><g a='&#9;'>t<![CDATA[]]]>&lt;</g></i>";
     for n in 0..text.len() {
         let (cut, _) = text.split_at(n);
         // 27 bytes end within the character at 26
@@ -195,7 +196,8 @@ fn depth_is_bounded(rt: HostRuntime) -> Result<(), Fail> {
 
 #[test]
 fn texts_and_values_are_normalised(rt: HostRuntime) -> Result<(), Fail> {
-    let text = b"<p:a xmlns:p='u' b=\"x\r\ny\tz&#10;&quot;\">p\r\nq\rr<!-- -->s<![CDATA[t\r\n]]>&lt;<c/></p:a>";
+    let text =
+        b"<p:a xmlns:p='u' b=\"x\r\ny\tz&#10;&quot;\">p\r\nq\rr<!-- -->s<![CDATA[t\r\n]]>&lt;<c/></p:a>";
     match read(rt.alloc(), text) {
         Ok(root) => {
             assert_eq!(rt; root.space.as_str(), "u");
