@@ -1,7 +1,7 @@
 #!/usr/bin/env python3
 """Runs the proved program on real folders, and compares standard output, standard error and exit status to the byte.
 
-The program is crates/zi/out/zi, which the gate leaves there. Each row is a function; one that fails is named, and the
+The program is crates/zi/out/zi, and the reader of documents crates/doc_speed/out/doc_speed; the gate leaves both there. Each row is a function; one that fails is named, and the
 status is then 1.
 """
 import os
@@ -12,6 +12,7 @@ import tempfile
 
 TOP = os.path.dirname(os.path.dirname(os.path.abspath(__file__)))
 PROGRAM = os.path.join(TOP, "crates", "zi", "out", "zi")
+READER = os.path.join(TOP, "crates", "doc_speed", "out", "doc_speed")
 NS = "http://zero-install.sourceforge.net/2004/injector/interface"
 
 
@@ -140,6 +141,41 @@ def wrong_words(folder):
         expect(run(words, folder), 64, b"", f"zi: usage at word {index}\n".encode())
 
 
+SIGNED = (
+    '<?xml version="1.0" encoding="utf-8"?>\n'
+    "<?xml-stylesheet type='text/xsl' href='interface.xsl'?>\n"
+    f'<interface xmlns="{NS}" uri="http://example.com/hello.xml" xmlns:compile="http://example.com/compile">\n'
+    "<name>hello</name>\n"
+    '<group compile:command="make" main="bin/hello">'
+    '<implementation id="sha1new=da39a3ee5e6b4b0d3255bfef95601890afd80709" version="1">'
+    '<file href="x" size="3" dest="x"/></implementation></group>\n'
+    "</interface>\n"
+    "<!-- Base64 Signature\niQ==\n-->\n"
+).encode()
+
+
+def says(text):
+    """What the reader of documents says of a text: `ok`, or the kind of its fault and the place."""
+    return subprocess.run([READER], input=text, stdout=subprocess.PIPE, check=True).stdout.decode().strip()
+
+
+def documents(folder):
+    end = SIGNED.index(b"</interface>") + len("</interface>")
+    rows = [(SIGNED, "ok")]
+    # each cut before the end of the root's end tag stops at its length
+    rows += [(SIGNED[:n], f"4 {n}") for n in range(end)]
+    start = f'<interface xmlns="{NS}">'.encode()
+    rows.append((start, f"4 {len(start)}"))
+    # 64 groups inside the root: the last one stands at depth 65
+    rows.append((start + b"<group>" * 64 + b"</group>" * 64 + b"</interface>", f"8 {len(start) + 63 * len('<group>')}"))
+    rows.append((start + b"<group>" * 63 + b"</group>" * 63 + b"</interface>", "ok"))
+    rows.append((f'<a:interface xmlns="{NS}"/>'.encode(), "6 0"))
+    for text, wanted in rows:
+        said = says(text)
+        if said != wanted:
+            raise Wrong(f"{text!r}: {said}, not {wanted}")
+
+
 ROWS = [
     five_versions,
     one_version_and_ties,
@@ -150,13 +186,15 @@ ROWS = [
     a_long_feed,
     an_output_that_fails,
     wrong_words,
+    documents,
 ]
 
 
 def main():
-    if not os.path.exists(PROGRAM):
-        print(f"{os.path.relpath(PROGRAM, TOP)} isn't there: run the gate first")
-        return 1
+    for program in (PROGRAM, READER):
+        if not os.path.exists(program):
+            print(f"{os.path.relpath(program, TOP)} isn't there: run the gate first")
+            return 1
     failed = 0
     for row in ROWS:
         # a root is plain where each part of its path is letters, digits, `.`, `-` and `_`
