@@ -1,4 +1,4 @@
-ghost use Rattle.std.specs.Prelude.{◌≡◌, bytes_eq, codes};
+ghost use Rattle.std.specs.Prelude.{◌≡◌, bytes_eq, codes, true, None};
 ghost use Rattle.zi_rank.specs.Reasons.{is_shunned, is_off, machine_of, is_at_hand, runs_on, why_not};
 
 use crate::components::{machine_rank_on, os_rank_on};
@@ -54,10 +54,11 @@ pub fn at_hand(s: &Standing) -> bool
 }
 
 /// Why an implementation isn't usable under a policy: the first of the five reasons that holds. None exactly where none
-/// holds. It takes no memory.
+/// holds, and then its platform is run. It takes no memory.
 #[tactic(auto, unfolding(crate::specs::Reasons::why_not))]
 pub fn usable(s: &Standing, p: &Policy) -> Option<WhyNot>
-    ensures { result ≡ why_not p.now s.now }
+    ensures first { result ≡ why_not p.now s.now }
+    ensures runs { (result ≡ None) → (runs_on p.now s.now ≡ true) }
 {
     let here = at_hand(s);
     if shunned(s.stability) {
