@@ -8,6 +8,8 @@ mod languages;
 pub mod laws;
 mod order;
 mod reasons;
+#[cfg(test)]
+mod tests;
 mod types;
 
 pub use order::{before, compare};
