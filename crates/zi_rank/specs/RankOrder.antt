@@ -7,7 +7,7 @@ use Rattle.zi_version.specs.Value.{value}
 use Rattle.zi_policy.specs.declared.types.Policy.{Policy}
 use Rattle.zi_rank.specs.declared.types.Standing.{Standing}
 use Rattle.zi_rank.specs.Reasons.{is_at_hand}
-use Rattle.zi_rank.specs.Rank.{Order, smaller, greater, marked, smaller_list, greater_list, newer, in_turn, components, rank_cmp, base_place, is_preferred, is_ready, level, first_numbers, os_number, machine_number, tag_place}
+use Rattle.zi_rank.specs.Rank.{smaller, greater, marked, smaller_list, greater_list, newer, in_turn, rank_cmp, base_place, is_preferred, is_ready, level, first_numbers, os_number, machine_number, tag_place}
 
 all_tied : IsTotalOrder (in_turn [])
 all_tied = record { antisymm = λ c d. refl; trans = λ c d e p q. p; congr = λ c d e p. refl }
