@@ -1,3 +1,13 @@
 pub mod Walks
 pub mod Opened
 pub mod Listed
+pub mod Accepted
+pub mod Built
+pub mod Cuts
+pub mod LinesRead
+pub mod OneLines
+pub mod OneEntries
+pub mod OpenLemmas
+pub mod WordLemmas
+pub mod TurnLemmas
+pub mod EntryLemmas

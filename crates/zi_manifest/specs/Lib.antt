@@ -3,3 +3,4 @@ pub mod Manifest
 pub mod Walk
 pub mod Frames
 pub mod Listing
+pub mod Reading

@@ -3,14 +3,22 @@
 //! No call takes stack in proportion to a tree's depth, and no file's bytes are copied.
 #![tactic(auto)]
 
+mod cutting;
+mod entries;
 mod frames;
 pub mod laws;
 mod lines;
 mod listing;
+mod open;
+mod reading;
+mod words;
 mod writing;
 
 pub use listing::{Line, Listing};
+pub use reading::{ManifestFault, read};
 pub use writing::{ManifestOutFault, digest, write};
 
+#[cfg(test)]
+mod read_tests;
 #[cfg(test)]
 mod tests;
