@@ -118,6 +118,7 @@ fn groups_read(text: &[u8]) -> Option<[u8; 52]>
 /// The bytes whose letters these are.
 pub(crate) fn read(text: &[u8]) -> Option<[u8; 32]>
     ensures spelled { IfSome result (λ bytes. base32 bytes ≡ text.now) }
+    ensures bytes { IfSome result (IsBytesOf 32) }
     ensures refused { IfNone result ((bytes : List ℕ) → IsBytesOf 32 bytes → base32 bytes ≢ text.now) }
 {
     if text.len() != 52 {

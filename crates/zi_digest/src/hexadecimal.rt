@@ -25,6 +25,7 @@ pub(crate) fn read<const N: usize, const M: usize>(digits: &[u8]) -> Option<[u8;
     requires twice { M ≡ 2 * N }
     requires small { N ≤ 32 }
     ensures spelled { IfSome result (λ bytes. encode_lower bytes ≡ digits.now) }
+    ensures bytes { IfSome result (IsBytesOf N) }
     ensures refused { IfNone result
         ((bytes : List ℕ) → IsBytesOf N bytes → encode_lower bytes ≢ digits.now) }
 {

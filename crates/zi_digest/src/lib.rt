@@ -45,6 +45,7 @@ impl DigestName {
     /// The digest that is spelled so. None exactly where no digest is. It takes no memory.
     pub fn parse(text: &str) -> Option<DigestName>
         ensures spelled { IfSome result (λ name. spelling name ≡ text.now) }
+        ensures digest { IfSome result IsDigest }
         ensures refused { IfNone result ((name : Name) → IsDigest name → spelling name ≢ text.now) }
     {
         let text = text.as_bytes();
