@@ -10,7 +10,7 @@ use Rattle.zi_tree.specs.Order.{is_tree}
 use Rattle.zi_tree.specs.Places.{IsAt}
 use Rattle.zi_tree.proofs.Order.{tree_set, node_tree}
 use Rattle.zi_tree.specs.Views.{Item, dir, dir_of, items_of, inside_of, node_is_tree}
-use Rattle.zi_tree.specs.Paths.{items, node_in, replaced, is_last, found, inserted, removed}
+use Rattle.zi_tree.specs.Paths.{items, node_in, replaced, is_last, found, inserted, removed, changed}
 use Rattle.zi_tree.specs.Ways.{joined, folder_at, IsWay, way, Leads, HasNoFolder, IsStopped, Enters, Exchanges, Swaps}
 use Rattle.zi_tree.proofs.Items.{items_of_dir, node_is, replaced_is}
 use Rattle.zi_tree.proofs.Replaced.{dir_items, replaced_twice, node_replaced, replaced_same}
@@ -54,6 +54,7 @@ leads_start path whole = record {
   inserts = λ x. map_same (λ c. c) (λ c. refl) (inserted path x whole);
   finds = refl;
   removes = refl;
+  changes = λ x. refl;
 }
 
 not_last : (ns : List (List ℕ)) (k : ℕ) (path : List (List ℕ)) → ns ≡ drop (k + 1) path → k + 1 < length path → is_last ns ≡ false
@@ -86,6 +87,7 @@ leads_in path whole above here above' here' k n l lt is e =
           ∙ ap (λ w. option_map (joined w above') (inserted ns x here')) (sym more);
       finds = l.finds ∙ ap (λ p. found p here) next ∙ found_deeper n ns here here' last e.0;
       removes = l.removes ∙ ap (λ p. joined (way path k) above (removed p here)) next ∙ ap (joined (way path k) above) (removed_deeper n ns here here' last e.0) ∙ sym (turn (removed ns here')) ∙ ap (λ w. joined w above' (removed ns here')) (sym more);
+      changes = λ x. l.changes x ∙ ap (λ p. joined (way path k) above (changed p x here)) next ∙ ap (joined (way path k) above) (changed_deeper x n ns here here' last e.0) ∙ sym (turn (changed ns x here')) ∙ ap (λ w. joined w above' (changed ns x here')) (sym more);
     }
   where
     inserted_deeper : (x : TreeNode) (n : List ℕ) (ns : List (List ℕ)) (here here' : Dir) → is_last ns ≡ false → node_in n (items here) ≡ Some (Folder here') → inserted (n ∷ ns) x here ≡ option_map (λ (c : Dir). dir (replaced n (Folder c) (items here))) (inserted ns x here')
@@ -96,6 +98,9 @@ leads_in path whole above here above' here' k n l lt is e =
 
     removed_deeper : (n : List ℕ) (ns : List (List ℕ)) (here here' : Dir) → is_last ns ≡ false → node_in n (items here) ≡ Some (Folder here') → removed (n ∷ ns) here ≡ dir (replaced n (Folder (removed ns here')) (items here))
     removed_deeper n ns here here' h k = rw (h, k) refl
+
+    changed_deeper : (x : TreeNode) (n : List ℕ) (ns : List (List ℕ)) (here here' : Dir) → is_last ns ≡ false → node_in n (items here) ≡ Some (Folder here') → changed (n ∷ ns) x here ≡ dir (replaced n (Folder (changed ns x here')) (items here))
+    changed_deeper x n ns here here' h k = rw (h, k) refl
 
 -- stopped before a part that leads to no folder, and at the last one
 pub stopped_before : (path : List (List ℕ)) (here : Dir) (k : ℕ) (n : List ℕ) → k + 1 < length path → n ≡ get_or path k n → HasNoFolder n here → IsStopped (drop k path) here

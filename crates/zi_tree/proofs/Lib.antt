@@ -2,6 +2,8 @@ pub mod Hung
 pub mod Items
 pub mod Order
 pub mod Halves
+mod Holders
+pub mod ChangeLemmas
 pub mod Sizes
 pub mod Pieces
 pub mod Replaced

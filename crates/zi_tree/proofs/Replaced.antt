@@ -46,3 +46,12 @@ without_none n (i ∷ is) h0 =
       | true ↦ λ h. absurd (cc h)
       | false ↦ λ h. ap (λ (l : List Item). i ∷ l) (without_none n is h)
     ] h0
+
+-- nothing under the name, nothing replaced
+pub replaced_none : (n : List ℕ) (x : TreeNode) (is : List Item) → node_in n is ≡ None → replaced n x is ≡ is
+replaced_none n x [] h = refl
+replaced_none n x (i ∷ is) h0 =
+    elim (bytes_eq i.0 n) as (λ t. (if t then Some i.1 else node_in n is) ≡ None → (if t then (i.0, x) ∷ is else i ∷ replaced n x is) ≡ i ∷ is) [
+      | true ↦ λ h. absurd (cc h)
+      | false ↦ λ h. ap (λ (l : List Item). i ∷ l) (replaced_none n x is h)
+    ] h0

@@ -9,9 +9,9 @@ use Rattle.zi_tree.specs.declared.tree.TreeNode.TheVariants.{File, Link, Folder}
 use Rattle.zi_tree.specs.Views.{Item, dir, items_of}
 use Rattle.zi_tree.specs.Places.{IsAt}
 use Rattle.zi_tree.specs.Order.{is_name}
-use Rattle.zi_tree.specs.Paths.{items, node_in, placed, replaced, without, found, inserted, placed_new, below, removed, nested}
+use Rattle.zi_tree.specs.Paths.{items, node_in, placed, replaced, without, found, inserted, placed_new, below, removed, changed, nested}
 use Rattle.zi_tree.specs.Ways.{IsStopped}
-use Rattle.zi_tree.proofs.Replaced.{dir_items, replaced_same, without_none}
+use Rattle.zi_tree.proofs.Replaced.{dir_items, replaced_same, replaced_none, without_none}
 
 -- new folders, one in another
 nested_inserted : (m : List ℕ) (ms : List (List ℕ)) (x : TreeNode) → inserted (m ∷ ms) x Nothing ≡ Some (dir ((m, nested ms x) ∷ []))
@@ -84,6 +84,21 @@ pub not_one : (rest : List (List ℕ)) (d : Dir) → ((n : List ℕ) → rest �
 not_one [] d h s = (refl, refl)
 not_one (n ∷ []) d h s = absurd (h n refl)
 not_one (n ∷ m ∷ ms) d h s = found_stopped n m ms d s
+
+pub unchanged : (n : List ℕ) (x : TreeNode) (d : Dir) → node_in n (items d) ≡ None → d ≡ changed (n ∷ []) x d
+unchanged n x d h = sym (ap dir (replaced_none n x (items d) h) ∙ dir_items d)
+
+-- no last part: nothing changed
+pub not_one_changed : (rest : List (List ℕ)) (x : TreeNode) (d : Dir) → ((n : List ℕ) → rest ≡ n ∷ [] → ⊥) → IsStopped rest d → d ≡ changed rest x d
+not_one_changed [] x d h s = refl
+not_one_changed (n ∷ []) x d h s = absurd (h n refl)
+not_one_changed (n ∷ m ∷ ms) x d h s = by_node (node_in n (items d)) refl
+  where
+    by_node : (o : Option TreeNode) → node_in n (items d) ≡ o → d ≡ changed (n ∷ m ∷ ms) x d
+    by_node None e = rw e refl
+    by_node (Some (File b t k)) e = rw e refl
+    by_node (Some (Link t)) e = rw e refl
+    by_node (Some (Folder i)) e = absurd (s i e)
 
 -- where nothing stands at the path, nothing is removed
 pub none_removed : (path : List (List ℕ)) (d : Dir) → found path d ≡ None → removed path d ≡ d

@@ -1,5 +1,5 @@
 -- What stands in a tree, and at a path.
-use Rattle.std.specs.Prelude.{ℕ, Bool, true, false, List, [], ◌∷◌, Option, None, Some, bytes_eq, if◌then◌else◌, option_map, slice_get}
+use Rattle.std.specs.Prelude.{ℕ, Bool, true, false, List, [], ◌∷◌, Option, None, Some, bytes_eq, if◌then◌else◌, is_none, option_map, slice_get}
 use Rattle.std.specs.Ordering.{is_lt, nat_cmp}
 use Rattle.std.specs.Cmp.Lexicographic.{slice_cmp}
 use Rattle.zi_tree.specs.Dir.{Dir, Nothing, AFile, ALink, AFolder}
@@ -73,16 +73,46 @@ abbrev pub inserted : List (List ℕ) → TreeNode → Dir → Option Dir
 inserted [] x d = None
 inserted (n ∷ ns) x d = if is_last ns then placed_new n x d (node_in n (items d)) else below n d (node_in n (items d)) (λ inside. inserted ns x inside)
 
-abbrev pub removed_in : List ℕ → Dir → Option TreeNode → (Dir → Dir) → Dir
-removed_in n d None f = d
-removed_in n d (Some (File b e t)) f = d
-removed_in n d (Some (Link t)) f = d
-removed_in n d (Some (Folder inside)) f = dir (replaced n (Folder (f inside)) (items d))
+-- the tree with a changed folder under a name; the same tree where no folder is there
+abbrev pub changed_in : List ℕ → Dir → Option TreeNode → (Dir → Dir) → Dir
+changed_in n d None f = d
+changed_in n d (Some (File b e t)) f = d
+changed_in n d (Some (Link t)) f = d
+changed_in n d (Some (Folder inside)) f = dir (replaced n (Folder (f inside)) (items d))
 
 -- the tree without what stands at the path; folders that this leaves empty stay
 abbrev pub removed : List (List ℕ) → Dir → Dir
 removed [] d = d
-removed (n ∷ ns) d = if is_last ns then dir (without n (items d)) else removed_in n d (node_in n (items d)) (λ inside. removed ns inside)
+removed (n ∷ ns) d = if is_last ns then dir (without n (items d)) else changed_in n d (node_in n (items d)) (λ inside. removed ns inside)
+
+-- the tree with this in the place of what stands at the path; the same tree where nothing stands there
+abbrev pub changed : List (List ℕ) → TreeNode → Dir → Dir
+changed [] x d = d
+changed (n ∷ ns) x d = if is_last ns then dir (replaced n x (items d)) else changed_in n d (node_in n (items d)) (λ inside. changed ns x inside)
+
+abbrev pub holder_in : (Dir → Option Dir) → Option TreeNode → Option Dir
+holder_in f None = None
+holder_in f (Some (File b e t)) = None
+holder_in f (Some (Link t)) = None
+holder_in f (Some (Folder inside)) = f inside
+
+-- the folder that holds, or is to hold, what stands at the path; nothing holds the empty one
+abbrev pub holder : List (List ℕ) → Dir → Option Dir
+holder [] d = None
+holder (n ∷ ns) d = if is_last ns then Some d else holder_in (λ inside. holder ns inside) (node_in n (items d))
+
+-- the last name of a path
+abbrev pub last_name : List (List ℕ) → List ℕ
+last_name [] = []
+last_name (n ∷ ns) = if is_last ns then n else last_name ns
+
+abbrev pub is_free : List ℕ → Option Dir → Bool
+is_free n None = false
+is_free n (Some folder) = is_none (node_in n (items folder))
+
+-- a new entry has room at the path: the folder that is to hold it is there, and the name in it is free
+abbrev pub has_room : List (List ℕ) → Dir → Bool
+has_room path d = is_free (last_name path) (holder path d)
 
 -- a node at the end of new folders
 abbrev pub nested : List (List ℕ) → TreeNode → TreeNode

@@ -4,7 +4,7 @@ use Rattle.zi_tree.specs.Dir.{Dir, Nothing}
 use Rattle.zi_tree.specs.declared.tree.TreeNode.{TreeNode}
 use Rattle.zi_tree.specs.declared.tree.TreeNode.TheVariants.{File, Link, Folder}
 use Rattle.zi_tree.specs.Views.{dir, inside_of}
-use Rattle.zi_tree.specs.Paths.{items, node_in, replaced, found, inserted, removed}
+use Rattle.zi_tree.specs.Paths.{items, node_in, replaced, found, inserted, removed, changed}
 
 abbrev inside_or_nothing : Option TreeNode → Dir
 inside_or_nothing None = Nothing
@@ -38,6 +38,7 @@ pub record Leads (path : List (List ℕ)) (whole : Dir) (depth : ℕ) (above her
   pub inserts : (x : TreeNode) → inserted path x whole ≡ option_map (joined (way path depth) above) (inserted (drop depth path) x here)
   pub finds : found path whole ≡ found (drop depth path) here
   pub removes : removed path whole ≡ joined (way path depth) above (removed (drop depth path) here)
+  pub changes : (x : TreeNode) → changed path x whole ≡ joined (way path depth) above (changed (drop depth path) x here)
 
 -- no folder of this name
 abbrev pub HasNoFolder : List ℕ → Dir → Type 0

@@ -1,10 +1,10 @@
 //! Putting a node into a tree, and taking one out.
 
-ghost use Rattle.std.specs.Prelude.{◌≡◌, ◌∷◌, [], true, Some, None, Err, OnOk, OnErr, IfOk, is_some};
+ghost use Rattle.std.specs.Prelude.{◌≡◌, ◌∷◌, [], true, false, Some, None, Err, OnOk, OnErr, IfOk, is_some};
 ghost use Rattle.std.specs.List.{list_all};
 ghost use Rattle.zi_tree.specs.Dir.{Nothing};
 ghost use Rattle.zi_tree.specs.Views.{dir, node_is_tree};
-ghost use Rattle.zi_tree.specs.Paths.{items, node_in, placed, found, inserted, removed, nested};
+ghost use Rattle.zi_tree.specs.Paths.{items, node_in, placed, found, inserted, removed, changed, nested};
 ghost use Rattle.zi_tree.specs.Order.{is_name};
 ghost use Rattle.zi_tree.specs.Ways.{IsStopped};
 
@@ -13,6 +13,7 @@ use crate::search::find_entry;
 use crate::tree::{Entry, Tree, TreeNode};
 use crate::way::{go_down, go_up};
 use std::alloc::Global;
+use std::mem;
 use thiserror::Error;
 use zi_text::{Memory, Text};
 
@@ -76,6 +77,23 @@ impl Tree {
         let taken = take_out(self, rest);
         go_up(&mut above, self, way);
         taken
+    }
+
+    /// Exchanges what stands at a path with a node. False exactly where nothing stands there, and then both are as before.
+    /// It takes no memory.
+    pub fn exchange(&mut self, path: &RelPath, node: &mut TreeNode) -> bool
+        ensures there { result ≡ true → found path.now self.old ≡ Some node.new }
+        ensures after { self.new ≡ changed path.now node.old self.old }
+        ensures none { result ≡ false → found path.now self.old ≡ None }
+        ensures same { result ≡ false → (self.new ≡ self.old) × (node.new ≡ node.old) }
+    {
+        let parts = path.parts().as_slice();
+        let mut above = empty_like(self);
+        let depth = go_down(&mut above, self, parts);
+        let (way, rest) = parts.split_at(depth);
+        let exchanged = exchange_at(self, rest, node);
+        go_up(&mut above, self, way);
+        exchanged
     }
 
     /// Whether something stands under a name of the top folder.
@@ -171,6 +189,27 @@ fn take_out(tree: &mut Tree, rest: &[Text]) -> Option<TreeNode>
             Some(node)
         }
         Err(_) => None,
+    }
+}
+
+/// Exchanges what stands at the rest of a path with a node; the rest's first part leads to no folder unless it is the last.
+fn exchange_at(tree: &mut Tree, rest: &[Text], node: &mut TreeNode) -> bool
+    requires { IsStopped rest.now tree.old }
+    ensures there { result ≡ true → found rest.now tree.old ≡ Some node.new }
+    ensures after { tree.new ≡ changed rest.now node.old tree.old }
+    ensures none { result ≡ false → found rest.now tree.old ≡ None }
+    ensures same { result ≡ false → (tree.new ≡ tree.old) × (node.new ≡ node.old) }
+{
+    let [name] = rest else {
+        return false;
+    };
+    match find_entry(tree.entries.as_slice(), name.as_str()) {
+        Ok(i) => {
+            whole_node(node);
+            mem::swap(&mut tree.entries[i].node, node);
+            true
+        }
+        Err(_) => false,
     }
 }
 

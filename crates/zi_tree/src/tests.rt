@@ -85,6 +85,66 @@ fn names_in_byte_order(rt: HostRuntime) -> Result<(), Fail> {
     Ok(())
 }
 
+/// The bytes of a file.
+fn bytes_of(node: Option<&TreeNode>) -> &[u8] {
+    match node {
+        Some(TreeNode::File { bytes, .. }) => bytes.as_slice(),
+        _ => b"no file",
+    }
+}
+
+/// A tree of two files, `a/b` with `x` and `a/c` with `z`.
+fn two_files(alloc: Global) -> Result<Tree, Fail> {
+    let mut t = Tree::new(alloc);
+    t.insert(alloc, &path(alloc, "a/b")?, file(alloc, b"x")?)?;
+    t.insert(alloc, &path(alloc, "a/c")?, file(alloc, b"z")?)?;
+    Ok(t)
+}
+
+/// Whether a file with `y` that is exchanged at a path of two files leaves this outside and that there.
+fn is_exchanged(alloc: Global, text: &str, outside: &[u8], there: &[u8]) -> Result<bool, Fail> {
+    let mut t = two_files(alloc)?;
+    let p = path(alloc, text)?;
+    let mut node = file(alloc, b"y")?;
+    t.exchange(&p, &mut node);
+    Ok(bytes_of(Some(&node)) == outside && bytes_of(t.find(&p)) == there)
+}
+
+#[test]
+fn exchanged(rt: HostRuntime) -> Result<(), Fail> {
+    assert!(rt; is_exchanged(rt.alloc(), "a/b", b"x", b"y")?);
+    assert!(rt; is_exchanged(rt.alloc(), "a/c", b"z", b"y")?);
+    assert!(rt; is_exchanged(rt.alloc(), "a", b"no file", b"y")?);
+    assert!(rt; is_exchanged(rt.alloc(), "a/d", b"y", b"no file")?);
+    assert!(rt; is_exchanged(rt.alloc(), "a/b/c", b"y", b"no file")?);
+    assert!(rt; is_exchanged(rt.alloc(), "d/b", b"y", b"no file")?);
+    assert!(rt; is_exchanged(rt.alloc(), "", b"y", b"no file")?);
+    Ok(())
+}
+
+#[test]
+fn room(rt: HostRuntime) -> Result<(), Fail> {
+    let mut t = Tree::new(rt.alloc());
+    t.insert(
+        rt.alloc(),
+        &path(rt.alloc(), "a/b")?,
+        file(rt.alloc(), b"x")?,
+    )?;
+    for (text, has) in [
+        ("", false),
+        ("a", false),
+        ("b", true),
+        ("a/a", true),
+        ("a/b", false),
+        ("b/a", false),
+        ("a/b/c", false),
+        ("a/c/d", false),
+    ] {
+        assert_eq!(rt; t.has_room(&path(rt.alloc(), text)?), has, "{text}");
+    }
+    Ok(())
+}
+
 #[test]
 fn two_million_folders(rt: HostRuntime) -> Result<(), Fail> {
     let p = deep(rt.alloc(), DEEP)?;
@@ -92,8 +152,11 @@ fn two_million_folders(rt: HostRuntime) -> Result<(), Fail> {
     let mut t = Tree::new(rt.alloc());
     t.insert(rt.alloc(), &p, file(rt.alloc(), b"x")?)?;
     assert!(rt; t.find(&p).is_some());
+    assert!(rt; t.exchange(&p, &mut file(rt.alloc(), b"y")?));
+    assert!(rt; !t.has_room(&p));
     assert!(rt; t.take(&p).is_some());
     assert!(rt; t.find(&p).is_none());
+    assert!(rt; t.has_room(&p));
     t.insert(rt.alloc(), &p, file(rt.alloc(), b"x")?)?;
     drop(t);
     Ok(())

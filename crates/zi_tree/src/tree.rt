@@ -3,7 +3,7 @@
 ghost use Rattle.std.specs.Prelude.{◌≡◌, ◌<◌, ◌≤◌, ◌+◌, true, length, option_copied, IfSome};
 ghost use Rattle.zi_tree.specs.Dir.{Nothing};
 ghost use Rattle.zi_tree.specs.Views.{node_is_tree, dir_of};
-ghost use Rattle.zi_tree.specs.Paths.{items, name_in, node_of, node_in, found};
+ghost use Rattle.zi_tree.specs.Paths.{items, name_in, node_of, node_in, found, holder, has_room};
 ghost use Rattle.zi_tree.specs.Order.{is_tree};
 
 use crate::apart::drop_entries;
@@ -132,6 +132,35 @@ impl Tree {
         ensures { option_copied result ≡ found path.now self.now }
     {
         let parts = path.parts().as_slice();
+        let [.., name] = parts else {
+            return None;
+        };
+        match self.holder(parts) {
+            Some(folder) => folder.node(name.as_str()),
+            None => None,
+        }
+    }
+
+    /// Whether a new entry has room at a path: the folder that is to hold it is there, and the name in it is free. There is
+    /// none at the empty path. It takes no memory.
+    pub fn has_room(&self, path: &RelPath) -> bool
+        ensures { result ≡ has_room path.now self.now }
+    {
+        let parts = path.parts().as_slice();
+        let [.., name] = parts else {
+            return false;
+        };
+        match self.holder(parts) {
+            Some(folder) => folder.node(name.as_str()).is_none(),
+            None => false,
+        }
+    }
+
+    /// The folder that is to hold the entry at a path, if it is there.
+    fn holder(&self, parts: &[Text]) -> Option<&Tree>
+        requires { 1 ≤ length parts.now }
+        ensures { option_copied result ≡ holder parts.now self.now }
+    {
         let mut here = self;
         let mut depth = 0;
         while depth + 1 < parts.len() {
@@ -141,10 +170,7 @@ impl Tree {
             }
             depth += 1;
         }
-        match parts.get(depth) {
-            Some(name) => here.node(name.as_str()),
-            None => None,
-        }
+        Some(here)
     }
 
     /// What stands under a name of the top folder.
