@@ -1,0 +1,15 @@
+pub mod NumberLemmas
+pub mod LeftLemmas
+pub mod ClashLemmas
+pub mod KindLemmas
+pub mod OptionLemmas
+pub mod BreakLemmas
+pub mod TakenLemmas
+pub mod HasLemmas
+pub mod RateLemmas
+pub mod TurnLemmas
+pub mod RootLemmas
+pub mod StoreLemmas
+pub mod PieceLemmas
+pub mod RightLemmas
+pub mod OneLaws

@@ -1,0 +1,92 @@
+-- No words ask for two things.
+use Rattle.std.proofs.Common.{◌≡◌, List, [], ◌∷◌, ◌++◌, false, refl, sym, ap, ◌∙◌, subst, ◌⊎◌, inl, inr}
+use Rattle.std.specs.Prelude.{codes}
+use Rattle.zi_digest.specs.Name.{spelling, IsDigest}
+use Rattle.zi_digest.specs.declared.Algorithm.{Algorithm}
+use Rattle.zi_digest.specs.declared.Algorithm.TheVariants as algorithm
+use Rattle.zi_digest.specs.declared.DigestName.{DigestName}
+use Rattle.zi_words.specs.declared.request.Request.{Request}
+use Rattle.zi_words.specs.declared.request.Request.TheVariants as request
+use Rattle.zi_words.specs.Forms.{Word}
+use Rattle.zi_words.specs.Options.{spelled, gathered, ask_of}
+use Rattle.zi_words.specs.Store.{word_of, AsksManifest, AsksAdd, AsksVerify, AsksStore}
+use Rattle.zi_words.specs.Words.{EndsOptions, AsksSelect, Right}
+use Rattle.zi_words.proofs.OptionLemmas.{after_none, all_in, no_option_ends, head_same}
+use Rattle.zi_words.proofs.RootLemmas.{ends_next}
+use Rattle.zi_words.proofs.StoreLemmas.{store_add_only, store_verify_only, store_list_only}
+use Rattle.zi_words.proofs.RightLemmas.{select_only, manifest_only, store_only, help_only, version_only}
+
+-- the root of an end
+one_root : (ends : List Word) (root other : Word) → EndsOptions ends → (ends ++ root ∷ [] ≡ other ∷ []) ⊎ (ends ++ root ∷ [] ≡ codes "--" ∷ other ∷ []) → root ≡ other
+one_root ends root other (inl h) (inl e) =
+    let f : root ∷ [] ≡ other ∷ [] = sym (ap (λ v. v ++ root ∷ []) h) ∙ e in (head_same root other [] [] f).0
+one_root ends root other (inl h) (inr e) =
+    let f : root ∷ [] ≡ codes "--" ∷ other ∷ [] = sym (ap (λ v. v ++ root ∷ []) h) ∙ e in
+    let g = (head_same root (codes "--") [] (other ∷ []) f).1 in
+    cc
+one_root ends root other (inr h) (inl e) =
+    let f : codes "--" ∷ root ∷ [] ≡ other ∷ [] = sym (ap (λ v. v ++ root ∷ []) h) ∙ e in
+    let g = (head_same (codes "--") other (root ∷ []) [] f).1 in
+    cc
+one_root ends root other (inr h) (inr e) =
+    let f : codes "--" ∷ root ∷ [] ≡ codes "--" ∷ other ∷ [] = sym (ap (λ v. v ++ root ∷ []) h) ∙ e in
+    let g = (head_same (codes "--") (codes "--") (root ∷ []) (other ∷ []) f).1 in
+    (head_same root other [] [] g).0
+
+one_select : (ws : List Word) (a b : Request) → AsksSelect ws a → AsksSelect ws b → a ≡ b
+one_select ws a b x y =
+    let P : List Word → Type 0 = λ v. AsksSelect v b in
+    let tail = x.ends ++ x.root ∷ [] in
+    let z = all_in x.options [] tail b x.items (after_none (spelled x.options ++ tail) b (subst P x.are y)) in
+    let e = ends_next x.options tail b (λ k t f. no_option_ends k t x.ends x.root (sym f) x.ended x.address) z in
+    let same = one_root x.ends x.root e.root x.ended e.are in
+    x.asked ∙ (ap (λ v. request.Select (ask_of v (gathered x.options)) false) same ∙ sym e.asked)
+
+one_word : (a b : Algorithm) → word_of a ≡ word_of b → a ≡ b
+one_word algorithm.Sha1new algorithm.Sha1new e = refl
+one_word algorithm.Sha1new algorithm.Sha256 e = cc
+one_word algorithm.Sha1new algorithm.Sha256new e = cc
+one_word algorithm.Sha256 algorithm.Sha1new e = cc
+one_word algorithm.Sha256 algorithm.Sha256 e = refl
+one_word algorithm.Sha256 algorithm.Sha256new e = cc
+one_word algorithm.Sha256new algorithm.Sha1new e = cc
+one_word algorithm.Sha256new algorithm.Sha256 e = cc
+one_word algorithm.Sha256new algorithm.Sha256new e = refl
+
+one_manifest : (ws : List Word) (a b : Request) → AsksManifest ws a → AsksManifest ws b → a ≡ b
+one_manifest ws a b (x, n, e, h, p) (y, m, f, i, q) =
+    let g = head_same (word_of x) (word_of y) (n ∷ []) (m ∷ []) (sym e ∙ f) in
+    let j = (head_same n m [] [] g.1).0 in
+    p ∙ (ap (λ v. request.Manifest v n) (one_word x y g.0) ∙ (ap (request.Manifest y) j ∙ sym q))
+
+module _ (one : (x y : DigestName) → IsDigest x → IsDigest y → spelling x ≡ spelling y → x ≡ y) where
+  one_add : (ws : List Word) (a b : Request) → AsksAdd ws a → AsksAdd ws b → a ≡ b
+  one_add ws a b (x, n, e, d, h, p) (y, m, f, c, i, q) =
+      let g = head_same (spelling x) (spelling y) n m (sym e ∙ f) in
+      p ∙ (ap (λ v. request.Add v n) (one x y d c g.0) ∙ (ap (request.Add y) g.1 ∙ sym q))
+
+  one_verify : (ws : List Word) (a b : Request) → AsksVerify ws a → AsksVerify ws b → a ≡ b
+  one_verify ws a b (x, e, d, p) (y, f, c, q) =
+      let g = head_same (spelling x) (spelling y) [] [] (sym e ∙ f) in p ∙ (ap request.Verify (one x y d c g.0) ∙ sym q)
+
+  one_store : (ws : List Word) (a b : Request) → AsksStore ws a → AsksStore ws b → a ≡ b
+  one_store [] a b x y = absurd x
+  one_store (w ∷ ws) a b (inl x) y =
+      let P : Word → Type 0 = λ v. AsksStore (v ∷ ws) b in one_add ws a b x.1 (store_add_only ws b (subst P x.0 y))
+  one_store (w ∷ ws) a b (inr (inl x)) y =
+      let P : Word → Type 0 = λ v. AsksStore (v ∷ ws) b in one_verify ws a b x.1 (store_verify_only ws b (subst P x.0 y))
+  one_store (w ∷ ws) a b (inr (inr x)) y =
+      let P : Word → Type 0 = λ v. AsksStore (v ∷ ws) b in x.2 ∙ sym (store_list_only ws b (subst P x.0 y)).1
+
+  pub one_right : (ws : List Word) (a b : Request) → Right ws a → Right ws b → a ≡ b
+  one_right [] a b x y = absurd x
+  one_right (w ∷ ws) a b (inl x) y =
+      let P : Word → Type 0 = λ v. Right (v ∷ ws) b in one_select ws a b x.1 (select_only ws b (subst P x.0 y))
+  one_right (w ∷ ws) a b (inr (inl (inl x))) y =
+      let P : Word → Type 0 = λ v. Right (v ∷ ws) b in one_manifest ws a b x.1 (manifest_only ws b (subst P x.0 y))
+  one_right (w ∷ ws) a b (inr (inl (inr x))) y =
+      let P : Word → Type 0 = λ v. Right (v ∷ ws) b in one_store ws a b x.1 (store_only ws b (subst P x.0 y))
+  one_right (w ∷ ws) a b (inr (inr (n, inl x))) y =
+      let P : Word → Type 0 = λ v. Right (v ∷ ws) b in x.1 ∙ sym (help_only ws b (subst P x.0 y)).1
+  one_right (w ∷ ws) a b (inr (inr (n, inr x))) y =
+      let P : Word → Type 0 = λ v. Right (v ∷ ws) b in x.1 ∙ sym (version_only ws b (subst P x.0 y)).1

@@ -1,0 +1,33 @@
+use Rattle.std.proofs.Common.{sym, ◌∙◌}
+use Rattle.zi_words.proofs.RightLemmas.{right_none, right_unknown, right_select, right_manifest, right_store, right_help, right_version}
+use Rattle.zi_words.proofs.reader.request.Goals as goal
+
+pub returns-in_default : goal.returns-in_default
+returns-in_default c = right_none c.args.words.now c.in_default.ensures.cases
+
+pub returns-in-select : goal.returns-in-select
+returns-in-select c =
+    right_select c.args.words.now c.in-Some.behind.now c.in-Some.word.now c.select.result c.in-Some.ensures.cases.0 (sym c.as_str.ensures ∙ c.in-select.is) c.select.ensures
+
+pub returns-in-manifest : goal.returns-in-manifest
+returns-in-manifest c =
+    right_manifest c.args.words.now c.in-Some.behind.now c.in-Some.word.now c.manifest.result c.in-Some.ensures.cases.0 (sym c.as_str.ensures ∙ c.in-manifest.is) c.manifest.ensures
+
+pub returns-in-store : goal.returns-in-store
+returns-in-store c =
+    right_store c.args.words.now c.in-Some.behind.now c.in-Some.word.now c.store.result c.in-Some.ensures.cases.0 (sym c.as_str.ensures ∙ c.in-store.is) c.store.ensures
+
+pub returns-in-text : goal.returns-in-text
+returns-in-text c =
+    right_help c.args.words.now c.in-Some.behind.now c.in-Some.word.now c.ended.result c.in-Some.ensures.cases.0 (sym c.as_str.ensures ∙ c.in-text.is) c.ended.ensures
+
+pub returns-in-text-2 : goal.returns-in-text-2
+returns-in-text-2 c =
+    right_version c.args.words.now c.in-Some.behind.now c.in-Some.word.now c.ended-in-text-2.result c.in-Some.ensures.cases.0 (sym c.as_str.ensures ∙ c.in-text-2.is) c.ended-in-text-2.ensures
+
+pub returns-in_default-as_str : goal.returns-in_default-as_str
+returns-in_default-as_str c =
+    let is = c.as_str.ensures in
+    right_unknown c.args.words.now c.in-Some.behind.now c.in-Some.word.now c.in-Some.ensures.cases.0 (λ e. c.in_default-as_str.not-select (is ∙ e))
+    (λ e. c.in_default-as_str.not-manifest (is ∙ e)) (λ e. c.in_default-as_str.not-store (is ∙ e)) (λ e. c.in_default-as_str.not-text (is ∙ e))
+    (λ e. c.in_default-as_str.not-text-2 (is ∙ e))

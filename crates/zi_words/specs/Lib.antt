@@ -1,0 +1,6 @@
+pub mod Forms
+pub mod Options
+pub mod Store
+pub mod Words
+pub mod Refused
+pub mod Taken

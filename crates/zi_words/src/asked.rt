@@ -1,0 +1,39 @@
+use zi_policy::{Network, Override, Stability};
+use zi_text::{List, Text};
+use zi_version::Range;
+
+/// Versions wanted of an interface; without one, of the program's.
+#[derive(Debug, Drop)]
+pub struct Limit {
+    /// The interface's address, if it isn't the program's.
+    pub interface: Option<Text>,
+    /// The versions.
+    pub range: Range,
+}
+
+/// What the options that were read say, each list in their order.
+#[derive(Debug, Drop)]
+pub struct Asked {
+    /// Whether `--no-command` stands.
+    pub no_command: bool,
+    /// Whether `--version` stands.
+    pub version: bool,
+    /// The limits of `--version` and `--version-for`.
+    pub limits: List<Limit>,
+    /// The operating system of `--os`.
+    pub os: Option<Text>,
+    /// The machine of `--cpu`.
+    pub cpu: Option<Text>,
+    /// The languages of `--lang`.
+    pub langs: List<Text>,
+    /// The level of `--level`.
+    pub level: Option<Stability>,
+    /// The network of `--network`.
+    pub network: Option<Network>,
+    /// The uses of `--use`.
+    pub uses: List<Text>,
+    /// The stabilities of `--rate`.
+    pub overrides: List<Override>,
+    /// The budget of `--search`.
+    pub search: Option<u64>,
+}

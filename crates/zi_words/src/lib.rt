@@ -1,0 +1,19 @@
+//! The words of the command line: which are right, and what they ask for.
+//! A command word, its options with their arguments, and its named words; each right list of words asks for one thing.
+//! Other words are refused with the number of words in their longest front that right words begin with.
+#![tactic(auto)]
+
+mod arguments;
+mod asked;
+mod kind;
+pub mod laws;
+mod options;
+mod reader;
+mod refusal;
+mod request;
+mod select;
+mod store;
+#[cfg(test)]
+mod tests;
+
+pub use request::{Ask, Request, Wanted, WordsFault};

@@ -1,0 +1,54 @@
+//! All words, by the command word.
+
+ghost use Rattle.std.specs.Prelude.{MatchResult};
+ghost use Rattle.zi_words.specs.Words.{Right, FaultMeans};
+ghost use Rattle.zi_words.specs.Refused.{Refused};
+
+use crate::refusal::Refusal;
+use crate::request::{Request, WordsFault};
+use crate::select::select;
+use crate::store::{ended, manifest, store};
+use std::alloc::Global;
+use zi_text::Text;
+
+// The request of all words.
+fn request(alloc: Global, words: &[Text]) -> Result<Request, Refusal>
+    ensures { MatchResult result (Right words.now) (Refused Right words.now) }
+{
+    let Some((word, behind)) = words.split_first() else {
+        return Err(Refusal::Left(0));
+    };
+    match word.as_str() {
+        "select" => select(alloc, behind),
+        "manifest" => manifest(alloc, behind),
+        "store" => store(alloc, behind),
+        "--help" => ended(Request::Help, behind),
+        "--version" => ended(Request::Version, behind),
+        _ => Err(Refusal::Left(words.len())),
+    }
+}
+
+impl Request {
+    /// What the words of a command line ask for, the program's own name left out.
+    ///
+    /// Right words are `select [options] ROOT`, `manifest ALG NAME`, `store add NAME FILE..`, `store verify NAME`,
+    /// `store list`, and `--help` or `--version` alone. The options and what each sets are in `Kind`; they come before ROOT,
+    /// `--` may end them, and `--no-command` must be one of them. A word that looks like an option is a value where a value
+    /// stands.
+    ///
+    /// `Usage` is answered exactly where no request is right for the words. Its index counts from 0: it is the number of
+    /// words in their longest front that is also a front of some right list of words. `Memory` is answered where memory was
+    /// refused, and says nothing of the words. The work is linear in the words, but for a search in a sorted set for each
+    /// `--rate`.
+    pub fn read(alloc: Global, words: &[Text]) -> Result<Request, WordsFault>
+        ensures { MatchResult result (Right words.now) (FaultMeans words.now) }
+    {
+        match request(alloc, words) {
+            Ok(request) => Ok(request),
+            Err(Refusal::Left(left)) => Err(WordsFault::Usage {
+                index: (words.len() - left) as u64,
+            }),
+            Err(Refusal::Memory) => Err(WordsFault::Memory),
+        }
+    }
+}

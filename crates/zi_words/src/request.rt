@@ -1,0 +1,59 @@
+//! What the words of the command line can ask for.
+
+use zi_digest::{Algorithm, DigestName};
+use zi_policy::Policy;
+use zi_text::{List, Text};
+use zi_version::Range;
+
+/// The versions of an interface that are wanted.
+#[derive(Debug, Drop)]
+pub struct Wanted {
+    /// The interface's address.
+    pub interface: Text,
+    /// The versions.
+    pub range: Range,
+}
+
+/// Which program is wanted, and how it is to be chosen.
+#[derive(Debug, Drop)]
+pub struct Ask {
+    /// The address of the program's interface.
+    pub root: Text,
+    /// The command of it that is wanted, if any.
+    pub command: Option<Text>,
+    /// Versions that are wanted, in the order of the words.
+    pub limits: List<Wanted>,
+    /// The platform, the languages and the like; the lists stand in the order of the words.
+    pub policy: Policy,
+    /// The greatest number of lemmas that the search may learn.
+    pub search: u64,
+}
+
+/// What is asked for.
+#[derive(Debug, Drop)]
+pub enum Request {
+    /// `select`: the selections of a program, or with `proof` the proof that they are the best.
+    Select { ask: Ask, proof: bool },
+    /// `manifest`: the manifest and the digest of a tree in the store, under its name there.
+    Manifest { algorithm: Algorithm, name: Text },
+    /// `store add`: these files as a tree of the store with this digest.
+    Add { name: DigestName, files: List<Text> },
+    /// `store verify`: whether a tree of the store has its digest.
+    Verify { name: DigestName },
+    /// `store list`: the digest names in the store.
+    Names,
+    /// `--help`: the commands and options.
+    Help,
+    /// `--version`: which program this is.
+    Version,
+}
+
+/// Why words ask for nothing.
+#[derive(Clone, Copy, Debug, PartialEq, Eq)]
+pub enum WordsFault {
+    /// They aren't right. The index, from 0, is the number of words in their longest front that is also a front of some
+    /// right list of words: that of the first wrong word, or of the words where one is missing at the end.
+    Usage { index: u64 },
+    /// Memory was refused.
+    Memory,
+}
