@@ -1,0 +1,6 @@
+pub mod TopsLemmas
+pub mod HalvesLemmas
+pub mod DoingLemmas
+pub mod ReadingLemmas
+pub mod FillingLemmas
+pub mod FilledLemmas

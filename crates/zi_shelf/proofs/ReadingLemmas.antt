@@ -1,0 +1,259 @@
+-- What each call that reads a shelf in memory answers, as the shelf tells it.
+use Rattle.std.proofs.Common.{nat_eq, ◌≡◌, ℕ, zero, suc, ◌+◌, ◌<◌, ◌≤◌, ◌↔◌, Bool, true, false, ◌&&◌, List, [], ◌∷◌, ◌++◌, map, take, drop, length, option_map, ℤ, Some, None, Ok, ◌⊎◌, inl, inr, refl, sym, ◌∙◌, ap, subst, IsSome, bytes_eq, arith, append_assoc, add-one, get_or, if◌then◌else◌}
+use Rattle.std.specs.List.{list_any}
+use Rattle.std.proofs.lemmas.List.{length-take, length-drop, length-map}
+use Rattle.std.proofs.Math.Seq.{take-suc}
+use Rattle.zi_tree.specs.Dir.{Dir, Nothing, AFile, ALink, AFolder}
+use Rattle.zi_tree.specs.declared.tree.TreeNode.{TreeNode}
+use Rattle.zi_tree.specs.declared.tree.TreeNode.TheVariants.{File, Link, Folder}
+use Rattle.zi_tree.specs.Views.{Item}
+use Rattle.zi_tree.specs.Paths.{items, node_in, name_in, node_of, found}
+use Rattle.zi_tree.specs.Order.{is_tree, is_before}
+use Rattle.std.specs.Ordering.{is_lt}
+use Rattle.zi_tree.proofs.Order.{cmp, lt_apart, parts}
+use Rattle.zi_shelf.specs.Names.{Name, IsIn}
+use Rattle.zi_shelf.specs.Shelved.{Top, Shelved, Reply, Did, Failed, Memory}
+use Rattle.zi_shelf.specs.declared.shelf.ShelfFault.{ShelfFault}
+use Rattle.zi_shelf.specs.declared.shelf.ShelfFault.TheVariants.{Failed as FailedCall, Memory as NoMemory}
+use Rattle.zi_shelf.specs.declared.shelf.Entry.{Entry}
+use Rattle.zi_shelf.specs.declared.shelf.EntryKind.{EntryKind}
+use Rattle.zi_shelf.specs.declared.top_entry.TopEntry.{TopEntry}
+use Rattle.zi_shelf.specs.declared.top_entry.Later.{Later}
+use Rattle.zi_shelf.specs.declared.call.ShelfCall.{ShelfCall}
+use Rattle.zi_shelf.specs.declared.call.CallKind.TheVariants as kind
+use Rattle.zi_shelf.specs.declared.shelf.Listed.TheVariants as listed_as
+use Rattle.zi_shelf.specs.Told.{Told, FailsAsPlanned, recorded, fault_reply, spelled, plain_call}
+use Rattle.zi_shelf.specs.Reading.{Question, Names, Entries, Read, Target, question_call, Reads, FitsReading, SureReading, NamesAnswer, EntriesAnswer, ReadAnswer, TargetAnswer, AreDistinct, ListsAll, IsPiece, kind_of, folder_at}
+use Rattle.zi_shelf.specs.Memory.{top_of, tops_of, are_apart, told_of, IsAt}
+use Rattle.zi_shelf.proofs.TopsLemmas.{test_true, test_false, test_refl, apart_parts, is_apart, and_parts, found_at}
+use Rattle.zi_shelf.proofs.DoingLemmas.{shelved, calls_more, not_planned}
+
+-- a call that reads leaves the shelf, and is recorded
+pub reads : (es : List TopEntry) (ps : List Later) (cs cs' : List ShelfCall) (q : Question) (reply : Reply) (answer : Shelved Dir → Type 0) → answer (shelved es ps)
+    → cs' ≡ recorded cs (question_call q) reply → Reads (Unit {0}) (Some (told_of es ps cs)) q reply answer (Some (told_of es ps cs'))
+reads es ps cs cs' q reply answer holds calls = record {
+  leads = λ s honest e.
+      let same : told_of es ps cs ≡ s = cc e in (
+        told_of es ps cs',
+        refl,
+        ap (λ (x : Told). x.shelf) same,
+        subst (λ (x : Told). cs' ≡ recorded x.calls (question_call q) reply) same calls,
+        subst (λ (x : Told). answer x.shelf) same holds,
+      );
+}
+
+-- a call that reads and fails
+pub reads_fault : (es : List TopEntry) (ps : List Later) (cs cs' : List ShelfCall) (c : ShelfCall) (q : Question) (fault : ShelfFault) (answer : Shelved Dir → Type 0) {Q R : Type 0} → c ≡ question_call q → answer (shelved es ps)
+    → (fault ≡ FailedCall → (cs' ≡ cs ++ c ∷ []) × Q) → (fault ≡ NoMemory → (cs' ≡ cs) × R)
+    → Reads (Unit {0}) (Some (told_of es ps cs)) q (fault_reply fault) answer (Some (told_of es ps cs'))
+reads_fault es ps cs cs' c q FailedCall answer e holds failed memory = reads es ps cs cs' q Failed answer holds (calls_more cs cs' c (question_call q) (failed refl).0 e)
+reads_fault es ps cs cs' c q NoMemory answer e holds failed memory = reads es ps cs cs' q Memory answer holds (memory refl).0
+
+-- a call that isn't among those that are to fail
+pub unplanned : (plan plan' : List ℕ) (es : List TopEntry) (ps : List Later) (cs cs' : List ShelfCall) (test : Bool) (reply : Reply) → plan' ≡ plan → cs' ≡ cs → test ≡ list_any (λ k. nat_eq k (length cs' + 1)) plan' → test ≡ false
+    → FailsAsPlanned plan (Some (told_of es ps cs)) reply
+unplanned plan plan' es ps cs cs' test reply ep ec et off =
+    not_planned plan es ps cs (length cs' + 1) reply (ap (λ (l : List ShelfCall). length l + 1) ec) (subst (λ (l : List ℕ). list_any (λ k. nat_eq k (length cs' + 1)) l ≡ false) ep (sym et ∙ off))
+
+-- a call that doesn't fit may raise the count of a sure shelf
+pub no_fit : (es : List TopEntry) (ps : List Later) (cs : List ShelfCall) (q : Question) (before now : ℕ) → (FitsReading (shelved es ps) q → ⊥) → SureReading (Some (told_of es ps cs)) q before now
+no_fit es ps cs q before now wrong = record {
+  no_rise = λ s e fits. let same : told_of es ps cs ≡ s = cc e in absurd (wrong (subst (λ (x : Told). FitsReading x.shelf q) (sym same) fits));
+}
+
+-- the entry that was found
+pub top_at : (es : List TopEntry) (n : Name) (i : ℕ) (x : TopEntry) → IsAt n es i → x ≡ get_or es i x → tops_of es n ≡ Some (top_of x)
+top_at es n i x at is = found_at es n i x at ∙ ap (λ (t : TopEntry). Some (top_of t)) (sym is)
+
+pub wrong_kind : (P : Dir → Type 0) (es : List TopEntry) (n : Name) (i : ℕ) (x : TopEntry) → IsAt n es i → x ≡ get_or es i x → (P x.tree → ⊥) → (e : Top Dir) × (tops_of es n ≡ Some e) × P e.tree → ⊥
+wrong_kind P es n i x at is wrong (e, there, kind) =
+    let same : e ≡ top_of x = let t = top_at es n i x at is in cc (t, there) in
+    wrong (subst (λ (t : Top Dir). P t.tree) same kind)
+
+pub no_folder : (es : List TopEntry) (n : Name) (path : List Name) (i : ℕ) (x : TopEntry) → IsAt n es i → x ≡ get_or es i x → None ≡ folder_at path x.tree → ((e : Top Dir) → tops_of es n ≡ Some e → IsSome (folder_at path e.tree)) → ⊥
+no_folder es n path i x at is none fits = let some = fits (top_of x) (top_at es n i x at is) in cc (some, none)
+
+-- one part more
+pub spelled_first : (xs : List (List ℕ)) (y : List ℕ) → xs ≡ [] → spelled (xs ++ y ∷ []) ≡ y
+spelled_first xs y e = ap (λ (l : List (List ℕ)). spelled (l ++ y ∷ [])) e
+
+spelled_after : (x : List ℕ) (xs : List (List ℕ)) (y : List ℕ) → spelled ((x ∷ xs) ++ y ∷ []) ≡ spelled (x ∷ xs) ++ 47 ∷ y
+spelled_after x [] y = refl
+spelled_after x (z ∷ xs) y = ap (λ (l : List ℕ). x ++ 47 ∷ l) (spelled_after z xs y) ∙ sym (append_assoc x (47 ∷ spelled (z ∷ xs)) (47 ∷ y))
+
+pub spelled_more : (xs : List (List ℕ)) (y : List ℕ) → 0 < length xs → spelled (xs ++ y ∷ []) ≡ spelled xs ++ 47 ∷ y
+spelled_more [] y h = absurd (omega arith)
+spelled_more (x ∷ xs) y h = spelled_after x xs y
+
+take_next : (xs : List (List ℕ)) (i : ℕ) (part : List ℕ) → i < length xs → part ≡ get_or xs i part → take (i + 1) xs ≡ take i xs ++ part ∷ []
+take_next xs i part h e = rw add-one (take-suc xs i part h ∙ ap (λ (p : List ℕ). take i xs ++ p ∷ []) (sym e))
+
+pub step_first : (xs : List (List ℕ)) (i : ℕ) (text after part : List ℕ) → i < length xs → text ≡ spelled (take i xs) → i ≤ 0 → part ≡ get_or xs i part → after ≡ text ++ part → after ≡ spelled (take (i + 1) xs)
+step_first xs i text after part h e none is made =
+    let zero_is : i ≡ 0 = omega arith in
+    let empty : text ≡ [] = e ∙ ap (λ k. spelled (take k xs)) zero_is in
+    made ∙ ap (λ (t : List ℕ). t ++ part) empty ∙ sym (ap spelled (take_next xs i part h is) ∙ spelled_first (take i xs) part (ap (λ k. take k xs) zero_is))
+
+pub step_after : (xs : List (List ℕ)) (i : ℕ) (text slash after part : List ℕ) → i < length xs → text ≡ spelled (take i xs) → 0 < i → slash ≡ text ++ 47 ∷ [] → part ≡ get_or xs i part → after ≡ slash ++ part → after ≡ spelled (take (i + 1) xs)
+step_after xs i text slash after part h e some cut is made =
+    let long : 0 < length (take i xs) = rw length-take (omega arith) in
+    made ∙ ap (λ (t : List ℕ). t ++ part) (cut ∙ ap (λ (t : List ℕ). t ++ 47 ∷ []) e) ∙ append_assoc (spelled (take i xs)) (47 ∷ []) part
+    ∙ sym (ap spelled (take_next xs i part h is) ∙ spelled_more (take i xs) part long)
+
+-- the names of the entries
+abbrev pub names : List TopEntry → List Name
+names es = map (λ (e : TopEntry). e.name) es
+
+in_is_some : (es : List TopEntry) (n : Name) → IsIn n (names es) → IsSome (tops_of es n)
+in_is_some [] n h = absurd h
+in_is_some (e ∷ es) n (inl same) = rw (same, test_refl e.name) refl
+in_is_some (e ∷ es) n (inr h) = elim (bytes_eq e.name n) as (λ t. IsSome (if t then Some (top_of e) else tops_of es n)) [ true ↦ refl | false ↦ in_is_some es n h ]
+
+some_is_in : (es : List TopEntry) (n : Name) → IsSome (tops_of es n) → IsIn n (names es)
+some_is_in [] n h = absurd (cc h)
+some_is_in (e ∷ es) n h =
+    elim (bytes_eq e.name n) as (λ t. bytes_eq e.name n ≡ t → IsSome (if t then Some (top_of e) else tops_of es n) → IsIn n (names (e ∷ es))) [
+      | true ↦ λ test found. inl (sym (test_true e.name n test))
+      | false ↦ λ test found. inr (some_is_in es n found)
+    ] refl h
+
+none_not_in : (es : List TopEntry) (n : Name) → tops_of es n ≡ None → IsIn n (names es) → ⊥
+none_not_in es n none h = let some = in_is_some es n h in cc (some, none)
+
+names_distinct : (es : List TopEntry) → are_apart es ≡ true → AreDistinct (names es)
+names_distinct [] h = tt
+names_distinct (e ∷ es) h = let p = apart_parts e es h in (none_not_in es e.name p.0, names_distinct es p.1)
+
+pub names_answer : (es : List TopEntry) → are_apart es ≡ true → AreDistinct (names es) × ((n : Name) → IsIn n (names es) ↔ IsSome (tops_of es n))
+names_answer es h = (names_distinct es h, λ n. (in_is_some es n, some_is_in es n))
+
+-- what a listing says of the entries of a folder
+abbrev pub entry_of : Item → Entry
+entry_of i = record { name = i.0; kind = kind_of i.1 }
+
+abbrev pub listed : List Item → List Entry
+listed is = map entry_of is
+
+pub listed_more : (is : List Item) (i : ℕ) (es : List Entry) (n : Name) (x : TreeNode) (k : EntryKind) → es ≡ take i (listed is) → name_in is i ≡ Some n → node_of is i ≡ Some x → k ≡ kind_of x
+    → es ++ record { name = n; kind = k } ∷ [] ≡ take (suc i) (listed is)
+listed_more [] i es n x k e en ex ek = absurd (cc en)
+listed_more (j ∷ is) zero es n x k e en ex ek =
+    let name : j.0 ≡ n = cc en in
+    let node : j.1 ≡ x = cc ex in
+    let kind : k ≡ kind_of j.1 = ek ∙ ap kind_of (sym node) in
+    rw (e, ← name, kind) refl
+listed_more (j ∷ is) (suc i) es n x k e en ex ek =
+    ap (λ (l : List Entry). l ++ record { name = n; kind = k } ∷ []) e ∙ ap (λ (l : List Entry). entry_of j ∷ l) (listed_more is i (take i (listed is)) n x k refl en ex ek)
+
+pub listed_next : (is : List Item) (i : ℕ) (es es' : List Entry) (n m : Name) (x : TreeNode) (k : EntryKind) → es ≡ take i (listed is) → name_in is i ≡ Some n → m ≡ n → node_of is i ≡ Some x → k ≡ kind_of x
+    → es' ≡ es ++ record { name = m; kind = k } ∷ [] → es' ≡ take (i + 1) (listed is)
+listed_next is i es es' n m x k e en em ex ek made = rw add-one (made ∙ listed_more is i es m x k e (en ∙ ap Some (sym em)) ex ek)
+
+take_past : (n : ℕ) (es : List Entry) → length es ≤ n → take n es ≡ es
+take_past zero [] h = refl
+take_past zero (e ∷ es) h = absurd (omega arith)
+take_past (suc n) [] h = refl
+take_past (suc n) (e ∷ es) h = ap (λ (l : List Entry). e ∷ l) (take_past n es (omega arith))
+
+-- each name stands once among the entries
+abbrev Apart : List Item → Type 0
+Apart [] = Unit {0}
+Apart (i ∷ is) = (node_in i.0 is ≡ None) × Apart is
+
+absent_first : (n m : Name) (before : Bool) → (is_lt (cmp n m) && before) ≡ true → (bytes_eq m n ≡ false) × (before ≡ true)
+absent_first n m before h = let p = and_parts (is_lt (cmp n m)) before h in (test_false m n (λ e. is_apart n m (lt_apart n m p.0) (sym e)), p.1)
+
+absent : (n : Name) (d : Dir) → is_before n d ≡ true → node_in n (items d) ≡ None
+absent n Nothing h = refl
+absent n (AFile m b e t rest) h = let p = absent_first n m (is_before n rest) h in rw p.0 (absent n rest p.1)
+absent n (ALink m t rest) h = let p = absent_first n m (is_before n rest) h in rw p.0 (absent n rest p.1)
+absent n (AFolder m inside rest) h = let p = absent_first n m (is_before n rest) h in rw p.0 (absent n rest p.1)
+
+tree_apart : (d : Dir) → is_tree d ≡ true → Apart (items d)
+tree_apart Nothing h = tt
+tree_apart (AFile n b e t rest) h = let p = parts n (File b e t) rest h in (absent n rest p.before, tree_apart rest p.rest_)
+tree_apart (ALink n t rest) h = let p = parts n (Link t) rest h in (absent n rest p.before, tree_apart rest p.rest_)
+tree_apart (AFolder n inside rest) h = let p = parts n (Folder inside) rest h in (absent n rest p.before, tree_apart rest p.rest_)
+
+in_listed : (is : List Item) (n : Name) (k : EntryKind) → Apart is → IsIn (record { name = n; kind = k }) (listed is) → option_map kind_of (node_in n is) ≡ Some k
+in_listed [] n k a h = absurd h
+in_listed (j ∷ is) n k a (inl same) =
+    let name : n ≡ j.0 = ap (λ (x : Entry). x.name) same in
+    let kind : kind_of j.1 ≡ k = sym (ap (λ (x : Entry). x.kind) same) in
+    rw (name, test_refl j.0) (ap Some kind)
+in_listed (j ∷ is) n k a (inr h) =
+    let rest = in_listed is n k a.1 h in
+    let other : j.0 ≡ n → ⊥ = λ e. let none : node_in n is ≡ None = rw (← e) a.0 in let wrong : None ≡ Some k = sym (ap (option_map kind_of) none) ∙ rest in cc in
+    rw (test_false j.0 n other) rest
+
+listed_in : (is : List Item) (n : Name) (k : EntryKind) → option_map kind_of (node_in n is) ≡ Some k → IsIn (record { name = n; kind = k }) (listed is)
+listed_in [] n k h = absurd (cc h)
+listed_in (j ∷ is) n k h =
+    elim (bytes_eq j.0 n) as (λ t. bytes_eq j.0 n ≡ t → option_map kind_of (if t then Some j.1 else node_in n is) ≡ Some k → IsIn (record { name = n; kind = k }) (listed (j ∷ is))) [
+      | true ↦ λ test there. let name : n ≡ j.0 = sym (test_true j.0 n test) in let kind : k ≡ kind_of j.1 = cc there in inl (rw (name, kind) refl)
+      | false ↦ λ test there. inr (listed_in is n k there)
+    ] refl h
+
+named_is_some : (is : List Item) (n : Name) → IsIn n (map (λ (e : Entry). e.name) (listed is)) → IsSome (node_in n is)
+named_is_some [] n h = absurd h
+named_is_some (j ∷ is) n (inl same) = rw (same, test_refl j.0) refl
+named_is_some (j ∷ is) n (inr h) = elim (bytes_eq j.0 n) as (λ t. IsSome (if t then Some j.1 else node_in n is)) [ true ↦ refl | false ↦ named_is_some is n h ]
+
+listed_distinct : (is : List Item) → Apart is → AreDistinct (map (λ (e : Entry). e.name) (listed is))
+listed_distinct [] a = tt
+listed_distinct (j ∷ is) a = (λ h. let some = named_is_some is j.0 h in cc (some, a.0), listed_distinct is a.1)
+
+pub lists_all : (d : Dir) → is_tree d ≡ true → ListsAll (listed (items d)) d
+lists_all d h = let a = tree_apart d h in (listed_distinct (items d) a, λ n k. (in_listed (items d) n k a, listed_in (items d) n k))
+
+pub lists_whole : (d : Dir) (i : ℕ) (es : List Entry) → es ≡ take i (listed (items d)) → length (items d) ≤ i → is_tree d ≡ true → ListsAll es d
+lists_whole d i es e past h =
+    let whole : es ≡ listed (items d) = e ∙ take_past i (listed (items d)) (omega (arith, length-map (items d) entry_of)) in
+    subst (λ (l : List Entry). ListsAll l d) (sym whole) (lists_all d h)
+
+no_bytes : (bytes : List ℕ) → length bytes ≡ 0 → bytes ≡ []
+no_bytes [] h = refl
+no_bytes (b ∷ bytes) h = absurd (omega arith)
+
+ends : (bytes : List ℕ) (offset max : ℕ) → (max ≡ 0) ⊎ ((take max (drop offset bytes) ≡ []) ↔ (length bytes ≤ offset))
+ends bytes offset zero = inl refl
+ends bytes offset (suc m) = inr (
+  λ e. omega (arith, ap length e, length-take (suc m) (drop offset bytes), length-drop offset bytes),
+  λ h. no_bytes (take (suc m) (drop offset bytes)) (omega (arith, length-take (suc m) (drop offset bytes), length-drop offset bytes)),
+)
+
+-- every byte from the offset on, up to so many
+pub piece_few : (bytes : List ℕ) (max : ℕ) → length (take max bytes) ≤ max
+piece_few bytes max = omega (arith, length-take max bytes)
+
+pub piece_is : (bytes : List ℕ) (offset max : ℕ) → IsPiece bytes offset max (take max (drop offset bytes))
+piece_is bytes offset max = record { number = max; is = refl; few = piece_few (drop offset bytes) max; end = ends bytes offset max }
+
+-- the answers of the calls that read
+pub names_read : (es : List TopEntry) (ps : List Later) (cs cs' : List ShelfCall) (c : ShelfCall) (ns : List Name) → are_apart es ≡ true → ns ≡ names es → cs' ≡ cs ++ c ∷ [] → c ≡ question_call Names
+    → Reads (Unit {0}) (Some (told_of es ps cs)) Names Did (NamesAnswer (Ok ns)) (Some (told_of es ps cs'))
+names_read es ps cs cs' c ns apart is e f =
+    reads es ps cs cs' Names Did (NamesAnswer (Ok ns)) (subst (λ (l : List Name). NamesAnswer (Ok l) (shelved es ps)) (sym is) (names_answer es apart)) (calls_more cs cs' c (question_call Names) e f)
+
+pub entries_read : (es : List TopEntry) (ps : List Later) (cs cs' : List ShelfCall) (c : ShelfCall) (n place : Name) (path : List Name) (i : ℕ) (x : TopEntry) (d : Dir) (ls : List Entry) → IsAt n es i → x ≡ get_or es i x → Some d ≡ folder_at path x.tree → ListsAll ls d
+    → cs' ≡ cs ++ c ∷ [] → c ≡ plain_call kind.Entries n place → place ≡ spelled path
+    → Reads (Unit {0}) (Some (told_of es ps cs)) (Entries n path) Did (EntriesAnswer n path (Ok (listed_as.Entries ls))) (Some (told_of es ps cs'))
+entries_read es ps cs cs' c n place path i x d ls at is there all e f g =
+    reads es ps cs cs' (Entries n path) Did (EntriesAnswer n path (Ok (listed_as.Entries ls))) (top_of x, d, top_at es n i x at is, sym there, all) (calls_more cs cs' c (question_call (Entries n path)) e (f ∙ ap (λ p. plain_call kind.Entries n p) g))
+
+pub file_read : (es : List TopEntry) (ps : List Later) (cs cs' : List ShelfCall) (c : ShelfCall) (n place : Name) (path : List Name) (offset max i : ℕ) (x : TopEntry) (bytes piece old new : List ℕ) → IsAt n es i → x ≡ get_or es i x
+    → (exec : Bool) × (mtime : ℤ) × (found path x.tree ≡ Some (File bytes exec mtime)) → piece ≡ take max (drop offset bytes) → new ≡ old ++ piece
+    → cs' ≡ cs ++ record c { offset = offset; max = max } ∷ [] → c ≡ plain_call kind.Read n place → place ≡ spelled path
+    → Reads (Unit {0}) (Some (told_of es ps cs)) (Read n path offset max) Did (ReadAnswer {T = Unit {0}} n path offset max old (Ok tt) new) (Some (told_of es ps cs'))
+file_read es ps cs cs' c n place path offset max i x bytes piece old new at is (exec, mtime, there) cut made e f g =
+    let whole : IsPiece bytes offset max piece = subst (λ (l : List ℕ). IsPiece bytes offset max l) (sym cut) (piece_is bytes offset max) in
+    let call : record c { offset = offset; max = max } ≡ question_call (Read n path offset max) = ap (λ (k : ShelfCall). let l : ShelfCall = record k { offset = offset; max = max } in l) (f ∙ ap (λ p. plain_call kind.Read n p) g) in
+    reads es ps cs cs' (Read n path offset max) Did (ReadAnswer {T = Unit {0}} n path offset max old (Ok tt) new) (top_of x, bytes, exec, mtime, piece, top_at es n i x at is, there, made, whole)
+    (calls_more cs cs' (record c { offset = offset; max = max }) (question_call (Read n path offset max)) e call)
+
+pub link_read : (es : List TopEntry) (ps : List Later) (cs cs' : List ShelfCall) (c : ShelfCall) (n place : Name) (path : List Name) (i : ℕ) (x : TopEntry) (text text' : List ℕ) → IsAt n es i → x ≡ get_or es i x
+    → found path x.tree ≡ Some (Link text) → text' ≡ text → cs' ≡ cs ++ c ∷ [] → c ≡ plain_call kind.Target n place → place ≡ spelled path
+    → Reads (Unit {0}) (Some (told_of es ps cs)) (Target n path) Did (TargetAnswer n path (Ok text')) (Some (told_of es ps cs'))
+link_read es ps cs cs' c n place path i x text text' at is there copied e f g =
+    let there' : found path x.tree ≡ Some (Link text') = there ∙ ap (λ (t : List ℕ). Some (Link t)) (sym copied) in
+    reads es ps cs cs' (Target n path) Did (TargetAnswer n path (Ok text')) (top_of x, top_at es n i x at is, there') (calls_more cs cs' c (question_call (Target n path)) e (f ∙ ap (λ p. plain_call kind.Target n p) g))

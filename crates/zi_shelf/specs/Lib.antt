@@ -1,0 +1,10 @@
+pub mod Names
+pub mod Shelved
+pub mod Crash
+pub mod Filling
+pub mod Fillings
+pub mod Told
+pub mod Reading
+pub mod Memory
+pub mod InMemory
+pub mod FittingLaw
