@@ -1,0 +1,10 @@
+pub mod FineLemmas
+pub mod ForestLemmas
+pub mod BitLemmas
+pub mod ParsedLemmas
+pub mod NamesLemmas
+pub mod ToldLemmas
+pub mod BackLaws
+pub mod TwiceLemmas
+pub mod WalkLemmas
+pub mod TextLemmas

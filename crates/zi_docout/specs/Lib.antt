@@ -1,0 +1,4 @@
+pub mod Canonical
+pub mod Amiss
+pub mod Same
+pub mod Answers

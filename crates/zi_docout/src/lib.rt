@@ -1,0 +1,18 @@
+//! The canonical text of a tree: one document in XML 1.0 for each tree of elements of the injector's namespace.
+//! What is written is read by `zi_doc::read` as the same tree, places and white space between elements aside.
+//! A tree that can't be written so is refused with the number of the first element that is amiss.
+#![tactic(auto)]
+
+mod amiss;
+mod escapes;
+mod fault;
+mod laws;
+mod writer;
+
+pub use fault::WriteFault;
+pub use laws::what_is_written_is_read;
+pub use writer::write;
+pub use zi_elements::{Attr, Element, Node};
+
+#[cfg(test)]
+mod tests;

@@ -1,0 +1,239 @@
+use crate::{Attr, Element, Node, WriteFault, write};
+use std::alloc::Global;
+use std::test::Fail;
+use zi_doc::read;
+use zi_text::{List, Memory, Text};
+
+const NAMESPACE: &str = "http://zero-install.sourceforge.net/2004/injector/interface";
+
+fn element(alloc: Global, name: &str, children: List<Node>) -> Result<Element, Memory> {
+    Ok(Element {
+        space: Text::from_str(alloc, NAMESPACE)?,
+        name: Text::from_str(alloc, name)?,
+        attrs: List::new(alloc),
+        children,
+        place: 7,
+    })
+}
+
+fn attr(alloc: Global, space: &str, name: &str, value: &str) -> Result<Attr, Memory> {
+    Ok(Attr {
+        space: Text::from_str(alloc, space)?,
+        name: Text::from_str(alloc, name)?,
+        value: Text::from_str(alloc, value)?,
+    })
+}
+
+// The number of the first element that can't be written, where there is one.
+fn refused(alloc: Global, root: &Element) -> Result<Option<u64>, Memory> {
+    let mut into = Vec::new(alloc);
+    match write(alloc, root, &mut into) {
+        Ok(()) => Ok(None),
+        Err(WriteFault::Unwritable { place }) => Ok(Some(place)),
+        Err(WriteFault::Memory) => Err(Memory),
+    }
+}
+
+// An element with a text of `&` is written behind what is there.
+#[test]
+fn a_value_and_a_text_are_escaped(rt: HostRuntime) -> Result<(), Fail> {
+    let alloc = rt.alloc();
+    let mut children = List::new(alloc);
+    children.push(Node::Words(Text::from_str(alloc, "p&q")?))?;
+    let mut root = element(alloc, "x", children)?;
+    root.attrs.push(attr(alloc, "", "a", "1<2")?)?;
+    let mut into = vec![in alloc; b'!']?;
+    assert_eq!(rt; write(alloc, &root, &mut into), Ok(()));
+    assert_eq!(rt;
+        into.as_slice(),
+        b"!<?xml version=\"1.0\" encoding=\"utf-8\"?>\n<x xmlns=\"http://zero-install.sourceforge.net/2004/injector/interface\" a=\"1&lt;2\">p&amp;q</x>\n".as_slice()
+    );
+    Ok(())
+}
+
+#[test]
+fn a_name_with_a_space_is_unwritable(rt: HostRuntime) -> Result<(), Fail> {
+    let root = element(rt.alloc(), "a b", List::new(rt.alloc()))?;
+    assert_eq!(rt; refused(rt.alloc(), &root)?, Some(0));
+    Ok(())
+}
+
+// Each document, read and written, is this text behind the root's declaration of its namespace.
+#[test]
+fn layout_is_canonical(rt: HostRuntime) -> Result<(), Fail> {
+    let rows: [(&[u8], &[u8]); 6] = [
+        (
+            b"<a xmlns='http://zero-install.sourceforge.net/2004/injector/interface'/>",
+            b"/>\n",
+        ),
+        (
+            b"<a xmlns='http://zero-install.sourceforge.net/2004/injector/interface'><b><c d='1' e='2'/><f>g</f></b><h/></a>",
+            b">\n  <b>\n    <c d=\"1\" e=\"2\"/>\n    <f>g</f>\n  </b>\n  <h/>\n</a>\n",
+        ),
+        (
+            b"<a xmlns='http://zero-install.sourceforge.net/2004/injector/interface' b='&amp;&lt;&gt;&quot;&apos;&#9;&#10;&#13;&#233; '/>",
+            b" b=\"&amp;&lt;&gt;&quot;'&#9;&#10;&#13;\xC3\xA9 \"/>\n",
+        ),
+        (
+            b"<a xmlns='http://zero-install.sourceforge.net/2004/injector/interface'>&amp;&lt;&gt;&quot;&apos;&#9;&#10;&#13;&#233; </a>",
+            b">&amp;&lt;&gt;\"'\t\n&#13;\xC3\xA9 </a>\n",
+        ),
+        (
+            b"<a xmlns='http://zero-install.sourceforge.net/2004/injector/interface'> </a>",
+            b"> </a>\n",
+        ),
+        (
+            b"<p:a xmlns:p='http://zero-install.sourceforge.net/2004/injector/interface' c-_9='' xmlns:q='u'><p:B0-_/></p:a>",
+            b" c-_9=\"\">\n  <B0-_/>\n</a>\n",
+        ),
+    ];
+    let front =
+        b"<?xml version=\"1.0\" encoding=\"utf-8\"?>\n<a xmlns=\"http://zero-install.sourceforge.net/2004/injector/interface\"".as_slice();
+    for row in rows {
+        let tree = read(rt.alloc(), row.0).ok().ok_or("read")?;
+        let mut into = Vec::new(rt.alloc());
+        assert_eq!(rt; write(rt.alloc(), &tree, &mut into), Ok(()));
+        let mut want = Vec::from_slice(rt.alloc(), front)?;
+        want.extend_from_slice(row.1)?;
+        assert_eq!(rt; into.as_slice(), want.as_slice());
+    }
+    Ok(())
+}
+
+// Each document is read as a tree whose element of this number is the first that can't be written.
+#[test]
+fn each_cause_has_its_place(rt: HostRuntime) -> Result<(), Fail> {
+    let rows: [(&[u8], Option<u64>); 12] = [
+        (b"<a/>", Some(0)),
+        (b"<a xmlns='u'/>", Some(0)),
+        (
+            b"<a xmlns='http://zero-install.sourceforge.net/2004/injector/interface'><b/><c xmlns=''/></a>",
+            Some(2),
+        ),
+        (
+            b"<a xmlns='http://zero-install.sourceforge.net/2004/injector/interface' xmlns:p='u'><b p:c=''/></a>",
+            Some(1),
+        ),
+        (
+            b"<a xmlns='http://zero-install.sourceforge.net/2004/injector/interface'><b><c.d/></b><e/></a>",
+            Some(2),
+        ),
+        (
+            b"<a xmlns='http://zero-install.sourceforge.net/2004/injector/interface'><b/><_b/></a>",
+            Some(2),
+        ),
+        (
+            b"<a xmlns='http://zero-install.sourceforge.net/2004/injector/interface' \xC3\xA9=''/>",
+            Some(0),
+        ),
+        (
+            b"<a xmlns='http://zero-install.sourceforge.net/2004/injector/interface' _b=''/>",
+            Some(0),
+        ),
+        (
+            b"<a xmlns='http://zero-install.sourceforge.net/2004/injector/interface'><b>x<c/></b></a>",
+            Some(1),
+        ),
+        (
+            b"<a xmlns='http://zero-install.sourceforge.net/2004/injector/interface'> <b/></a>",
+            Some(0),
+        ),
+        (
+            b"<a xmlns='http://zero-install.sourceforge.net/2004/injector/interface'><b><c/><d>e</d></b><f/><g><_h/></g></a>",
+            Some(6),
+        ),
+        (
+            b"<a xmlns='http://zero-install.sourceforge.net/2004/injector/interface'><b/></a>",
+            None,
+        ),
+    ];
+    for row in rows {
+        let tree = read(rt.alloc(), row.0).ok().ok_or("read")?;
+        assert_eq!(rt; refused(rt.alloc(), &tree)?, row.1);
+    }
+    Ok(())
+}
+
+// What no document has is refused as well.
+#[test]
+fn trees_of_no_document_are_unwritable(rt: HostRuntime) -> Result<(), Fail> {
+    let alloc = rt.alloc();
+    for words in ["", "\0", "\u{FFFE}", "a\u{1}"] {
+        let mut children = List::new(alloc);
+        children.push(Node::Words(Text::from_str(alloc, words)?))?;
+        assert_eq!(rt; refused(alloc, &element(alloc, "a", children)?)?, Some(0));
+    }
+    let mut children = List::new(alloc);
+    children.push(Node::Words(Text::from_str(alloc, "b")?))?;
+    children.push(Node::Words(Text::from_str(alloc, "c")?))?;
+    assert_eq!(rt; refused(alloc, &element(alloc, "a", children)?)?, Some(0));
+    for (name, value) in [
+        ("xmlns", "u"),
+        ("b", "\u{FFFF}"),
+        ("xml:b", ""),
+        ("", ""),
+        ("9", ""),
+    ] {
+        let mut root = element(alloc, "a", List::new(alloc))?;
+        root.attrs.push(attr(alloc, "", name, value)?)?;
+        assert_eq!(rt; refused(alloc, &root)?, Some(0));
+    }
+    let mut root = element(alloc, "a", List::new(alloc))?;
+    for name in ["b", "c", "b"] {
+        assert_eq!(rt; refused(alloc, &root)?, None);
+        root.attrs.push(attr(alloc, "", name, "")?)?;
+    }
+    assert_eq!(rt; refused(alloc, &root)?, Some(0));
+    Ok(())
+}
+
+// An element in so many others.
+fn nested(alloc: Global, around: u64) -> Result<Element, Memory> {
+    let mut tree = element(alloc, "a", List::new(alloc))?;
+    for _ in 0..around {
+        let mut children = List::new(alloc);
+        children.push(Node::Child(tree))?;
+        tree = element(alloc, "a", children)?;
+    }
+    Ok(tree)
+}
+
+#[test]
+fn the_65th_level_is_unwritable(rt: HostRuntime) -> Result<(), Fail> {
+    for (around, place) in [(63, None), (64, Some(64)), (65, Some(64)), (300, Some(64))] {
+        assert_eq!(rt; refused(rt.alloc(), &nested(rt.alloc(), around)?)?, place);
+    }
+    Ok(())
+}
+
+// What is written is read as the same tree, once its layout and its places are left out.
+#[test]
+fn what_is_written_is_read(rt: HostRuntime) -> Result<(), Fail> {
+    let alloc = rt.alloc();
+    let mut words = List::new(alloc);
+    words.push(Node::Words(Text::from_str(alloc, " \r\n&<>\"\t]]>\u{85}")?))?;
+    let mut children = List::new(alloc);
+    children.push(Node::Child(element(alloc, "b", words)?))?;
+    children.push(Node::Child(element(alloc, "c", List::new(alloc))?))?;
+    let mut root = element(alloc, "a", children)?;
+    root.attrs
+        .push(attr(alloc, "", "d", " \r\n&<>\"'\t]]>\u{10FFFF}")?)?;
+    let mut into = Vec::new(alloc);
+    assert_eq!(rt; write(alloc, &root, &mut into), Ok(()));
+    let back = read(alloc, into.as_slice()).ok().ok_or("read")?;
+    assert!(rt; back.attrs == root.attrs && back.name == root.name && back.space == root.space);
+    let mut kept = List::new(alloc);
+    for node in back.children.as_slice() {
+        match node {
+            Node::Child(child) => {
+                let mut child = child.copy(alloc)?;
+                child.place = 7;
+                kept.push(Node::Child(child))?;
+            }
+            Node::Words(_) => {}
+        }
+    }
+    assert_eq!(rt; kept.len(), 2);
+    assert!(rt; kept == root.children);
+    Ok(())
+}
