@@ -1,0 +1,16 @@
+pub mod AddressLemmas
+pub mod BlankLaws
+pub mod CarryLaws
+pub mod DigestLaws
+pub mod FindingLaws
+pub mod ImplLaws
+pub mod KindLaws
+pub mod LatestLaws
+pub mod LeastLaws
+pub mod ListingLaws
+pub mod NodeLaws
+pub mod NumeralLaws
+pub mod PartLaws
+pub mod RepeatLaws
+pub mod SeenLaws
+pub mod TableLaws

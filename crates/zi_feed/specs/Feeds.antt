@@ -1,0 +1,34 @@
+-- The feed that a tree says, or its fault.
+use Rattle.std.specs.Prelude.{ℕ, List, [], ◌++◌, map, Option, Some, None, codes, if◌then◌else◌}
+use Rattle.std.specs.List.{filter, filter_map, flat_map}
+use Rattle.zi_forest.specs.Forest.{Elem}
+use Rattle.zi_feed.specs.Sites.{Site, sites, here, is, is_unclear}
+use Rattle.zi_feed.specs.Impls.{impl_of, import_of}
+use Rattle.zi_feed.specs.Faults.{fault_at, faults_at, root_faults, same_ids, implementations, least}
+use Rattle.zi_feed.specs.declared.feed.Feed.{Feed}
+use Rattle.zi_feed.specs.declared.fault.Fault.{Fault}
+use Rattle.zi_feed.specs.declared.fault.FeedKind.TheVariants.{NotInterface}
+
+-- every element of the feed at an address that is read; what its root has is inherited by none
+abbrev pub feed_sites : List ℕ → Elem → List Site
+feed_sites uri root = sites (Some uri) root.name root.inside
+
+abbrev pub all_faults : List ℕ → Elem → List Fault
+all_faults uri root =
+    root_faults uri root ++ (flat_map (faults_at (Some uri)) (feed_sites uri root) ++ same_ids (map (λ t. t.element) (feed_sites uri root)))
+
+-- the fault that is answered
+unfoldable pub feed_fault : Elem → List ℕ → Option Fault
+feed_fault root uri = if is (codes "interface") root then least (all_faults uri root) else Some (fault_at root NotInterface)
+
+-- what the tree says, where it has no fault
+unfoldable pub feed_of : Elem → List ℕ → Feed
+feed_of root uri = record {
+  uri = uri;
+  imports = map (λ t. import_of (Some uri) t.element) (filter (λ t. is (codes "feed") t.element) (feed_sites uri root));
+  impls = filter_map (impl_of (Some uri)) (implementations (feed_sites uri root));
+}
+
+-- the fault of an element of a selections document and all in it
+unfoldable pub part_fault : Elem → Option Fault
+part_fault e = least (faults_at None (here e) ++ (if is_unclear e then [] else flat_map (faults_at None) (sites None e.name e.inside)))

@@ -1,0 +1,13 @@
+pub mod Texts
+pub mod Address
+pub mod Words
+pub mod Digests
+pub mod Forms
+pub mod Sites
+pub mod Values
+pub mod Impls
+pub mod Faults
+pub mod Feeds
+pub mod Means
+pub mod Views
+pub mod IdLaws

@@ -1,0 +1,271 @@
+//! What the addresses in a feed mean: in a feed of the web joined to its own by the URL Standard, in a local one placed
+//! after the feed's folder.
+ghost use Rattle.std.specs.Prelude.{◌≡◌, ℕ, List, [], ◌∷◌, ◌++◌, ◌⊎◌, ◌↔◌, IsTrue, IfOk, option_map, map, ◌||◌, codes};
+ghost use Rattle.url.specs.Parser.{Gives, Parsed, IsOutOfRoom, parse_url};
+ghost use Rattle.url.specs.Parts.{Parts};
+ghost use Rattle.zi_feed.specs.Address.{is_web as is_web_text, is_local as is_local_text, without_last, settled, path_of, placed, resolved, joined_to, Shows};
+ghost use Rattle.zi_feed.specs.Texts.{pieces_of, is_none, same};
+
+use std::alloc::Global;
+use url::{ParseError, Url};
+use zi_text::{Memory, Text};
+
+/// The address that a text means in the feed at `base`: an `interface`, a `src` or an `href`.
+///
+/// A text that begins with `http://` or `https://` stands as it is written. In a local feed, whose own address begins with
+/// `/`, any other text is a path: one that begins with `/` stands as it is, and another is placed after the feed's folder,
+/// without empty and `.` parts and with `..` taking away the part before it; where no part is left the path is `/`. In any
+/// other feed the text is joined to the feed's address by the URL Standard.
+///
+/// None exactly where a `..` has no part before it in a local feed, and elsewhere where the URL Standard refuses the feed's
+/// address or the join, or where the join begins with neither `http://` nor `https://`. Memory is the one refusal; a URL of
+/// 4 GiB or more, which `url` doesn't hold, counts as such.
+#[tactic(auto, unfolding(crate::specs::Address::resolved))]
+pub fn resolve(alloc: Global, base: &str, text: &str) -> Result<Option<Text>, Memory>
+    ensures { IfOk result (λ address. address ≡ resolved base.now text.now) }
+{
+    if is_web(text) {
+        return Ok(Some(Text::from_str(alloc, text)?));
+    }
+    if is_local(base) {
+        place(alloc, base, text)
+    } else {
+        join(alloc, base, text)
+    }
+}
+
+/// The path that a text means in the local feed at `base`, also where it looks like an address of the web: where a local
+/// implementation lies. None exactly where a `..` has no part before it. Memory is the one refusal.
+#[tactic(auto, unfolding(crate::specs::Address::placed))]
+pub(crate) fn place(alloc: Global, base: &str, text: &str) -> Result<Option<Text>, Memory>
+    ensures { IfOk result (λ path. path ≡ placed base.now text.now) }
+{
+    if is_local(text) {
+        return Ok(Some(Text::from_str(alloc, text)?));
+    }
+    let mut path = Text::from_str(alloc, folder(base))?;
+    path.push_str(text)?;
+    settle(alloc, path.as_str())
+}
+
+/// Whether a text begins with `http://` or `https://`.
+fn is_web(text: &str) -> bool
+    ensures { result ≡ is_web_text text.now }
+{
+    let bytes = text.as_bytes();
+    bytes.starts_with(b"http://") || bytes.starts_with(b"https://")
+}
+
+/// Whether a text begins with a slash.
+pub(crate) fn is_local(text: &str) -> bool
+    ensures { result ≡ is_local_text text.now }
+{
+    text.as_bytes().starts_with(b"/")
+}
+
+/// An address up to its last slash; nothing where it has none.
+fn folder(base: &str) -> &str
+    ensures { (more : List ℕ) → pieces_of 47 (result.now ++ more) ≡ without_last (pieces_of 47 base.now) ++ pieces_of 47 more }
+{
+    match base.rfind('/') {
+        Some(last) => &base[..last + 1],
+        None => "",
+    }
+}
+
+/// The path of the parts that are left of a text, or None where a `..` has none before it.
+fn settle(alloc: Global, text: &str) -> Result<Option<Text>, Memory>
+    ensures { IfOk result (λ path. path ≡ option_map path_of (settled [] (pieces_of 47 text.now))) }
+{
+    let mut parts: Vec<&str> = Vec::new(alloc);
+    for part in text.split('/') {
+        if falls_away(part) {
+            continue;
+        }
+        if part == ".." {
+            if parts.pop().is_none() {
+                return Ok(None);
+            }
+        } else {
+            parts.push(part)?;
+        }
+    }
+    Ok(Some(path_with(alloc, parts.as_slice())?))
+}
+
+/// Whether a part of a path says nothing: it is empty or `.`.
+#[tactic(auto, unfolding(crate::specs::Texts::same))]
+fn falls_away(part: &str) -> bool
+    ensures { result ≡ (is_none part.now || same part.now (codes ".")) }
+{
+    part.is_empty() || part == "."
+}
+
+/// The path with these parts.
+fn path_with(alloc: Global, parts: &[&str]) -> Result<Text, Memory>
+    ensures { IfOk result (λ path. path ≡ path_of (map (λ part. part.now) parts.now)) }
+{
+    if parts.is_empty() {
+        return Text::from_str(alloc, "/");
+    }
+    let mut path = Text::new(alloc);
+    for part in parts {
+        path.push('/')?;
+        path.push_str(part)?;
+    }
+    Ok(path)
+}
+
+/// A text joined to the address of a feed of the web, or None where that gives no web address.
+fn join(alloc: Global, base: &str, text: &str) -> Result<Option<Text>, Memory>
+    ensures { IfOk result (λ address. address ≡ joined_to (parse_url None base.now) text.now) }
+{
+    let Some(base) = shown(Url::parse(alloc, base))? else {
+        return Ok(None);
+    };
+    let Some(url) = shown(base.join(text))? else {
+        return Ok(None);
+    };
+    let address = url.as_str();
+    if is_web(address) {
+        Ok(Some(Text::from_str(alloc, address)?))
+    } else {
+        Ok(None)
+    }
+}
+
+/// The URL, or None where the URL Standard refuses it. Want of room is Memory, also for a URL that came to 4 GiB.
+fn shown(answer: Result<Url, ParseError>) -> Result<Option<Url>, Memory>
+    ensures { IfOk result (λ found. (expected : Parsed Parts) → Gives answer expected → Shows found expected) }
+{
+    match answer {
+        Ok(url) => Ok(Some(url)),
+        Err(error) => {
+            if is_out_of_room(&error) {
+                Err(Memory)
+            } else {
+                Ok(None)
+            }
+        }
+    }
+}
+
+fn is_out_of_room(error: &ParseError) -> bool
+    ensures { IsTrue result ↔ IsOutOfRoom error.now }
+{
+    matches!(error, ParseError::OutOfMemory | ParseError::Overflow)
+}
+
+#[cfg(test)]
+mod tests {
+    use super::*;
+    use std::test::Fail;
+
+    fn word(answer: &Option<Text>) -> &str {
+        match answer {
+            Some(text) => text.as_str(),
+            None => "-",
+        }
+    }
+
+    fn cut(row: &str) -> Option<(&str, &str, &str)> {
+        let (base, rest) = row.split_once('|')?;
+        let (text, want) = rest.split_once('|')?;
+        Some((base, text, want))
+    }
+
+    // The address of a feed, a text in it, and what that means: `-` where it is refused.
+    #[test]
+    fn addresses_mean(rt: HostRuntime) -> Result<(), Fail> {
+        let rows = [
+            // relative paths in a local feed
+            "/feeds/a.xml|b.xml|/feeds/b.xml",
+            "/feeds/a.xml|./b.xml|/feeds/b.xml",
+            "/feeds/a.xml|../b.xml|/b.xml",
+            "/feeds/a.xml|sub//./b.xml|/feeds/sub/b.xml",
+            "/feeds/a.xml|sub/..//b.xml|/feeds/b.xml",
+            "/feeds/a.xml||/feeds",
+            "/feeds/a.xml|.|/feeds",
+            "/feeds/a.xml|b/|/feeds/b",
+            "/feeds/a.xml|.../.b/..c|/feeds/.../.b/..c",
+            "/feeds/a.xml|é b?q#f|/feeds/é b?q#f",
+            // no part left, and a `..` with none before it
+            "/feeds/a.xml|..|/",
+            "/a.xml|b/..|/",
+            "/a.xml||/",
+            "/feeds/a.xml|../..|-",
+            "/feeds/a.xml|../../feeds/b.xml|-",
+            "/a.xml|..|-",
+            // paths that are kept
+            "/feeds/a.xml|/x/../y|/x/../y",
+            "/feeds/a.xml|//x/.|//x/.",
+            "/feeds/a.xml|/..|/..",
+            // the feed's own address has such parts
+            "//feeds/./old/../a.xml|b|/feeds/b",
+            "/feeds/|b|/feeds/b",
+            "/|b|/b",
+            "/..|b|/b",
+            "/../a.xml|b|-",
+            // addresses of the web are kept as they are written
+            "/feeds/a.xml|http://H/x/../y|http://H/x/../y",
+            "/feeds/a.xml|https://h|https://h",
+            "http://h/d/a.xml|http://H/x/../y|http://H/x/../y",
+            "http://|http://h/x|http://h/x",
+            // which those are not
+            "/feeds/a.xml|HTTP://H/x|/feeds/HTTP:/H/x",
+            "/feeds/a.xml|http:/h|/feeds/http:/h",
+            "http://h/d/a.xml|HTTP://H/x|http://h/x",
+            // joined to the address of a feed of the web
+            "http://h/d/a.xml|b.xml|http://h/d/b.xml",
+            "http://h/d/a.xml|./e/../b.xml|http://h/d/b.xml",
+            "http://h/d/a.xml|../../../b.xml|http://h/b.xml",
+            "http://h/d/a.xml|/b.xml|http://h/b.xml",
+            "http://h/d/a.xml|//i/b.xml|http://i/b.xml",
+            "http://h/d/a.xml|?q|http://h/d/a.xml?q",
+            "http://h/d/a.xml?p|#f|http://h/d/a.xml?p#f",
+            "http://h/d/a.xml||http://h/d/a.xml",
+            "https://h/d/|a b|https://h/d/a%20b",
+            "https://h|b|https://h/b",
+            "HTTP://h/a.xml|b|http://h/b",
+            // joins that aren't of the web
+            "http://h/d/a.xml|mailto:a@h|-",
+            "http://h/d/a.xml|ftp://h/x|-",
+            "http://h/d/a.xml|file:///x|-",
+            "ftp://h/a.xml|b|-",
+            // what is no URL
+            "http://|b|-",
+            "http://|HTTP://H/x|-",
+            "http://h:99999/a.xml|b|-",
+            "http://h/a.xml|HTTP://h:99999/|-",
+            "feeds/a.xml|b|-",
+            "|b|-",
+            "mailto:a@h|b|-",
+        ];
+        for row in rows {
+            let (base, text, want) = cut(row).ok_or("a row has three parts")?;
+            let address = resolve(rt.alloc(), base, text)?;
+            assert_eq!(rt; word(&address), want, "{row}");
+        }
+        Ok(())
+    }
+
+    // The same of where a local implementation lies.
+    #[test]
+    fn paths_mean(rt: HostRuntime) -> Result<(), Fail> {
+        let rows = [
+            "/feeds/a.xml|b|/feeds/b",
+            "/feeds/a.xml||/feeds",
+            "/feeds/a.xml|..|/",
+            "/feeds/a.xml|../..|-",
+            "/feeds/a.xml|/opt//b|/opt//b",
+            "/feeds/a.xml|http://h/x|/feeds/http:/h/x",
+            "/feeds/a.xml|https://../../x|/x",
+        ];
+        for row in rows {
+            let (base, text, want) = cut(row).ok_or("a row has three parts")?;
+            let path = place(rt.alloc(), base, text)?;
+            assert_eq!(rt; word(&path), want, "{row}");
+        }
+        Ok(())
+    }
+}

@@ -1,0 +1,178 @@
+//! The digests of implementations.
+ghost use Rattle.std.specs.Prelude.{◌≡◌, ◌++◌, IfOk, [], ◌∷◌, map, option_copied};
+ghost use Rattle.std.specs.List.{filter_map};
+ghost use Rattle.std.specs.Option.{option_or};
+ghost use Rattle.hex.specs.Hex.{IsBytes};
+ghost use Rattle.zi_digest.specs.Name.{IsBytesOf, IsDigest};
+ghost use Rattle.zi_forest.specs.Forest.{element_view, attribute, value};
+ghost use Rattle.zi_feed.specs.Words.{first};
+ghost use Rattle.zi_feed.specs.Digests.{digest_of, digest_by, attribute_by, front_by};
+ghost use Rattle.zi_feed.specs.Sites.{parts as parts_in};
+ghost use Rattle.zi_feed.specs.Impls.{said_digest, id_digest, digests_of, said_digests};
+ghost use Rattle.zi_feed.specs.Views.{views};
+
+use crate::reading::{attribute, those, value};
+use std::alloc::Global;
+use zi_digest::{Algorithm, DigestName};
+use zi_elements::Element;
+use zi_text::{List, Memory, Text};
+
+// The three functions below do nothing: their clauses say what each value of a type has.
+
+// Each item is a byte.
+fn are_bytes(bytes: &[u8])
+    ensures { IsBytes bytes.now }
+{}
+
+// There are N bytes.
+fn are_sized<const N: usize>(bytes: &[u8; N])
+    ensures { IsBytesOf N bytes.now }
+{
+    are_bytes(bytes.as_slice());
+}
+
+// A digest has its algorithm's number of bytes.
+fn is_whole(name: &DigestName)
+    ensures { IsDigest name.now }
+{
+    match name {
+        DigestName::Sha1new(bytes) => are_sized(bytes),
+        DigestName::Sha256(bytes) => are_sized(bytes),
+        DigestName::Sha256new(bytes) => are_sized(bytes),
+    }
+}
+
+/// The digest name that is spelled so.
+pub fn digest_of(text: &str) -> Option<DigestName>
+    ensures { result ≡ digest_of text.now }
+{
+    let name = DigestName::parse(text)?;
+    is_whole(&name);
+    Some(name)
+}
+
+/// An algorithm's attribute.
+pub fn attribute_by(algorithm: Algorithm) -> &'static str
+    ensures { result.now ≡ attribute_by algorithm }
+{
+    match algorithm {
+        Algorithm::Sha1new => "sha1new",
+        Algorithm::Sha256 => "sha256",
+        Algorithm::Sha256new => "sha256new",
+    }
+}
+
+/// What stands before the digits in an algorithm's names.
+pub fn front_by(algorithm: Algorithm) -> &'static str
+    ensures { result.now ≡ front_by algorithm }
+{
+    match algorithm {
+        Algorithm::Sha1new => "sha1new=",
+        Algorithm::Sha256 => "sha256=",
+        Algorithm::Sha256new => "sha256new_",
+    }
+}
+
+/// The digest of an algorithm with these digits.
+pub fn digest_by(
+    alloc: Global,
+    algorithm: Algorithm,
+    digits: &str,
+) -> Result<Option<DigestName>, Memory>
+    ensures { IfOk result (λ d. d ≡ digest_by algorithm digits.now) }
+{
+    let mut text = Text::from_str(alloc, front_by(algorithm))?;
+    text.push_str(digits)?;
+    Ok(digest_of(text.as_str()))
+}
+
+// In the order of use.
+const ALGORITHMS: [Algorithm; 3] = [Algorithm::Sha256new, Algorithm::Sha256, Algorithm::Sha1new];
+
+// The first value of an attribute that one of the elements has.
+fn first_attribute<'a>(name: &str, elements: &[&'a Element]) -> Option<&'a str>
+    ensures { option_copied result ≡ first (filter_map (attribute name.now) (views elements.now)) }
+{
+    for e in elements {
+        if let Some(text) = attribute(e, name) {
+            return Some(text);
+        }
+    }
+    None
+}
+
+// The digest of an algorithm that `manifest-digest` elements say.
+fn said_digest(
+    alloc: Global,
+    elements: &[&Element],
+    algorithm: Algorithm,
+) -> Result<Option<DigestName>, Memory>
+    ensures { IfOk result (λ d. d ≡ said_digest (views elements.now) algorithm) }
+{
+    match first_attribute(attribute_by(algorithm), elements) {
+        Some(digits) => digest_by(alloc, algorithm, digits),
+        None => Ok(None),
+    }
+}
+
+// The digest of an algorithm that an implementation's id is.
+fn id_digest(e: &Element, algorithm: Algorithm) -> Option<DigestName>
+    ensures { result ≡ id_digest (element_view e.now) algorithm }
+{
+    let id = value(e, "id");
+    if id.as_bytes().starts_with(front_by(algorithm).as_bytes()) {
+        digest_of(id)
+    } else {
+        None
+    }
+}
+
+// The digest of an algorithm that elements say, or else that the id of an implementation is.
+fn digest_in(
+    alloc: Global,
+    elements: &[&Element],
+    e: &Element,
+    algorithm: Algorithm,
+) -> Result<Option<DigestName>, Memory>
+    ensures { IfOk result (λ d. d ≡ option_or (said_digest (views elements.now) algorithm) (id_digest (element_view e.now) algorithm)) }
+{
+    match said_digest(alloc, elements, algorithm)? {
+        Some(digest) => Ok(Some(digest)),
+        None => Ok(id_digest(e, algorithm)),
+    }
+}
+
+/// The digests of an implementation that has these parts.
+#[tactic(auto, unfolding(crate::specs::Impls::digests_of))]
+pub fn digests_of(
+    alloc: Global,
+    ways: Option<&str>,
+    e: &Element,
+    parts: &[&Element],
+) -> Result<List<DigestName>, Memory>
+    requires { views parts.now ≡ parts_in (option_copied ways) (element_view e.now) }
+    ensures { IfOk result (λ ds. ds ≡ digests_of (option_copied ways.entry) (element_view e.now)) }
+{
+    let elements = those(alloc, ["manifest-digest"].as_slice(), parts)?;
+    let mut digests = List::new(alloc);
+    for algorithm in ALGORITHMS.as_slice() {
+        if let Some(digest) = digest_in(alloc, elements.as_slice(), e, *algorithm)? {
+            digests.push(digest)?;
+        }
+    }
+    Ok(digests)
+}
+
+/// The digests that one `manifest-digest` says, in the order of use.
+#[tactic(auto, unfolding(crate::specs::Impls::said_digests))]
+pub fn said_digests(alloc: Global, e: &Element) -> Result<List<DigestName>, Memory>
+    ensures { IfOk result (λ ds. ds ≡ said_digests (element_view e.now)) }
+{
+    let mut digests = List::new(alloc);
+    for algorithm in ALGORITHMS.as_slice() {
+        if let Some(digest) = said_digest(alloc, [e].as_slice(), *algorithm)? {
+            digests.push(digest)?;
+        }
+    }
+    Ok(digests)
+}

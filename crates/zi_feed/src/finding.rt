@@ -1,0 +1,265 @@
+//! The fault of a whole feed, and its value.
+ghost use Rattle.std.specs.Prelude.{◌≡◌, ◌++◌, ◌&&◌, not, IfOk, codes, map, option_copied};
+ghost use Rattle.std.specs.List.{filter, flat_map};
+ghost use Rattle.zi_forest.specs.Forest.{element_view, node_view, nodes_view, attribute};
+ghost use Rattle.zi_feed.specs.Texts.{same};
+ghost use Rattle.zi_feed.specs.Words.{is_wrong, optional};
+ghost use Rattle.zi_feed.specs.Address.{is_local as is_local_text};
+ghost use Rattle.zi_feed.specs.Faults.{least, same_ids, root_faults, counts};
+ghost use Rattle.zi_feed.specs.Feeds.{feed_fault, feed_of, part_fault};
+ghost use Rattle.zi_feed.specs.Views.{views, seen_view, faults_seen, said_by, unsaid, impl_at, carried_sites, carried_impls, carried_impls_in};
+
+use crate::address::is_local;
+use crate::along::{Own, own_of};
+use crate::fault::{Fault, FeedKind};
+use crate::faults::{fault_at, fault_with, least_shared, lesser_of};
+use crate::feed::{Feed, Impl, Import};
+use crate::impls::{impl_at, import_of};
+use crate::reading::{attribute, is, is_closed, is_text, is_unclear, stands};
+use crate::walk::{Inherited, Seen, nothing, taken, walk};
+use std::alloc::Global;
+use zi_elements::{Element, Node};
+use zi_text::{List, Memory, Text};
+
+// The least fault at elements that were seen.
+fn least_seen(alloc: Global, ways: Option<&str>, seen: &[Seen]) -> Result<Option<Fault>, Memory>
+    ensures { IfOk result (λ f. f ≡ least (flat_map (faults_seen (option_copied ways.entry)) (map seen_view seen.now))) }
+{
+    let mut found = None;
+    for site in seen {
+        let fault = fault_with(alloc, ways, &site.said, site.element)?;
+        found = lesser_of(found, fault);
+    }
+    Ok(found)
+}
+
+// Whether it is an implementation that counts.
+fn counts(alloc: Global, e: &Element) -> Result<bool, Memory>
+    ensures { IfOk result (λ b. b ≡ counts (element_view e.now)) }
+{
+    Ok(is(e, "implementation") && !is_unclear(alloc, e)?)
+}
+
+// The implementations that count among elements that were seen.
+fn counting<'a>(alloc: Global, seen: &[Seen<'a>]) -> Result<Vec<&'a Element>, Memory>
+    ensures { IfOk result (λ v. views v.items ≡ filter counts (map (λ x. x.0) (map seen_view seen.now))) }
+{
+    let mut found = Vec::new(alloc);
+    for site in seen {
+        if counts(alloc, site.element)? {
+            found.push(site.element)?;
+        }
+    }
+    Ok(found)
+}
+
+// The least fault of two implementations of one id.
+#[tactic(auto, unfolding(crate::specs::Faults::same_ids))]
+fn same_id(alloc: Global, seen: &[Seen]) -> Result<Option<Fault>, Memory>
+    ensures { IfOk result (λ f. f ≡ least (same_ids (map (λ x. x.0) (map seen_view seen.now)))) }
+{
+    let elements = counting(alloc, seen)?;
+    least_shared(alloc, "id", elements.as_slice(), FeedKind::SameId)
+}
+
+// Whether a feed of the web says another address than it was read under.
+fn has_wrong_uri(root: &Element, uri: &str) -> bool
+    ensures { result ≡ (not (is_local_text uri.now) && is_wrong (same uri.now) (attribute (codes "uri") (element_view root.now))) }
+{
+    if is_local(uri) {
+        return false;
+    }
+    match attribute(root, "uri") {
+        Some(text) => !is_text(uri, text),
+        None => false,
+    }
+}
+
+// The least fault of the root itself.
+#[tactic(auto, unfolding(crate::specs::Faults::root_faults))]
+fn root_fault(alloc: Global, root: &Element, uri: &str) -> Result<Option<Fault>, Memory>
+    ensures { IfOk result (λ f. f ≡ least (root_faults uri.now (element_view root.now))) }
+{
+    let unclear = if is_unclear(alloc, root)? {
+        Some(fault_at(root, FeedKind::BadRange))
+    } else {
+        None
+    };
+    let wrong = if has_wrong_uri(root, uri) {
+        Some(fault_at(root, FeedKind::WrongUri))
+    } else {
+        None
+    };
+    Ok(lesser_of(unclear, wrong))
+}
+
+// The elements that are read inside one, where nothing is said around it.
+fn seen_in<'a>(alloc: Global, ways: Option<&str>, e: &'a Element) -> Result<Vec<Seen<'a>>, Memory>
+    ensures { IfOk result (λ v. map seen_view v.items ≡ carried_sites (option_copied ways.entry) unsaid e.now.name (nodes_view e.now.children)) }
+{
+    let mut seen = Vec::new(alloc);
+    walk(alloc, ways, e, nothing(), &mut seen)?;
+    Ok(seen)
+}
+
+/// The fault of a feed, where it has one.
+#[tactic(auto, unfolding(crate::specs::Feeds::feed_fault))]
+pub fn feed_fault(alloc: Global, root: &Element, uri: &str) -> Result<Option<Fault>, Memory>
+    ensures { IfOk result (λ f. f ≡ feed_fault (element_view root.now) uri.now) }
+{
+    if !is(root, "interface") {
+        return Ok(Some(fault_at(root, FeedKind::NotInterface)));
+    }
+    let seen = seen_in(alloc, Some(uri), root)?;
+    let own = root_fault(alloc, root, uri)?;
+    let inner = least_seen(alloc, Some(uri), seen.as_slice())?;
+    let shared = same_id(alloc, seen.as_slice())?;
+    Ok(lesser_of(own, lesser_of(inner, shared)))
+}
+
+/// The fault of an element of a selections document and all in it, where there is one.
+#[tactic(auto, unfolding(crate::specs::Feeds::part_fault))]
+pub fn part_fault(alloc: Global, e: &Element) -> Result<Option<Fault>, Memory>
+    ensures { IfOk result (λ f. f ≡ part_fault (element_view e.now)) }
+{
+    let said = taken(nothing(), e);
+    let own = fault_with(alloc, None, &said, e)?;
+    if is_unclear(alloc, e)? {
+        return Ok(own);
+    }
+    let seen = seen_in(alloc, None, e)?;
+    let inner = least_seen(alloc, None, seen.as_slice())?;
+    Ok(lesser_of(own, inner))
+}
+
+// Adds the implementations inside an element, where this is said around them and these are its groups.
+#[cycle(gathering)]
+fn gather<'a>(
+    alloc: Global,
+    ways: Option<&str>,
+    parent: &'a Element,
+    said: Inherited<'a>,
+    owns: &mut Vec<Own>,
+    impls: &mut List<Impl>,
+) -> Result<(), Memory>
+    ensures owns { IfOk result (λ _. owns.new.items ≡ owns.old.items) }
+    ensures impls { IfOk result (λ _. impls.new
+        ≡ impls.old ++ carried_impls (option_copied ways.entry) (said_by said.entry, owns.old.items) parent.now.name (nodes_view parent.now.children)) }
+{
+    for node in parent.children.as_slice() {
+        gather_node(alloc, ways, parent.name.as_str(), node, said, owns, impls)?;
+    }
+    Ok(())
+}
+
+// Adds the implementations at a node.
+#[cycle(gathering)]
+#[tactic(auto, using(crate::proofs::SeenLaws::seeing), unfolding(crate::specs::Views::carried_impls))]
+fn gather_node<'a>(
+    alloc: Global,
+    ways: Option<&str>,
+    parent: &str,
+    node: &'a Node,
+    said: Inherited<'a>,
+    owns: &mut Vec<Own>,
+    impls: &mut List<Impl>,
+) -> Result<(), Memory>
+    ensures owns { IfOk result (λ _. owns.new.items ≡ owns.old.items) }
+    ensures impls { IfOk result (λ _. impls.new ≡ impls.old ++ carried_impls (option_copied ways.entry) (said_by said.entry, owns.old.items) parent.now (node_view node.now)) }
+{
+    match node {
+        Node::Child(e) => gather_at(alloc, ways, parent, e, said, owns, impls),
+        Node::Words(_) => Ok(()),
+    }
+}
+
+// Adds the implementations at an element.
+#[cycle(gathering)]
+fn gather_at<'a>(
+    alloc: Global,
+    ways: Option<&str>,
+    parent: &str,
+    e: &'a Element,
+    said: Inherited<'a>,
+    owns: &mut Vec<Own>,
+    impls: &mut List<Impl>,
+) -> Result<(), Memory>
+    ensures owns { IfOk result (λ _. owns.new.items ≡ owns.old.items) }
+    ensures impls { IfOk result (λ _. impls.new
+        ≡ impls.old ++ carried_impls_in (option_copied ways.entry) (said_by said.entry, owns.old.items) parent.now (element_view e.now)) }
+{
+    if !stands(alloc, ways, parent, e)? {
+        return Ok(());
+    }
+    if is_closed(alloc, e)? {
+        return Ok(());
+    }
+    if is(e, "group") {
+        owns.push(own_of(alloc, ways, e)?)?;
+        gather(alloc, ways, e, taken(said, e), owns, impls)?;
+        let _ = owns.pop();
+        return Ok(());
+    }
+    if is(e, "implementation") {
+        owns.push(own_of(alloc, ways, e)?)?;
+        add_impl(alloc, ways, &taken(said, e), owns.as_slice(), e, impls)?;
+        let _ = owns.pop();
+    }
+    Ok(())
+}
+
+// Adds an implementation.
+fn add_impl(
+    alloc: Global,
+    ways: Option<&str>,
+    said: &Inherited,
+    owns: &[Own],
+    e: &Element,
+    impls: &mut List<Impl>,
+) -> Result<(), Memory>
+    ensures { IfOk result (λ _. impls.new ≡ impls.old ++ optional (impl_at (option_copied ways.entry) (said_by said.now) owns.now (element_view e.now))) }
+{
+    if let Some(found) = impl_at(alloc, ways, said, owns, e)? {
+        impls.push(found)?;
+    }
+    Ok(())
+}
+
+// The implementations of a feed.
+fn impls_of(alloc: Global, root: &Element, uri: &str) -> Result<List<Impl>, Memory>
+    ensures { IfOk result (λ is. is ≡ (feed_of (element_view root.now) uri.now).impls) }
+{
+    let mut owns = Vec::new(alloc);
+    let mut impls = List::new(alloc);
+    gather(alloc, Some(uri), root, nothing(), &mut owns, &mut impls)?;
+    Ok(impls)
+}
+
+// The imports among the elements that were seen in a feed.
+fn imports_of(alloc: Global, root: &Element, uri: &str) -> Result<List<Import>, Memory>
+    ensures { IfOk result (λ is. is ≡ (feed_of (element_view root.now) uri.now).imports) }
+{
+    let seen = seen_in(alloc, Some(uri), root)?;
+    let mut imports = List::new(alloc);
+    for site in seen.as_slice() {
+        if is(site.element, "feed") {
+            imports.push(import_of(alloc, Some(uri), site.element)?)?;
+        }
+    }
+    Ok(imports)
+}
+
+/// What a feed says, where it has no fault.
+#[tactic(auto, unfolding(crate::specs::Feeds::feed_of))]
+pub fn feed_of(alloc: Global, root: &Element, uri: &str) -> Result<Feed, Memory>
+    ensures { IfOk result (λ f. f ≡ feed_of (element_view root.now) uri.now) }
+{
+    let imports = imports_of(alloc, root, uri)?;
+    let impls = impls_of(alloc, root, uri)?;
+    let uri = Text::from_str(alloc, uri)?;
+    Ok(Feed {
+        uri,
+        imports,
+        impls,
+    })
+}

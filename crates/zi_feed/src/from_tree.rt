@@ -1,0 +1,86 @@
+ghost use Rattle.std.specs.Prelude.{◌≡◌, Some, None, codes};
+ghost use Rattle.zi_forest.specs.Forest.{element_view};
+ghost use Rattle.zi_feed.specs.Feeds.{feed_fault, feed_of, part_fault};
+ghost use Rattle.zi_feed.specs.Impls.{said_digests};
+ghost use Rattle.zi_feed.specs.Means.{Reads, IsPart, IsBinding};
+ghost use Rattle.zi_feed.specs.Values.{binding_of, dep_of, command_of};
+ghost use Rattle.zi_feed.specs.declared.fault.FeedFault.TheVariants.{Bad};
+
+use crate::fault::{Fault, FeedFault};
+use crate::feed::{Binding, Command, Dep, Feed};
+use crate::{digests, finding, parts};
+use std::alloc::Global;
+use zi_digest::DigestName;
+use zi_elements::Element;
+use zi_text::List;
+
+// The answer of a fault.
+fn bad(fault: Fault) -> FeedFault
+    ensures { result ≡ Bad fault.kind fault.place }
+{
+    FeedFault::Bad {
+        kind: fault.kind,
+        place: fault.place,
+    }
+}
+
+impl Feed {
+    /// The feed that a document says (the Zero Install feed format), read under an address. Bad exactly where it has a
+    /// fault: of all, the one of least place, and there the one of least kind. Memory is the other refusal.
+    pub fn from_tree(alloc: Global, tree: &Element, uri: &str) -> Result<Feed, FeedFault>
+        ensures { Reads (feed_fault (element_view tree.now) uri.now) (feed_of (element_view tree.now) uri.now) result }
+    {
+        if let Some(fault) = finding::feed_fault(alloc, tree, uri)? {
+            return Err(bad(fault));
+        }
+        Ok(finding::feed_of(alloc, tree, uri)?)
+    }
+}
+
+/// The binding that an element of a selections document means, or the fault of it and all in it. It is one of the bindings
+/// of the format, and its condition `if-0install-version` doesn't leave it out. Memory is the other refusal.
+pub fn binding_of(alloc: Global, e: &Element) -> Result<Binding, FeedFault>
+    requires { IsBinding (element_view e.now) }
+    ensures { Reads (part_fault (element_view e.now)) (binding_of (element_view e.now)) result }
+{
+    if let Some(fault) = finding::part_fault(alloc, e)? {
+        return Err(bad(fault));
+    }
+    Ok(parts::binding_of(alloc, e)?)
+}
+
+/// The digests that a `manifest-digest` says, in the order of use, or its fault. Its condition `if-0install-version`
+/// doesn't leave it out. Memory is the other refusal.
+pub fn digests_of(alloc: Global, e: &Element) -> Result<List<DigestName>, FeedFault>
+    requires { IsPart (codes "manifest-digest") (element_view e.now) }
+    ensures { Reads (part_fault (element_view e.now)) (said_digests (element_view e.now)) result }
+{
+    if let Some(fault) = finding::part_fault(alloc, e)? {
+        return Err(bad(fault));
+    }
+    Ok(digests::said_digests(alloc, e)?)
+}
+
+/// The dependency that a `requires` of a selections document means, its address as it is written and without restrictions,
+/// or the fault of it and all in it. Its condition `if-0install-version` doesn't leave it out. Memory is the other refusal.
+pub fn dep_of(alloc: Global, e: &Element) -> Result<Dep, FeedFault>
+    requires { IsPart (codes "requires") (element_view e.now) }
+    ensures { Reads (part_fault (element_view e.now)) (dep_of None (element_view e.now)) result }
+{
+    if let Some(fault) = finding::part_fault(alloc, e)? {
+        return Err(bad(fault));
+    }
+    Ok(parts::dep_of(alloc, None, e)?)
+}
+
+/// The command that a `command` of a selections document means, addresses as they are written and without restrictions, or
+/// the fault of it and all in it. Its condition `if-0install-version` doesn't leave it out. Memory is the other refusal.
+pub fn command_of(alloc: Global, e: &Element) -> Result<Command, FeedFault>
+    requires { IsPart (codes "command") (element_view e.now) }
+    ensures { Reads (part_fault (element_view e.now)) (command_of None (element_view e.now)) result }
+{
+    if let Some(fault) = finding::part_fault(alloc, e)? {
+        return Err(bad(fault));
+    }
+    Ok(parts::command_of(alloc, None, e)?)
+}

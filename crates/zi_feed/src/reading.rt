@@ -1,0 +1,382 @@
+//! Which elements are read, and what is read off one.
+ghost use Rattle.std.specs.Prelude.{◌≡◌, IfOk, List, [], ◌∷◌, codes, map, filter, not, false, Some, ◌&&◌, option_copied, option_map, unwrap_or};
+ghost use Rattle.std.specs.List.{list_any};
+ghost use Rattle.zi_forest.specs.Forest.{element_view, nodes_view, elements, attribute, value, is_attribute, text_in};
+ghost use Rattle.zi_feed.specs.Texts.{same};
+ghost use Rattle.zi_feed.specs.Words.{is_among, listed, first};
+ghost use Rattle.zi_feed.specs.Sites.{is_ours, is, step_names, binding_names, read_in, is_refused_by, is_left_out, is_unclear, is_other_step, is_unbuilt, is_closed, is_restriction, stands, is_part, parts};
+ghost use Rattle.zi_feed.specs.Values.{those};
+ghost use Rattle.zi_feed.specs.Views.{views};
+
+use crate::forms::{is_expression, range_of, version_of};
+use std::alloc::Global;
+use zi_elements::{Attr, Element, Node};
+use zi_text::{Memory, Text};
+
+const INJECTOR: &str = "http://zero-install.sourceforge.net/2004/injector/interface";
+
+const CONDITION: &str = "if-0install-version";
+
+// It has no namespace, and this name.
+fn is_named(a: &Attr, name: &str) -> bool
+    ensures { result ≡ is_attribute name.now a.now }
+{
+    a.space.as_str() == "" && a.name.as_str() == name
+}
+
+/// The value of an attribute without a namespace.
+pub fn attribute<'a>(e: &'a Element, name: &str) -> Option<&'a str>
+    ensures { option_copied result ≡ attribute name.now (element_view e.now) }
+{
+    for a in e.attrs.as_slice() {
+        if is_named(a, name) {
+            return Some(a.value.as_str());
+        }
+    }
+    None
+}
+
+/// The value of an attribute without a namespace, or the empty text.
+pub fn value<'a>(e: &'a Element, name: &str) -> &'a str
+    ensures { result.now ≡ value name.now (element_view e.now) }
+{
+    match attribute(e, name) {
+        Some(text) => text,
+        None => "",
+    }
+}
+
+// It is in the namespace of feeds.
+#[tactic(auto, unfolding(crate::specs::Texts::same))]
+fn is_ours(e: &Element) -> bool
+    ensures { result ≡ is_ours (element_view e.now) }
+{
+    e.space.as_str() == INJECTOR
+}
+
+/// Whether two texts are one.
+#[tactic(auto, unfolding(crate::specs::Texts::same))]
+pub fn is_text(text: &str, word: &str) -> bool
+    ensures { result ≡ same text.now word.now }
+{
+    text == word
+}
+
+/// An element of a feed with this name.
+pub fn is(e: &Element, name: &str) -> bool
+    ensures { result ≡ is name.now (element_view e.now) }
+{
+    is_text(e.name.as_str(), name) && is_ours(e)
+}
+
+/// Whether a text is one of these.
+#[tactic(auto, unfolding(crate::specs::Words::is_among))]
+pub fn is_one_of(names: &[&str], text: &str) -> bool
+    ensures { result ≡ is_among (map (λ n. n.now) names.now) text.now }
+{
+    for name in names {
+        if is_text(text, name) {
+            return true;
+        }
+    }
+    false
+}
+
+/// Whether this is the name of a binding.
+pub fn is_binding(name: &str) -> bool
+    ensures { result ≡ is_among binding_names name.now }
+{
+    let names = [
+        "environment",
+        "executable-in-var",
+        "executable-in-path",
+        "overlay",
+        "binding",
+    ];
+    is_one_of(names.as_slice(), name)
+}
+
+/// Whether this is the name of a step of a recipe.
+fn is_step(name: &str) -> bool
+    ensures { result ≡ is_among step_names name.now }
+{
+    let names = ["file", "rename", "remove"];
+    is_one_of(names.as_slice(), name)
+}
+
+// What is read inside a group.
+fn is_in_group(name: &str) -> bool
+    ensures { result ≡ is_among (read_in (codes "group")) name.now }
+{
+    let names = [
+        "group",
+        "implementation",
+        "requires",
+        "restricts",
+        "command",
+    ];
+    is_one_of(names.as_slice(), name) || is_binding(name)
+}
+
+// What is read inside an implementation.
+fn is_in_implementation(name: &str) -> bool
+    ensures { result ≡ is_among (read_in (codes "implementation")) name.now }
+{
+    let names = [
+        "manifest-digest",
+        "requires",
+        "restricts",
+        "command",
+        "file",
+        "recipe",
+    ];
+    is_one_of(names.as_slice(), name) || is_binding(name)
+}
+
+// What is read inside a command.
+fn is_in_command(name: &str) -> bool
+    ensures { result ≡ is_among (read_in (codes "command")) name.now }
+{
+    let names = [
+        "arg",
+        "for-each",
+        "runner",
+        "requires",
+        "restricts",
+        "working-dir",
+    ];
+    is_one_of(names.as_slice(), name) || is_binding(name)
+}
+
+// What is read inside a runner.
+fn is_in_runner(name: &str) -> bool
+    ensures { result ≡ is_among (read_in (codes "runner")) name.now }
+{
+    let names = ["arg", "for-each", "version"];
+    is_one_of(names.as_slice(), name) || is_binding(name)
+}
+
+// What is read inside the root.
+fn is_in_interface(name: &str) -> bool
+    ensures { result ≡ is_among (read_in (codes "interface")) name.now }
+{
+    let names = ["feed", "group", "implementation"];
+    is_one_of(names.as_slice(), name)
+}
+
+// What is read inside an element that is neither the root nor one with dependencies.
+fn is_in_small(parent: &str, name: &str) -> bool
+    requires { is_among (listed (codes "interface group implementation command runner")) parent.now ≡ false }
+    ensures { result ≡ is_among (read_in parent.now) name.now }
+{
+    if is_text(parent, "requires") {
+        is_text(name, "version") || is_binding(name)
+    } else if is_text(parent, "restricts") {
+        is_text(name, "version")
+    } else if is_text(parent, "for-each") {
+        is_text(name, "arg")
+    } else if is_text(parent, "recipe") {
+        is_step(name)
+    } else {
+        false
+    }
+}
+
+/// Whether an element of a name is read inside one of another.
+fn is_read_in(parent: &str, name: &str) -> bool
+    ensures { result ≡ is_among (read_in parent.now) name.now }
+{
+    if is_text(parent, "interface") {
+        is_in_interface(name)
+    } else if is_text(parent, "group") {
+        is_in_group(name)
+    } else if is_text(parent, "implementation") {
+        is_in_implementation(name)
+    } else if is_text(parent, "command") {
+        is_in_command(name)
+    } else if is_text(parent, "runner") {
+        is_in_runner(name)
+    } else {
+        is_in_small(parent, name)
+    }
+}
+
+// Whether a version expression doesn't admit the launcher's version; none does that.
+fn is_refused_by(alloc: Global, text: &str) -> Result<bool, Memory>
+    ensures { IfOk result (λ b. b ≡ is_refused_by (Some text.now)) }
+{
+    let Some(range) = range_of(alloc, text)? else {
+        return Ok(false);
+    };
+    match version_of(alloc, "2.18")? {
+        Some(launcher) => Ok(!range.admits(&launcher)),
+        None => Ok(false),
+    }
+}
+
+/// Whether its condition leaves an element out, and all in it.
+#[tactic(auto, unfolding(crate::specs::Sites::is_left_out))]
+pub fn is_left_out(alloc: Global, e: &Element) -> Result<bool, Memory>
+    ensures { IfOk result (λ b. b ≡ is_left_out (element_view e.now)) }
+{
+    match attribute(e, CONDITION) {
+        Some(text) => is_refused_by(alloc, text),
+        None => Ok(false),
+    }
+}
+
+/// Whether its condition is no expression.
+#[tactic(auto, unfolding(crate::specs::Sites::is_unclear))]
+pub fn is_unclear(alloc: Global, e: &Element) -> Result<bool, Memory>
+    ensures { IfOk result (λ b. b ≡ is_unclear (element_view e.now)) }
+{
+    match attribute(e, CONDITION) {
+        Some(text) => Ok(!is_expression(alloc, text)?),
+        None => Ok(false),
+    }
+}
+
+// Whether it is a child of a recipe that isn't one of the three steps.
+fn is_other_step(alloc: Global, e: &Element) -> Result<bool, Memory>
+    ensures { IfOk result (λ b. b ≡ is_other_step (element_view e.now)) }
+{
+    Ok(is_ours(e) && !is_step(e.name.as_str()) && !is_left_out(alloc, e)?)
+}
+
+// Whether another step than the three stands among nodes.
+fn has_other_step(alloc: Global, nodes: &[Node]) -> Result<bool, Memory>
+    ensures { IfOk result (λ b. b ≡ list_any is_other_step (elements (nodes_view nodes.now))) }
+{
+    for node in nodes {
+        if let Node::Child(e) = node {
+            if is_other_step(alloc, e)? {
+                return Ok(true);
+            }
+        }
+    }
+    Ok(false)
+}
+
+/// Whether it is a recipe with another step than the three, which isn't built.
+#[tactic(auto, unfolding(crate::specs::Sites::is_unbuilt))]
+pub fn is_unbuilt(alloc: Global, e: &Element) -> Result<bool, Memory>
+    ensures { IfOk result (λ b. b ≡ is_unbuilt (element_view e.now)) }
+{
+    if !is(e, "recipe") {
+        return Ok(false);
+    }
+    has_other_step(alloc, e.children.as_slice())
+}
+
+/// Whether nothing in it is read.
+pub fn is_closed(alloc: Global, e: &Element) -> Result<bool, Memory>
+    ensures { IfOk result (λ b. b ≡ is_closed (element_view e.now)) }
+{
+    Ok(is_unclear(alloc, e)? || is_unbuilt(alloc, e)?)
+}
+
+// Whether it restricts versions, which a selections document doesn't do.
+fn is_restriction(e: &Element) -> bool
+    ensures { result ≡ is_restriction (element_view e.now) }
+{
+    let names = ["version", "restricts"];
+    is_one_of(names.as_slice(), e.name.as_str())
+}
+
+/// Whether an element is read inside one of a name.
+#[tactic(auto, unfolding(crate::specs::Sites::stands))]
+pub fn stands(alloc: Global, ways: Option<&str>, parent: &str, e: &Element) -> Result<bool, Memory>
+    ensures { IfOk result (λ b. b ≡ stands (option_copied ways.entry) parent.now (element_view e.now)) }
+{
+    if !is_ours(e)
+        || !is_read_in(parent, e.name.as_str())
+        || (ways.is_none() && is_restriction(e))
+    {
+        return Ok(false);
+    }
+    Ok(!is_left_out(alloc, e)?)
+}
+
+// Whether an element counts inside one of a name.
+fn is_part(alloc: Global, ways: Option<&str>, parent: &str, e: &Element) -> Result<bool, Memory>
+    ensures { IfOk result (λ b. b ≡ is_part (option_copied ways.entry) parent.now (element_view e.now)) }
+{
+    Ok(stands(alloc, ways, parent, e)? && !is_unclear(alloc, e)?)
+}
+
+// The elements among nodes that count inside one of a name, in order.
+fn counting<'a>(
+    alloc: Global,
+    ways: Option<&str>,
+    parent: &str,
+    nodes: &'a [Node],
+) -> Result<Vec<&'a Element>, Memory>
+    ensures { IfOk result (λ v. views v.items ≡ filter (is_part (option_copied ways.entry) parent.now) (elements (nodes_view nodes.now))) }
+{
+    let mut found = Vec::new(alloc);
+    for node in nodes {
+        if let Node::Child(e) = node {
+            if is_part(alloc, ways, parent, e)? {
+                found.push(e)?;
+            }
+        }
+    }
+    Ok(found)
+}
+
+/// The elements that count inside one, in order.
+#[tactic(auto, unfolding(crate::specs::Sites::parts))]
+pub fn parts<'a>(
+    alloc: Global,
+    ways: Option<&str>,
+    e: &'a Element,
+) -> Result<Vec<&'a Element>, Memory>
+    ensures { IfOk result (λ v. views v.items ≡ parts (option_copied ways.entry) (element_view e.now)) }
+{
+    if is_closed(alloc, e)? {
+        return Ok(Vec::new(alloc));
+    }
+    counting(alloc, ways, e.name.as_str(), e.children.as_slice())
+}
+
+/// Those of one of these names.
+pub fn those<'a>(
+    alloc: Global,
+    names: &[&str],
+    parts: &[&'a Element],
+) -> Result<Vec<&'a Element>, Memory>
+    ensures { IfOk result (λ v. views v.items ≡ those (map (λ n. n.now) names.now) (views parts.now)) }
+{
+    let mut found = Vec::new(alloc);
+    for e in parts {
+        if is_one_of(names, e.name.as_str()) {
+            found.push(*e)?;
+        }
+    }
+    Ok(found)
+}
+
+/// The first of a name.
+pub fn first_of<'a>(name: &str, parts: &[&'a Element]) -> Option<&'a Element>
+    ensures { option_map (λ r. element_view r.now) result ≡ first (those (name.now ∷ []) (views parts.now)) }
+{
+    for e in parts {
+        if is_text(e.name.as_str(), name) {
+            return Some(*e);
+        }
+    }
+    None
+}
+
+/// The texts in an element, as they are, its child elements passed over.
+pub fn text_in(alloc: Global, e: &Element) -> Result<Text, Memory>
+    ensures { IfOk result (λ t. t ≡ text_in (nodes_view e.now.children)) }
+{
+    let mut text = Text::new(alloc);
+    for node in e.children.as_slice() {
+        if let Node::Words(t) = node {
+            text.push_str(t.as_str())?;
+        }
+    }
+    Ok(text)
+}
