@@ -1,8 +1,8 @@
 #!/usr/bin/env python3
-"""Times `zi select` on plain feeds of growing size, and against `0install select` where that is installed.
+"""Times `zi select` on feeds of growing size and of several shapes, and against `0install select` where that is installed.
 
 Prints the best of some runs for each size, the ratio of the time per implementation to that of the smallest feed, the
-peak memory of the largest run in feed sizes, and the ratio to 0install on the same feed in the same run.
+peak memory of the largest run in feed sizes, and for flat feeds the ratio to 0install on the same feed in the same run.
 """
 import sys
 
@@ -17,24 +17,46 @@ import time
 TOP = os.path.dirname(os.path.dirname(os.path.abspath(__file__)))
 PROGRAM = os.path.join(TOP, "crates", "zi", "out", "zi")
 NS = "http://zero-install.sourceforge.net/2004/injector/interface"
-SIZES = (1000, 4000, 16000, 40000)
 RUNS = 5
 
 
-def make(folder, count, head=""):
-    path = os.path.join(folder, f"{'named' if head else 'f'}{count}.xml")
+def tag(n, more=""):
+    # versions in no order, ids all distinct; about a hundred bytes each
+    version = f"{(n * 7919) % 9973}.{(n * 104729) % 99991}-pre{n % 7}"
+    return f'  <implementation id="implementation.number-{n:06d}" version="{version}"{more}/>\n'
+
+
+def flat(count):
+    return "".join(tag(n, ' local-path="here"') for n in range(count))
+
+
+def grouped(count):
+    tags = [tag(n) for n in range(count)]
+    tens = (f'<group local-path="here">\n{"".join(tags[n : n + 10])}</group>\n' for n in range(0, count, 10))
+    return f'<group main="run">\n{"".join(tens)}</group>\n'
+
+
+def needing(count):
+    needs = "".join(f'<requires interface="/needed-{n:03d}.xml"><version not-before="1"/></requires>\n' for n in range(100))
+    return f'<group local-path="here">\n{needs}{"".join(tag(n) for n in range(count))}</group>\n'
+
+
+# the shapes, with the sizes that are tried and the status that is wanted (95: the feed is read, and not built yet)
+SHAPES = (
+    ("flat", flat, (1000, 4000, 16000, 40000), 0),
+    ("in groups of ten", grouped, (1000, 4000, 16000, 40000), 0),
+    ("in one group with 100 dependencies", needing, (1000, 4000, 16000, 40000), 95),
+)
+
+
+def make(folder, name, inside, head=""):
+    path = os.path.join(folder, f"{name}.xml")
     with open(path, "w") as file:
-        file.write(f'<interface xmlns="{NS}">\n{head}')
-        for n in range(count):
-            # versions in no order, ids all distinct; about a hundred bytes each
-            version = f"{(n * 7919) % 9973}.{(n * 104729) % 99991}-pre{n % 7}"
-            name = f"implementation.number-{n:06d}"
-            file.write(f'  <implementation id="{name}" version="{version}" local-path="here"/>\n')
-        file.write("</interface>\n")
+        file.write(f'<interface xmlns="{NS}">\n{head}{inside}</interface>\n')
     return path
 
 
-def timed(command, env=None):
+def timed(command, env=None, wanted=0):
     best, peak = None, 0
     for _ in range(RUNS):
         start = time.perf_counter()
@@ -43,7 +65,7 @@ def timed(command, env=None):
         _, status, usage = os.wait4(child.pid, 0)
         child.returncode = os.waitstatus_to_exitcode(status)
         taken = time.perf_counter() - start
-        if child.returncode != 0:
+        if child.returncode != wanted:
             sys.exit(f"{command[0]}: status {child.returncode}: {error.decode(errors='replace').strip()}")
         best = taken if best is None else min(best, taken)
         peak = max(peak, usage.ru_maxrss * 1024)
@@ -56,21 +78,24 @@ def main():
     other = shutil.which("0install")
     folder = tempfile.mkdtemp(prefix="zi-bench-")
     os.mkdir(os.path.join(folder, "here"))  # 0install wants the path of an implementation to be there
-    first = None
-    for count in SIZES:
-        path = make(folder, count)
-        size = os.path.getsize(path)
-        taken, peak = timed([PROGRAM, "select", "--no-command", path])
-        each = taken / count
-        first = first or each
-        line = f"{count:6d} implementations, {size:8d} bytes: {taken * 1000:8.1f} ms, {each / first:5.2f} of the first per implementation, peak {peak / size:5.1f} times the bytes"
-        if other:
-            env = dict(os.environ, HOME=folder, XDG_CONFIG_HOME=folder, XDG_CACHE_HOME=folder)
-            # the same feed, with the name and summary that 0install asks for
-            named = make(folder, count, "  <name>n</name>\n  <summary>s</summary>\n")
-            theirs, _ = timed([other, "select", "--offline", "--command=", "--xml", named], env)
-            line += f", {taken / theirs:.3f} of 0install's time"
-        print(line)
+    for shape, inside, sizes, wanted in SHAPES:
+        print(shape)
+        first = None
+        for count in sizes:
+            content = inside(count)
+            path = make(folder, f"f{count}", content)
+            size = os.path.getsize(path)
+            taken, peak = timed([PROGRAM, "select", "--no-command", path], wanted=wanted)
+            each = taken / count
+            first = first or each
+            line = f"{count:6d} implementations, {size:8d} bytes: {taken * 1000:8.1f} ms, {each / first:5.2f} of the first per implementation, peak {peak / size:5.1f} times the bytes"
+            if other and inside is flat:
+                env = dict(os.environ, HOME=folder, XDG_CONFIG_HOME=folder, XDG_CACHE_HOME=folder)
+                # the same feed, with the name and summary that 0install asks for
+                named = make(folder, f"named{count}", content, "  <name>n</name>\n  <summary>s</summary>\n")
+                theirs, _ = timed([other, "select", "--offline", "--command=", "--xml", named], env)
+                line += f", {taken / theirs:.3f} of 0install's time"
+            print(line, flush=True)
     if not other:
         print("0install isn't installed: no ratio to it")
     shutil.rmtree(folder)

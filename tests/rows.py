@@ -69,25 +69,87 @@ def one_version_and_ties(folder):
     expect(run(["select", "--no-command", root], folder), 0, selections(root, "z", "01.2-"), b"")
 
 
-def the_example(folder):
+def the_examples(folder):
     # the root is a path below the top folder, and a plain one only where that folder's own path is
     root = write(folder, "hello.xml", open(os.path.join(TOP, "examples", "hello.xml"), "rb").read())
     expect(run(["select", "--no-command", root], folder), 0, selections(root, "e", "1.2.10"), b"")
+    root = write(folder, "groups.xml", open(os.path.join(TOP, "examples", "groups.xml"), "rb").read())
+    document = selections(root, "third", "1.3-rc1").replace(b'"third"', b'"third &amp; last"').replace(b"/third", b"/second")
+    expect(run(["select", "--no-command", root], folder), 0, document, b"")
 
 
-def no_plain_feed(folder):
-    wrong = [
-        f'<interface xmlns="{NS}"/>',
-        f"<interface xmlns='{NS}'>{impl('a', '1')}</interface>",
-        feed(impl("a", "1-foo")),
-        feed(impl("a", "1"), impl("a", "2")),
-        feed(impl("a", "1")) + "<!-- after -->",
-        "",
-        b"\xff\xfe",
+SELECT = ["select", "--no-command"]
+START = f'<interface xmlns="{NS}">'
+END = "</interface>"
+
+
+def bad_feeds(folder):
+    rows = [
+        ("", "document 4 at 0"),
+        (b"\xff\xfe", "document 1 at 0"),
+        (f'<a:interface xmlns="{NS}"/>', "document 6 at 0"),
+        (START, f"document 4 at {len(START)}"),
+        ("<interface/>", "feed 1 at 0"),
+        (f'{START}<group><implementation id="x"/></group>{END}', f"feed 3 at {len(START) + len('<group>')}"),
+        (f"{START}{impl('a', '1-foo')}{END}", f"feed 3 at {len(START)}"),
+        (f"{START}{impl('a', '1')}{impl('a', '2')}{END}", f"feed 13 at {len(START + impl('a', '1'))}"),
+        # the lesser place goes first, and there the lesser kind
+        (f'{START}<feed/><implementation version="1"/>{END}', f"feed 9 at {len(START)}"),
+        (f'{START}<implementation arch="-"/>{END}', f"feed 2 at {len(START)}"),
     ]
-    for text in wrong:
+    for text, fault in rows:
         root = write(folder, "f.xml", text)
-        expect(run(["select", "--no-command", root], folder), 95, b"", b"zi: not built yet\n")
+        expect(run(SELECT + [root], folder), 67, b"", f"zi: bad feed {root}: {fault}\n".encode())
+
+
+def feeds_that_are_not_heeded_yet(folder):
+    local = 'id="b" version="1" local-path="b"'
+    rows = [
+        f'<interface xmlns="{NS}"/>',
+        feed('<feed src="b.xml"/>', impl("a", "1")),
+        feed(impl("a", "1"), '<implementation id="b" version="1"/>'),
+        feed(f'<implementation {local} stability="stable"/>'),
+        feed(f'<implementation {local} arch="*-*"/>'),
+        feed(f'<implementation {local} langs="en"/>'),
+        feed(f'<implementation {local} released="2020-01-01"/>'),
+        feed(f'<implementation {local}><requires interface="/b.xml"/></implementation>'),
+        feed(f'<implementation {local}><environment name="A" value="b"/></implementation>'),
+        feed('<group><requires interface="/b.xml"/>' + impl("a", "1") + "</group>"),
+        feed(f'<implementation {local}><manifest-digest sha256="{"0" * 64}"/></implementation>'),
+    ]
+    for text in rows:
+        root = write(folder, "f.xml", text)
+        expect(run(SELECT + [root], folder), 95, b"", b"zi: not built yet\n")
+
+
+def whole_feeds(folder):
+    groups = (
+        "\ufeff<?xml version='1.0'?><!-- groups -->\n"
+        f"<interface xmlns='{NS}' uri='/elsewhere'><name>n</name><group version='1.2'><group version-modifier='-rc1' local-path='x'>"
+        "<implementation id='a'/><implementation id='b' version='1.1'/></group>"
+        "<implementation id='c' version='1.0' local-path='c'/></group></interface>"
+    )
+    root = write(folder, "groups.xml", groups)
+    document = selections(root, "a", "1.2-rc1").replace(b'local-path="' + folder.encode() + b"/a", b'local-path="' + folder.encode() + b"/x")
+    expect(run(SELECT + [root], folder), 0, document, b"")
+    text = feed("<implementation id='&amp;&lt;&gt;&quot;&#9;&#xe9;' version='1' local-path='./p//../&#10;&#13;'/>")
+    root = write(folder, "escapes.xml", text)
+    document = selections(root, "I", "1").replace(b'id="I"', 'id="&amp;&lt;&gt;&quot;&#9;\u00e9"'.encode()).replace(b'/I"', b'/&#10;&#13;"')
+    expect(run(SELECT + [root], folder), 0, document, b"")
+    signed = SIGNED.replace(b"sha1new=da39a3ee5e6b4b0d3255bfef95601890afd80709", b"a").replace(b'version="1">', b'version="1" local-path="a">')
+    root = write(folder, "signed.xml", signed)
+    expect(run(SELECT + [root], folder), 0, selections(root, "a", "1"), b"")
+
+
+def most_implementations(folder):
+    def of(count):
+        ids = "".join(f"<implementation id='{n}'/>" for n in range(count))
+        return write(folder, "most.xml", f"{START}<group version='1' local-path='a'>{ids}</group>{END}")
+
+    root = of(65536)
+    document = selections(root, "9999", "1").replace(b"/9999", b"/a")
+    expect(run(SELECT + [root], folder), 0, document, b"")
+    expect(run(SELECT + [of(65537)], folder), 95, b"", b"zi: not built yet\n")
 
 
 def many_implementations(folder):
@@ -179,8 +241,11 @@ def documents(folder):
 ROWS = [
     five_versions,
     one_version_and_ties,
-    the_example,
-    no_plain_feed,
+    the_examples,
+    bad_feeds,
+    feeds_that_are_not_heeded_yet,
+    whole_feeds,
+    most_implementations,
     many_implementations,
     feeds_that_cannot_be_read,
     a_long_feed,

@@ -1,8 +1,7 @@
 -- One pass finds the implementation before all others.
-use Rattle.std.proofs.Common.{◌≡◌, ◌≢◌, ℕ, suc, zero, ◌+◌, ◌<◌, ◌⊎◌, inl, inr, Bool, true, false, not, ◌&&◌, ◌||◌, List, [], ◌∷◌, length, get_or, refl, sym, ap, subst, ◌∙◌, arith, Some}
+use Rattle.std.proofs.Common.{◌≡◌, ◌≢◌, ℕ, ◌+◌, ◌<◌, ◌⊎◌, inl, inr, Bool, true, false, List, [], ◌∷◌, length, get_or, refl, sym, ap, subst, ◌∙◌, arith, Some}
 use Rattle.std.specs.Prelude.{unwrap_or}
-use Rattle.std.specs.List.{list_any}
-use Rattle.std.specs.Str.{bytes_eq}
+use Rattle.std.specs.List.{slice_get}
 use Rattle.std.specs.Ordering.{nat_cmp, ordering_then, ordering_reverse}
 use Rattle.std.specs.Cmp.{IsTotalOrder, on_total, then_total}
 use Rattle.std.specs.Cmp.Lexicographic.{slice_cmp, lists_total, nat_list_cmp_total}
@@ -10,12 +9,11 @@ use Rattle.std.specs.declared.cmp.Ordering.{Ordering}
 use Rattle.std.specs.declared.cmp.Ordering.TheVariants.{Less, Equal, Greater}
 use Rattle.std.proofs.lemmas.List.{get_or_read}
 use Rattle.std.proofs.lemmas.Option.{slice_get-get_or, slice_get_within, get_or_from_slice_get}
-use Rattle.std.specs.Cmp.Lexicographic.{bytes_decides}
 use Rattle.std.proofs.lemmas.Bool.Decides.{nat_tests}
 use Rattle.zi_version.specs.Value.{value}
 use Rattle.zi_app.specs.Best.{rank_cmp, Before, IsBest}
-use Rattle.zi_app.specs.Feed.{are_distinct}
-use Rattle.zi_app.specs.declared.imp.Impl.{Impl}
+use Rattle.zi_feed.specs.IdLaws.{AreDistinct}
+use Rattle.zi_feed.specs.declared.feed.Impl.{Impl}
 
 pub rank_total : IsTotalOrder rank_cmp
 rank_total = then_total (on_total (λ (c : Impl). unwrap_or (value c.version) []) (lists_total nat_list_cmp_total)) (on_total (λ (c : Impl). c.id) nat_list_cmp_total)
@@ -44,36 +42,13 @@ equal_lists (x ∷ xs) (y ∷ ys) e =
     let t : xs ≡ ys = equal_lists xs ys p.1 in
     cc
 
-pub same_bytes : (xs : List ℕ) → bytes_eq xs xs ≡ true
-same_bytes xs = (bytes_decides xs xs).1 refl
-
-or_false : (a b : Bool) → (a || b) ≡ false → (a ≡ false) × (b ≡ false)
-or_false true b e = (cc)
-or_false false b e = (refl, e)
-
-and_true : (a b : Bool) → (a && b) ≡ true → (a ≡ true) × (b ≡ true)
-and_true true b e = (refl, e)
-and_true false b e = (cc)
-
-not_true : (a : Bool) → not a ≡ true → a ≡ false
-not_true true e = (cc)
-not_true false e = refl
-
-none_passes : (test : Impl → Bool) (xs : List Impl) (l : ℕ) (d : Impl) → list_any test xs ≡ false → l < length xs → test (get_or xs l d) ≡ false
-none_passes test [] l d e lt = absurd (omega arith)
-none_passes test (x ∷ xs) zero d e lt = (or_false (test x) (list_any test xs) e).0
-none_passes test (x ∷ xs) (suc l) d e lt = none_passes test xs l d (or_false (test x) (list_any test xs) e).1 (omega arith)
-
-distinct_ids : (xs : List Impl) → are_distinct xs ≡ true → (k l : ℕ) (d : Impl) → k < l → l < length xs → (get_or xs k d).id ≢ (get_or xs l d).id
-distinct_ids [] e k l d lt in_list same = absurd (omega arith)
-distinct_ids (x ∷ xs) e k zero d lt in_list same = absurd (omega arith)
-distinct_ids (x ∷ xs) e zero (suc l) d lt in_list same =
-    let p : (not (list_any (λ j. bytes_eq x.id j.id) xs) ≡ true) × (are_distinct xs ≡ true) = and_true (not (list_any (λ j. bytes_eq x.id j.id) xs)) (are_distinct xs) e in
-    let differ : bytes_eq x.id (get_or xs l d).id ≡ false = none_passes (λ j. bytes_eq x.id j.id) xs l d (not_true (list_any (λ j. bytes_eq x.id j.id) xs) p.0) (omega arith) in
-    let itself : bytes_eq x.id (get_or xs l d).id ≡ true = rw (← same) (same_bytes x.id) in
-    cc
-distinct_ids (x ∷ xs) e (suc k) (suc l) d lt in_list same =
-    distinct_ids xs (and_true (not (list_any (λ j. bytes_eq x.id j.id) xs)) (are_distinct xs) e).1 k l d (omega arith) (omega arith) same
+-- no two ids at different indices are alike
+distinct_ids : (xs : List Impl) → AreDistinct xs → (k l : ℕ) (d : Impl) → k < l → l < length xs → (get_or xs k d).id ≢ (get_or xs l d).id
+distinct_ids xs distinct k l d lt in_list same =
+    let here : slice_get xs k ≡ Some (get_or xs k d) = slice_get-get_or xs k d (omega arith) in
+    let there : slice_get xs l ≡ Some (get_or xs l d) = slice_get-get_or xs l d in_list in
+    let e : k ≡ l = distinct k l (get_or xs k d) (get_or xs l d) here there same in
+    absurd (omega arith)
 
 -- b stands before each other of the first i
 abbrev pub IsBestBelow : List Impl → ℕ → ℕ → Type 0
@@ -93,7 +68,7 @@ below_or_at P i k lt below here = elim (lt_or_at i k lt) [ inl h ↦ below h | i
     lt_or_at : (i k : ℕ) → k < i + 1 → (k < i) ⊎ (k ≡ i)
     lt_or_at i k lt = grind arith
 
-pub best_stays : (xs : List Impl) (i b : ℕ) → are_distinct xs ≡ true → b < i → i < length xs → IsBestBelow xs i b
+pub best_stays : (xs : List Impl) (i b : ℕ) → AreDistinct xs → b < i → i < length xs → IsBestBelow xs i b
     → ((d : Impl) → ¬ Before (get_or xs i d) (get_or xs b d)) → IsBestBelow xs (i + 1) b
 best_stays xs i b distinct lt in_list so_far not_before k d le =
     let R : ℕ → Type 0 = λ k. (k ≡ b) ⊎ Before (get_or xs b d) (get_or xs k d) in
@@ -140,10 +115,23 @@ pub moved : (xs : List Impl) (i b n : ℕ) (x y : Impl) → i < length xs → b 
 moved xs i b n x y lt small e f so_far before at_i =
     rw at_i (best_moves xs i b so_far (λ d. let p : (get_or xs i d ≡ x) × (get_or xs b d ≡ y) = compared xs i b x y d lt (omega arith) e f in rw (p.0, p.1) before))
 
-pub stayed : (xs : List Impl) (i b n : ℕ) (x y : Impl) → are_distinct xs ≡ true → i < length xs → b < i → x ≡ get_or xs i x → y ≡ get_or xs b y
+pub stayed : (xs : List Impl) (i b n : ℕ) (x y : Impl) → AreDistinct xs → i < length xs → b < i → x ≡ get_or xs i x → y ≡ get_or xs b y
     → IsBestBelow xs i b → ¬ Before x y → n ≡ b → IsBestBelow xs (i + 1) n
 stayed xs i b n x y distinct lt small e f so_far not_before at_b =
     rw at_b (best_stays xs i b distinct small lt so_far (λ d. let p : (get_or xs i d ≡ x) × (get_or xs b d ≡ y) = compared xs i b x y d lt (omega arith) e f in λ h. not_before (rw (p.0, p.1) at h)))
 
 pub different : (b : Bool) → b ≡ true → b ≡ false → ⊥
 different b t f = cc
+
+-- no two stand before every other
+pub not_both : (xs : List Impl) (s t : Impl) → IsBest xs s → IsBest xs t → s ≡ t
+not_both xs s t x y = elim (x.before y.one.0 t y.one.1) [
+  | inl e ↦ sym e
+  | inr p ↦ elim (y.before x.one.0 s x.one.1) [
+    | inl e ↦ e
+    | inr q ↦ absurd (asymmetric s t p q)
+  ]
+]
+  where
+    asymmetric : (c d : Impl) → Before c d → Before d c → ⊥
+    asymmetric c d p q = let e : Greater ≡ Less = sym p ∙ rank_total.antisymm c d ∙ ap ordering_reverse q in (cc)

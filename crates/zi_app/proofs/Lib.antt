@@ -1,10 +1,7 @@
-pub mod PlainLemmas
-pub mod FolderLemmas
 pub mod BestLemmas
 pub mod WordsLemmas
-pub mod ContentLemmas
 pub mod LineLemmas
 pub mod RunLemmas
-pub mod SeenLemmas
-pub mod GrammarParts
-pub mod GrammarLaws
+pub mod DocumentLemmas
+pub mod FeedLemmas
+pub mod CauseLaws

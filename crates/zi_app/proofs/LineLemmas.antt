@@ -100,3 +100,12 @@ pub told_long : {T : Type 0} (old : Option (List ℕ)) (uri n : List ℕ) (r : R
     → PutsAll old ((codes "zi: " ++ uri) ++ (codes " is longer than " ++ n ++ codes " bytes\n")) r new
     → PutsAll old (codes "zi: " ++ (uri ++ codes " is longer than " ++ n ++ codes " bytes") ++ codes "\n") r new
 told_long old uri n r new p = subst (λ t. PutsAll old t r new) (sym (long_line uri n)) p
+
+-- the line of a bad feed, in its pieces
+bad_line : (uri fault : List ℕ) → codes "zi: " ++ (codes "bad feed " ++ uri ++ codes ": " ++ fault) ++ codes "\n" ≡ (codes "zi: bad feed " ++ uri ++ codes ": ") ++ (fault ++ codes "\n")
+bad_line uri fault = simp append_assoc
+
+pub told_bad : {T : Type 0} (old : Option (List ℕ)) (uri fault : List ℕ) (r : Result T SinkFault) (new : Option (List ℕ))
+    → PutsAll old ((codes "zi: bad feed " ++ uri ++ codes ": ") ++ (fault ++ codes "\n")) r new
+    → PutsAll old (codes "zi: " ++ (codes "bad feed " ++ uri ++ codes ": " ++ fault) ++ codes "\n") r new
+told_bad old uri fault r new p = subst (λ t. PutsAll old t r new) (sym (bad_line uri fault)) p

@@ -4,7 +4,7 @@ use Rattle.std.proofs.lemmas.List.{take_all}
 use Rattle.zi_outside.specs.Count.{Rose}
 use Rattle.zi_outside.specs.Outside.{Holding, gained, GainsFront}
 use Rattle.zi_app.specs.declared.outcome.Outcome.{Outcome}
-use Rattle.zi_app.specs.declared.outcome.Outcome.TheVariants.{Done, Usage, FeedRead, NoRootFeed, FeedTooLong, SinkFault, Memory, Unbuilt}
+use Rattle.zi_app.specs.declared.outcome.Outcome.TheVariants.{Done, Usage, FeedRead, NoRootFeed, BadFeed, FeedTooLong, SinkFault, Memory, Unbuilt}
 use Rattle.zi_app.specs.Select.{Runs, Tells}
 use Rattle.zi_app.specs.Line.{line_of}
 
@@ -17,6 +17,7 @@ told_ok e f old new Done p = inl p
 told_ok e f old new (Usage index) p = inl p
 told_ok e f old new (FeedRead uri) p = inl p
 told_ok e f old new NoRootFeed p = inl p
+told_ok e f old new (BadFeed uri fault) p = inl p
 told_ok e f old new (FeedTooLong uri limit) p = inl p
 told_ok e f old new SinkFault p = inl p
 told_ok e f old new Unbuilt p = inl p
@@ -27,6 +28,7 @@ told_failed e f old new Done r p = inr (r, p)
 told_failed e f old new (Usage index) r p = inr (r, p)
 told_failed e f old new (FeedRead uri) r p = inr (r, p)
 told_failed e f old new NoRootFeed r p = inr (r, p)
+told_failed e f old new (BadFeed uri fault) r p = inr (r, p)
 told_failed e f old new (FeedTooLong uri limit) r p = inr (r, p)
 told_failed e f old new SinkFault r p = inr (r, p)
 told_failed e f old new Unbuilt r p = inr (r, p)
@@ -40,8 +42,9 @@ runs_memory words told f g o p old new Done (root, asks, (s, chosen, e)) = inr (
 runs_memory words told f g o p old new (Usage index) r = inl r.2
 runs_memory words told f g o p old new (FeedRead uri) (root, asks, r) = inl r.2
 runs_memory words told f g o p old new NoRootFeed (root, asks, r) = inl r.1
+runs_memory words told f g o p old new (BadFeed uri fault) (root, asks, r) = inl r.2
 runs_memory words told f g o p old new (FeedTooLong uri limit) (root, asks, r) = inl r.3
 runs_memory words told f g o p old new SinkFault (root, asks, (s, chosen, rose, front)) = inr (root, asks, inr (s, chosen, front))
-runs_memory words told f g o p old new Unbuilt (root, asks, r) = inl r.3
+runs_memory words told f g o p old new Unbuilt (root, asks, r) = inl r.1
 
 pub ruleset running = (told_ok, told_failed, told_memory, runs_memory)

@@ -10,8 +10,7 @@ use Rattle.std.specs.Str.{bytes_eq}
 use Rattle.std.proofs.lemmas.Option.{slice_get-get_or, slice_get_within, get_or_from_slice_get}
 use Rattle.zi_text.specs.Front.{StopsAt, stops_before, stops_at_end}
 use Rattle.zi_text.specs.Pieces.{pieces}
-use Rattle.zi_app.specs.Plain.{is_plain_byte}
-use Rattle.zi_app.specs.Words.{is_root, parts_from, AsksFor, Right}
+use Rattle.zi_app.specs.Words.{is_plain_byte, is_root, parts_from, AsksFor, Right}
 
 differ : (a b : ℕ) → a ≢ b → (a == b) ≡ false
 differ a b h = grind (arith, nat_tests)

@@ -1,15 +1,31 @@
--- The selections document of one local implementation, for values that need no escape.
-use Rattle.std.specs.Prelude.{ℕ, ◌==◌, if◌then◌else◌, List, [], ◌∷◌, ◌++◌, codes}
-use Rattle.std.specs.List.{list_any}
-use Rattle.zi_app.specs.Feed.{namespace}
-use Rattle.zi_app.specs.declared.imp.Impl.{Impl}
+-- The selections document of one local implementation.
+use Rattle.std.specs.Prelude.{ℕ, ◌==◌, if◌then◌else◌, List, [], ◌∷◌, ◌++◌, codes, unwrap_or}
+use Rattle.std.specs.List.{flat_map}
+use Rattle.zi_feed.specs.declared.feed.Impl.{Impl}
 
--- a path up to and with its last slash
-abbrev pub folder : List ℕ → List ℕ
-folder [] = []
-folder (b ∷ bs) = if list_any (λ c. c == 47) bs then b ∷ folder bs else (if b == 47 then b ∷ [] else [])
+-- A byte as it stands in a value between double quotes. Those that a reader of XML 1.0 would take for markup (2.4) or for
+-- a space (3.3.3) are written as references.
+abbrev pub escaped : ℕ → List ℕ
+escaped b =
+    if b == 38 then codes "&amp;"
+    else if b == 60 then codes "&lt;"
+    else if b == 62 then codes "&gt;"
+    else if b == 34 then codes "&quot;"
+    else if b == 9 then codes "&#9;"
+    else if b == 10 then codes "&#10;"
+    else if b == 13 then codes "&#13;"
+    else b ∷ []
+
+-- a space, the name, `=` and the value in double quotes
+unfoldable pub attribute : List ℕ → List ℕ → List ℕ
+attribute name value = codes " " ++ name ++ codes "=\"" ++ flat_map escaped value ++ codes "\""
+
+-- where a local implementation lies
+abbrev pub path_of : Impl → List ℕ
+path_of s = unwrap_or s.local []
 
 unfoldable pub document : List ℕ → Impl → List ℕ
 document root s =
-    codes "<?xml version=\"1.0\" encoding=\"utf-8\"?>\n<selections xmlns=\"" ++ namespace ++ codes "\" interface=\"" ++ root ++ codes "\">\n  <selection interface=\"" ++ root
-    ++ codes "\" id=\"" ++ s.id ++ codes "\" version=\"" ++ s.version ++ codes "\" local-path=\"" ++ folder root ++ s.path ++ codes "\" stability=\"testing\"/>\n</selections>\n"
+    codes "<?xml version=\"1.0\" encoding=\"utf-8\"?>\n<selections xmlns=\"http://zero-install.sourceforge.net/2004/injector/interface\"" ++ attribute (codes "interface") root
+    ++ codes ">\n  <selection" ++ attribute (codes "interface") root ++ attribute (codes "id") s.id ++ attribute (codes "version") s.version ++ attribute (codes "local-path") (path_of s)
+    ++ codes " stability=\"testing\"/>\n</selections>\n"

@@ -1,80 +1,43 @@
--- How a plain feed is read from the front: each function gives what it reads and the text behind it. What a plain feed is,
--- is said by the grammar.
-use Rattle.std.specs.Prelude.{◌≡◌, ℕ, ◌≤◌, ◌<◌, Bool, true, not, ◌&&◌, ◌==◌, if◌then◌else◌, List, [], ◌∷◌, length, codes, Option, Some, None, is_some}
-use Rattle.std.specs.List.{list_any, starts_with}
-use Rattle.std.specs.Str.{bytes_eq}
-use denote.Bor.{Bor}
-use Rattle.zi_version.specs.Value.{value}
-use Rattle.zi_app.specs.Plain.{◌>>=◌, after, after_space, after_gap, opening_at, attribute_at}
-use Rattle.zi_app.specs.declared.imp.Impl.{Impl}
+-- What the root's bytes say, and which feeds this program chooses from.
+use Rattle.std.specs.Prelude.{◌≡◌, ℕ, Bool, true, false, ◌&&◌, ◌==◌, nat_lt, nat_le, List, length, Some, None, is_some, is_none}
+use Rattle.std.specs.List.{list_all}
+use Rattle.zi_policy.specs.declared.types.Stability.{Stability}
+use Rattle.zi_policy.specs.declared.types.Stability.TheVariants.{Testing}
+use Rattle.zi_elements.specs.declared.element.Element.{Element}
+use Rattle.zi_doc.specs.Documents as documents
+use Rattle.zi_forest.specs.Forest.{element_view}
+use Rattle.zi_feed.specs.Feeds.{feed_fault, feed_of}
+use Rattle.zi_feed.specs.declared.feed.Feed.{Feed}
+use Rattle.zi_feed.specs.declared.feed.Impl.{Impl}
+use Rattle.zi_app.specs.declared.outcome.BadFeed.{BadFeed}
+use Rattle.zi_app.specs.declared.outcome.BadFeed.TheVariants as bad
 
-abbrev pub namespace : List ℕ
-namespace = codes "http://zero-install.sourceforge.net/2004/injector/interface"
+-- The bytes are a document whose tree is the feed at this address, and neither has a fault.
+pub record SaysFeed (uri bytes : List ℕ) (feed : Feed) : Type 0 where
+  pub tree : Element
+  pub spells : documents.Spells bytes tree
+  pub right : feed_fault (element_view tree) uri ≡ None
+  pub says : feed ≡ feed_of (element_view tree) uri
 
--- an empty tag `implementation` with the three attributes in their order, and white space: the values, and what is behind it
-unfoldable pub values_at : List ℕ → Option (List ℕ × List ℕ × List ℕ × List ℕ)
-values_at text =
-    after (codes "<implementation") text >>= λ a.
-    attribute_at (codes "id") a >>= λ (id : List ℕ × List ℕ).
-    attribute_at (codes "version") id.1 >>= λ (version : List ℕ × List ℕ).
-    attribute_at (codes "local-path") version.1 >>= λ (path : List ℕ × List ℕ).
-    after (codes "/>") (after_space path.1) >>= λ b.
-    Some (id.0, version.0, path.0, after_space b)
+-- The bytes have this fault: as a document, or as the feed at this address that the document's tree is.
+abbrev pub HasFault : List ℕ → List ℕ → BadFeed → Type 0
+HasFault uri bytes (bad.Doc kind place) = documents.HasFault bytes kind place
+HasFault uri bytes (bad.Feed kind place) = (tree : Element) × documents.Spells bytes tree × (feed_fault (element_view tree) uri ≡ Some (record { kind = kind; place = place }))
 
--- the implementation of these values, where they are right
-abbrev pub made_of : List ℕ → List ℕ → List ℕ → Option Impl
-made_of id version path = if starts_with (◌==◌) id (codes "sha256new_") then None else (if is_some (value version) then Some (record { id = id; version = version; path = path }) else None)
+abbrev pub is_testing : Stability → Bool
+is_testing Testing = true
+is_testing _ = false
 
-unfoldable pub implementation_at : List ℕ → Option (Impl × List ℕ)
-implementation_at text = values_at text >>= λ (v : List ℕ × List ℕ × List ℕ × List ℕ). made_of v.0 v.1 v.2 >>= λ i. Some (i, v.3)
+-- nothing stands in the list
+abbrev pub is_empty : {X : Type 0} → List X → Bool
+is_empty xs = length xs == 0
 
--- white space, the start tag with the one attribute `xmlns`, and white space
-unfoldable pub start_at : List ℕ → Option (List ℕ)
-start_at text =
-    after (codes "<interface") (after_space text) >>= λ a.
-    after_gap a >>= λ b.
-    after (codes "xmlns") b >>= λ c.
-    opening_at c >>= λ d.
-    after namespace d >>= λ e.
-    after (codes "\"") e >>= λ f.
-    after (codes ">") (after_space f) >>= λ g.
-    Some (after_space g)
+-- A local implementation of stability testing that nothing but its version and id tells from others, and that needs and sets nothing.
+abbrev pub is_simple : Impl → Bool
+is_simple i =
+    is_some i.local && is_testing i.stability && is_none i.arch && is_empty i.langs && is_none i.released
+    && is_empty i.digests && is_empty i.deps && is_empty i.bindings
 
--- nothing is left
-abbrev pub nothing_left : List ℕ → Option (List ℕ)
-nothing_left [] = Some []
-nothing_left (b ∷ bs) = None
-
--- the end tag and white space, and no more
-unfoldable pub ends : List ℕ → Bool
-ends text = is_some (after (codes "</interface") text >>= λ a. after (codes ">") (after_space a) >>= λ b. nothing_left (after_space b))
-
--- these implementations, one behind the other, and then the end
-abbrev pub AreImpls : List Impl → List ℕ → Type 0
-AreImpls [] text = ends text ≡ true
-AreImpls (i ∷ is) text = (rest : List ℕ) × (implementation_at text ≡ Some (i, rest)) × AreImpls is rest
-
--- no id stands twice
-abbrev pub are_distinct : List Impl → Bool
-are_distinct [] = true
-are_distinct (i ∷ is) = not (list_any (λ j. bytes_eq i.id j.id) is) && are_distinct is
-
--- the content of the feed: 1 to 65536 implementations of distinct ids, and the end
-pub record IsContent (text : List ℕ) (impls : List Impl) : Type 0 where
-  pub inside : AreImpls impls text
-  pub some : 0 < length impls
-  pub few : length impls ≤ 65536
-  pub distinct : are_distinct impls ≡ true
-
--- reading the bytes finds these implementations
-pub record ReadsAs (bytes : List ℕ) (impls : List Impl) : Type 0 where
-  pub text : List ℕ
-  pub start : start_at bytes ≡ Some text
-  pub content : IsContent text impls
-
--- what parts of a text hold
-abbrev pub four_now : Bor (List ℕ) × Bor (List ℕ) × Bor (List ℕ) × Bor (List ℕ) → List ℕ × List ℕ × List ℕ × List ℕ
-four_now v = (v.0.now, v.1.now, v.2.now, v.3.now)
-
-abbrev pub impl_now : Impl × Bor (List ℕ) → Impl × List ℕ
-impl_now v = (v.0, v.1.now)
+-- Feeds that this program chooses from: no import, and 1 to 65536 implementations, all of them simple.
+abbrev pub is_built : Feed → Bool
+is_built f = is_empty f.imports && nat_lt 0 (length f.impls) && nat_le (length f.impls) 65536 && list_all is_simple f.impls

@@ -3,16 +3,26 @@ use Rattle.std.specs.Prelude.{◌≡◌, ℕ, Option, Result, Ok, Err, List, [],
 use Rattle.std.specs.Fmt.{decimal}
 use Rattle.zi_outside.specs.Count.{Rose}
 use Rattle.zi_outside.specs.Outside.{gained, GainsFront}
-use Rattle.zi_outside.specs.declared.sink.SinkFault.{SinkFault as Fault}
+use Rattle.zi_outside.specs.declared.sink.SinkFault.{SinkFault as Refusal}
 use Rattle.zi_outside.specs.declared.sink.SinkFault.TheVariants as fault
 use Rattle.zi_app.specs.declared.outcome.Outcome.{Outcome}
-use Rattle.zi_app.specs.declared.outcome.Outcome.TheVariants.{Done, Usage, FeedRead, NoRootFeed, FeedTooLong, SinkFault, Memory, Unbuilt}
+use Rattle.zi_app.specs.declared.outcome.Outcome.TheVariants.{Done, Usage, FeedRead, NoRootFeed, BadFeed, FeedTooLong, SinkFault, Memory, Unbuilt}
+use Rattle.zi_app.specs.declared.outcome.BadFeed.{BadFeed as Fault}
+use Rattle.zi_app.specs.declared.outcome.BadFeed.TheVariants as bad
+use Rattle.zi_doc.specs.Kinds as documents
+use Rattle.zi_feed.specs.Faults as feeds
+
+-- a fault by its kind's number and its place
+abbrev pub blamed : Fault → List ℕ
+blamed (bad.Doc kind place) = codes "document " ++ decimal (documents.number_of kind) ++ codes " at " ++ decimal place
+blamed (bad.Feed kind place) = codes "feed " ++ decimal (feeds.number kind) ++ codes " at " ++ decimal place
 
 abbrev pub text_of : Outcome → List ℕ
 text_of Done = []
 text_of (Usage index) = codes "usage at word " ++ decimal index
 text_of (FeedRead uri) = codes "cannot read " ++ uri
 text_of NoRootFeed = codes "no feed for the root"
+text_of (BadFeed uri fault) = codes "bad feed " ++ uri ++ codes ": " ++ blamed fault
 text_of (FeedTooLong uri limit) = uri ++ codes " is longer than " ++ decimal limit ++ codes " bytes"
 text_of SinkFault = codes "cannot write"
 text_of Memory = codes "out of memory"
@@ -27,18 +37,19 @@ code_of Done = 0
 code_of (Usage index) = 64
 code_of (FeedRead uri) = 65
 code_of NoRootFeed = 66
+code_of (BadFeed uri fault) = 67
 code_of (FeedTooLong uri limit) = 68
 code_of SinkFault = 93
 code_of Memory = 94
 code_of Unbuilt = 95
 
 -- what puts of a text piece by piece add: all of it, or after a fault a front of it
-abbrev pub PutsAll : {T : Type 0} → Option (List ℕ) → List ℕ → Result T Fault → Option (List ℕ) → Type 0
+abbrev pub PutsAll : {T : Type 0} → Option (List ℕ) → List ℕ → Result T Refusal → Option (List ℕ) → Type 0
 PutsAll old text (Ok x) new = new ≡ gained old text
 PutsAll old text (Err e) new = GainsFront old text new
 
 -- putting pieces fails only where the count rose
-abbrev pub FailsWhereRose : {T : Type 0} → ℕ → Result T Fault → ℕ → Type 0
+abbrev pub FailsWhereRose : {T : Type 0} → ℕ → Result T Refusal → ℕ → Type 0
 FailsWhereRose before (Ok x) after = Unit {0}
 FailsWhereRose before (Err fault.Failed) after = Rose before after
 FailsWhereRose before (Err fault.Memory) after = Unit {0}

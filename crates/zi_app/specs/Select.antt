@@ -1,12 +1,16 @@
 -- What a call of the program does, by its outcome.
-use Rattle.std.specs.Prelude.{◌≡◌, ℕ, ◌<◌, ◌≤◌, ◌*◌, ◌⊎◌, List, length, Option, Some, None, IfSome, IsSomeAnd}
+use Rattle.std.specs.Prelude.{◌≡◌, ℕ, ◌<◌, ◌≤◌, ◌*◌, ◌⊎◌, true, false, List, length, Option, Some, None, Result, Ok, Err, IfSome, IsSomeAnd}
 use Rattle.zi_text.specs.Front.{StopsAt}
 use Rattle.zi_outside.specs.Count.{Rose}
 use Rattle.zi_outside.specs.Outside.{Holding, gained, GainsFront}
-use Rattle.zi_app.specs.declared.imp.Impl.{Impl}
+use Rattle.zi_feed.specs.declared.feed.Feed.{Feed}
+use Rattle.zi_feed.specs.declared.feed.Impl.{Impl}
 use Rattle.zi_app.specs.declared.outcome.Outcome.{Outcome}
-use Rattle.zi_app.specs.declared.outcome.Outcome.TheVariants.{Done, Usage, FeedRead, NoRootFeed, FeedTooLong, SinkFault, Memory, Unbuilt}
-use Rattle.zi_app.specs.Grammar.{IsPlainFeed}
+use Rattle.zi_app.specs.declared.outcome.Outcome.TheVariants.{Done, Usage, FeedRead, NoRootFeed, BadFeed, FeedTooLong, SinkFault, Memory, Unbuilt}
+use Rattle.zi_app.specs.declared.outcome.BadFeed.{BadFeed as Fault}
+use Rattle.zi_app.specs.declared.read.NoFeed.{NoFeed}
+use Rattle.zi_app.specs.declared.read.NoFeed.TheVariants as none
+use Rattle.zi_app.specs.Feed.{SaysFeed, HasFault, is_built}
 use Rattle.zi_app.specs.Best.{IsBest}
 use Rattle.zi_app.specs.Document.{document}
 use Rattle.zi_app.specs.Words.{AsksFor, Right}
@@ -21,13 +25,24 @@ pub record IsFeed (told : Option Holding) (root bytes : List ℕ) : Type 0 where
   pub held : IfSome told (λ holds. holds root ≡ Some bytes)
   pub short : length bytes ≤ feed_limit
 
--- The root's feed is plain, and s is its implementation before every other.
+-- The bytes say a feed of this address that is built, and s is its implementation before every other.
+pub record IsChosen (root bytes : List ℕ) (s : Impl) : Type 0 where
+  pub feed : Feed
+  pub says : SaysFeed root bytes feed
+  pub built : is_built feed ≡ true
+  pub best : IsBest feed.impls s
+
+-- The bytes say a feed of this address that isn't built.
+pub record IsUnbuilt (root bytes : List ℕ) : Type 0 where
+  pub feed : Feed
+  pub says : SaysFeed root bytes feed
+  pub built : is_built feed ≡ false
+
+-- The choice of s is from the root's bytes.
 pub record Chosen (told : Option Holding) (root : List ℕ) (s : Impl) : Type 0 where
   pub bytes : List ℕ
   pub feed : IsFeed told root bytes
-  pub impls : List Impl
-  pub plain : IsPlainFeed bytes impls
-  pub best : IsBest impls s
+  pub chosen : IsChosen root bytes s
 
 -- What an outcome of `select` for a root says. f and g are the feeds' counts of faults before and after, o and p those of the output,
 -- and old and new what was written to it.
@@ -38,7 +53,8 @@ Selects root told f g o p old new (Usage index) = ⊥
 Selects root told f g o p old new (FeedRead uri) = (uri ≡ root) × Rose f g × (new ≡ old)
 Selects root told f g o p old new (FeedTooLong uri limit) = (uri ≡ root) × (limit ≡ feed_limit) × IfSome told (λ holds. IsSomeAnd (holds root) (λ bytes. feed_limit < length bytes)) × (new ≡ old)
 Selects root told f g o p old new NoRootFeed = IfSome told (λ holds. holds root ≡ None) × (new ≡ old)
-Selects root told f g o p old new Unbuilt = (bytes : List ℕ) × IsFeed told root bytes × ((impls : List Impl) → ¬ IsPlainFeed bytes impls) × (new ≡ old)
+Selects root told f g o p old new (BadFeed uri fault) = (uri ≡ root) × ((bytes : List ℕ) × IsFeed told root bytes × HasFault root bytes fault) × (new ≡ old)
+Selects root told f g o p old new Unbuilt = ((bytes : List ℕ) × IsFeed told root bytes × IsUnbuilt root bytes) × (new ≡ old)
 Selects root told f g o p old new SinkFault = (s : Impl) × Chosen told root s × Rose o p × GainsFront old (document root s) new
 Selects root told f g o p old new Memory = (new ≡ old) ⊎ ((s : Impl) × Chosen told root s × GainsFront old (document root s) new)
 
@@ -48,11 +64,18 @@ Runs words told f g o p old new (Usage index) = (¬ Right words) × StopsAt Righ
 Runs words told f g o p old new Memory = (new ≡ old) ⊎ ((root : List ℕ) × AsksFor words root × Selects root told f g o p old new Memory)
 Runs words told f g o p old new outcome = (root : List ℕ) × AsksFor words root × Selects root told f g o p old new outcome
 
+-- What reading the root's bytes answers: the feed that they say, or their fault.
+abbrev pub ReadsFeed : List ℕ → List ℕ → Result Feed NoFeed → Type 0
+ReadsFeed root bytes (Ok feed) = SaysFeed root bytes feed
+ReadsFeed root bytes (Err (none.Bad fault)) = HasFault root bytes fault
+ReadsFeed root bytes (Err none.Memory) = Unit {0}
+
 -- What the choice from a feed's bytes says.
 abbrev pub ChoosesFrom : List ℕ → List ℕ → ℕ → ℕ → Option (List ℕ) → Option (List ℕ) → Outcome → Type 0
-ChoosesFrom root bytes o p old new Done = (impls : List Impl) × (s : Impl) × IsPlainFeed bytes impls × IsBest impls s × (new ≡ gained old (document root s))
-ChoosesFrom root bytes o p old new Unbuilt = ((impls : List Impl) → ¬ IsPlainFeed bytes impls) × (new ≡ old)
-ChoosesFrom root bytes o p old new SinkFault = (impls : List Impl) × (s : Impl) × IsPlainFeed bytes impls × IsBest impls s × Rose o p × GainsFront old (document root s) new
+ChoosesFrom root bytes o p old new Done = (s : Impl) × IsChosen root bytes s × (new ≡ gained old (document root s))
+ChoosesFrom root bytes o p old new (BadFeed uri fault) = (uri ≡ root) × HasFault root bytes fault × (new ≡ old)
+ChoosesFrom root bytes o p old new Unbuilt = IsUnbuilt root bytes × (new ≡ old)
+ChoosesFrom root bytes o p old new SinkFault = (s : Impl) × IsChosen root bytes s × Rose o p × GainsFront old (document root s) new
 ChoosesFrom root bytes o p old new Memory = new ≡ old
 ChoosesFrom root bytes o p old new other = ⊥
 
@@ -60,6 +83,11 @@ abbrev pub IsUnread : List ℕ → Outcome → Type 0
 IsUnread root (FeedRead uri) = uri ≡ root
 IsUnread root Memory = Unit {0}
 IsUnread root other = ⊥
+
+abbrev pub IsBad : List ℕ → Fault → Outcome → Type 0
+IsBad root fault (BadFeed uri f) = (uri ≡ root) × (f ≡ fault)
+IsBad root fault Memory = Unit {0}
+IsBad root fault other = ⊥
 
 abbrev pub IsTooLong : List ℕ → Outcome → Type 0
 IsTooLong root (FeedTooLong uri limit) = (uri ≡ root) × (limit ≡ feed_limit)

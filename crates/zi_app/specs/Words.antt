@@ -1,8 +1,17 @@
 -- Which words are right: `select`, `--no-command` and a root.
-use Rattle.std.specs.Prelude.{◌≡◌, ℕ, Bool, true, false, ◌&&◌, List, [], ◌∷◌, codes}
+use Rattle.std.specs.Prelude.{◌≡◌, ℕ, Bool, true, false, ◌&&◌, ◌||◌, ◌==◌, List, [], ◌∷◌, codes}
 use Rattle.std.specs.List.{list_all}
+use Rattle.std.specs.Char.{is_ascii_alphanumeric}
 use Rattle.zi_text.specs.Pieces.{pieces}
-use Rattle.zi_app.specs.Plain.{is_plain, is_plain_byte}
+
+-- ASCII letters, digits, `.`, `-` and `_`
+abbrev pub is_plain_byte : ℕ → Bool
+is_plain_byte b = is_ascii_alphanumeric b || b == 46 || b == 45 || b == 95
+
+-- a plain value begins with a letter or a digit
+abbrev pub is_plain : List ℕ → Bool
+is_plain [] = false
+is_plain (b ∷ bs) = is_ascii_alphanumeric b && list_all is_plain_byte bs
 
 abbrev pub are_parts : List (List ℕ) → Bool
 are_parts [] = false

@@ -4,15 +4,14 @@
 
 mod best;
 mod document;
-mod feed;
-mod imp;
+pub mod laws;
 mod line;
 mod outcome;
-mod plain;
+mod read;
 mod select;
 mod words;
 
-pub use outcome::Outcome;
+pub use outcome::{BadFeed, Outcome};
 pub use select::run;
 
 #[cfg(test)]
@@ -152,26 +151,146 @@ mod tests {
         Ok(())
     }
 
+    // The status and the line of a bad feed whose bytes are so.
+    fn bad(rt: &impl Abort, alloc: Global, bytes: &[u8], fault: &str) -> Result<(), Fail> {
+        let line = format!(in alloc; "zi: bad feed {ROOT}: {fault}\n")?;
+        refused(rt, alloc, bytes, [].as_slice(), 67, line.as_str())
+    }
+
     #[test]
-    fn what_is_no_plain_feed_is_unbuilt(rt: HostRuntime) -> Result<(), Fail> {
+    fn bad_feeds_are_told_by_kind_and_place(rt: HostRuntime) -> Result<(), Fail> {
+        let prefix =
+            "<a:interface xmlns=\"http://zero-install.sourceforge.net/2004/injector/interface\"/>";
+        bad(&rt, rt.alloc(), prefix.as_bytes(), "document 6 at 0")?;
+        bad(&rt, rt.alloc(), b"\xff".as_slice(), "document 1 at 0")?;
         let rows = [
-            "</interface>",
-            "<implementation id=\"a\" version=\"1\" local-path=\"a\"/>",
-            "<implementation id=\"a\" version=\"1-x\" local-path=\"a\"/></interface>",
-            "<implementation id='a' version=\"1\" local-path=\"a\"/></interface>",
-            "<implementation id=\"sha256new_A\" version=\"1\" local-path=\"a\"/></interface>",
-            "<implementation id=\"a\" version=\"1\" local-path=\"a\"/><implementation id=\"a\" version=\"2\" local-path=\"b\"/></interface>",
+            ("", "document 4 at 79"),
+            ("<group>", "document 4 at 86"),
+            (
+                "<group><implementation id=\"x\"/></group></interface>",
+                "feed 3 at 86",
+            ),
+            (
+                "<implementation version=\"1\"/></interface>",
+                "feed 2 at 79",
+            ),
+            (
+                "<implementation id=\"a\" version=\"1-x\"/></interface>",
+                "feed 3 at 79",
+            ),
+            ("<feed/></interface>", "feed 9 at 79"),
+            (
+                "<group version=\"1\"><implementation id=\"a\"/><implementation id=\"a\"/></group></interface>",
+                "feed 13 at 122",
+            ),
         ];
-        for row in rows {
+        for (row, fault) in rows {
             let feed = format!(in rt.alloc(); "{START}{row}")?;
-            refused(
-                &rt,
-                rt.alloc(),
-                feed.as_bytes(),
-                [].as_slice(),
-                95,
-                "zi: not built yet\n",
+            bad(&rt, rt.alloc(), feed.as_bytes(), fault)?;
+        }
+        bad(&rt, rt.alloc(), b"<interface/>".as_slice(), "feed 1 at 0")
+    }
+
+    // A feed with this inside is not built yet.
+    fn unbuilt(rt: &impl Abort, alloc: Global, content: &str) -> Result<(), Fail> {
+        let feed = format!(in alloc; "{START}{content}</interface>")?;
+        let line = "zi: not built yet\n";
+        refused(rt, alloc, feed.as_bytes(), [].as_slice(), 95, line)
+    }
+
+    #[test]
+    fn what_is_not_heeded_yet_is_unbuilt(rt: HostRuntime) -> Result<(), Fail> {
+        unbuilt(&rt, rt.alloc(), "")?;
+        unbuilt(&rt, rt.alloc(), "<group/>")?;
+        let plain = "<implementation id=\"a\" version=\"1\" local-path=\"a\"/>";
+        let import = format!(in rt.alloc(); "<feed src=\"b.xml\"/>{plain}")?;
+        unbuilt(&rt, rt.alloc(), import.as_str())?;
+        let attributes = [
+            "",
+            "local-path=\"b\" stability=\"stable\"",
+            "local-path=\"b\" arch=\"Linux-*\"",
+            "local-path=\"b\" langs=\"en\"",
+            "local-path=\"b\" released=\"\"",
+        ];
+        for more in attributes {
+            let content = format!(in rt.alloc();
+                "{plain}<implementation id=\"b\" version=\"1\" {more}/>"
             )?;
+            unbuilt(&rt, rt.alloc(), content.as_str())?;
+        }
+        let parts = [
+            "<requires interface=\"/b.xml\"/>",
+            "<restricts interface=\"/b.xml\"/>",
+            "<environment name=\"A\" insert=\"\"/>",
+            "<manifest-digest sha1new=\"da39a3ee5e6b4b0d3255bfef95601890afd80709\"/>",
+        ];
+        for part in parts {
+            let content = format!(in rt.alloc();
+                "<implementation id=\"b\" version=\"1\" local-path=\"b\">{part}</implementation>{plain}"
+            )?;
+            unbuilt(&rt, rt.alloc(), content.as_str())?;
+        }
+        Ok(())
+    }
+
+    // What is written for a feed of this text: the values of the chosen, as they stand in the document.
+    fn chosen(
+        rt: &impl Abort,
+        alloc: Global,
+        feed: &str,
+        id: &str,
+        version: &str,
+        path: &str,
+    ) -> Result<(), Fail> {
+        let mut feeds = fed(alloc, feed.as_bytes(), [].as_slice())?;
+        let all = ["select", "--no-command", ROOT];
+        let (code, out, err) = called(alloc, all.as_slice(), &mut feeds, [].as_slice())?;
+        assert_eq!(rt; err.bytes().len(), 0);
+        assert_eq!(rt; code, 0);
+        let head =
+            "<?xml version=\"1.0\" encoding=\"utf-8\"?>\n<selections xmlns=\"http://zero-install.sourceforge.net/2004/injector/interface\" interface=\"/feeds/hello.xml\">\n";
+        let document = format!(in alloc;
+            "{head}  <selection interface=\"/feeds/hello.xml\" id=\"{id}\" version=\"{version}\" local-path=\"{path}\" stability=\"testing\"/>\n</selections>\n"
+        )?;
+        assert_eq!(rt; out.bytes().as_slice(), document.as_bytes());
+        Ok(())
+    }
+
+    #[test]
+    fn whole_feeds_are_read(rt: HostRuntime) -> Result<(), Fail> {
+        let inside = [
+            // inherited, each by itself
+            (
+                "<group version='1.2' local-path='x'><group version-modifier='-rc1'><implementation id='a'/></group><implementation id='b' version='1.1'/></group>",
+                "a",
+                "1.2-rc1",
+                "/feeds/x",
+            ),
+            // a path through folders
+            (
+                "<implementation id='a' version='1' local-path='./b//../../c'/>",
+                "a",
+                "1",
+                "/c",
+            ),
+            // values that need an escape
+            (
+                "<implementation id='&amp;&lt;>\"&#9;\u{e9}' version='1' local-path='b&#10;&#13;'/>",
+                "&amp;&lt;&gt;&quot;&#9;\u{e9}",
+                "1",
+                "/feeds/b&#10;&#13;",
+            ),
+            // commands and methods are read, and not used
+            (
+                "<!-- --><implementation id='a' version='1' local-path='a'><command name='run' path='a'><arg>b</arg></command><file href='http://h/x' size='3' dest='x'/></implementation>",
+                "a",
+                "1",
+                "/feeds/a",
+            ),
+        ];
+        for (content, id, version, path) in inside {
+            let feed = format!(in rt.alloc(); "\u{feff}{START}{content}</interface>")?;
+            chosen(&rt, rt.alloc(), feed.as_str(), id, version, path)?;
         }
         Ok(())
     }

@@ -1,8 +1,10 @@
-ghost use Rattle.std.specs.Prelude.{◌≡◌, ◌≤◌, ◌<◌, ◌+◌, [], ◌∷◌, ◌++◌};
+ghost use Rattle.std.specs.Prelude.{◌≡◌, ◌≤◌, ◌<◌, ◌+◌, [], ◌∷◌, ◌++◌, codes};
 ghost use Rattle.std.specs.Fmt.{decimal};
-ghost use Rattle.zi_app.specs.Line.{PutsAll, FailsWhereRose, line_of};
+ghost use Rattle.zi_feed.specs.Faults.{number};
+ghost use Rattle.zi_app.specs.Line.{PutsAll, FailsWhereRose, line_of, blamed};
 
-use crate::Outcome;
+use crate::{BadFeed, Outcome};
+use zi_feed::FeedKind;
 use zi_outside::{Sink, SinkFault};
 
 // Two pieces, one behind the other.
@@ -86,6 +88,75 @@ fn put_around<E: Sink>(a: &[u8], n: u64, b: &[u8], err: &mut E) -> Result<(), Si
     }
 }
 
+// Two pieces with a number behind each, and the end of the line.
+#[tactic(auto, using(crate::proofs::LineLemmas::pieces))]
+fn put_numbers<E: Sink>(a: &[u8], m: u64, b: &[u8], n: u64, err: &mut E) -> Result<(), SinkFault>
+    ensures puts { PutsAll (E.written err.old) ((a.now ++ decimal m) ++ (b.now ++ decimal n ++ codes "\n")) result (E.written err.new) }
+    ensures count { E.faults err.old ≤ E.faults err.new }
+    ensures failed { FailsWhereRose (E.faults err.old) result (E.faults err.new) }
+{
+    match put_behind(a, m, err) {
+        Ok(()) => put_around(b, n, b"\n", err),
+        Err(e) => Err(e),
+    }
+}
+
+// The number of a kind of faults of a feed.
+fn number_of(kind: FeedKind) -> u8
+    ensures { result ≡ number kind }
+{
+    match kind {
+        FeedKind::NotInterface => 1,
+        FeedKind::NoId => 2,
+        FeedKind::BadVersion => 3,
+        FeedKind::BadRange => 4,
+        FeedKind::BadArch => 5,
+        FeedKind::BadDigest => 6,
+        FeedKind::BadPart => 7,
+        FeedKind::BadStep => 8,
+        FeedKind::NoInterface => 9,
+        FeedKind::WrongUri => 10,
+        FeedKind::BadStability => 11,
+        FeedKind::BadAddress => 12,
+        FeedKind::SameId => 13,
+    }
+}
+
+// The kind and the place of a fault, and the end of the line.
+fn put_fault<E: Sink>(fault: BadFeed, err: &mut E) -> Result<(), SinkFault>
+    ensures puts { PutsAll (E.written err.old) (blamed fault ++ codes "\n") result (E.written err.new) }
+    ensures count { E.faults err.old ≤ E.faults err.new }
+    ensures failed { FailsWhereRose (E.faults err.old) result (E.faults err.new) }
+{
+    match fault {
+        BadFeed::Doc { kind, place } => {
+            put_numbers(b"document ", u64::from(kind.number()), b" at ", place, err)
+        }
+        BadFeed::Feed { kind, place } => {
+            put_numbers(b"feed ", u64::from(number_of(kind)), b" at ", place, err)
+        }
+    }
+}
+
+// Three pieces, and a fault.
+#[tactic(auto, using(crate::proofs::LineLemmas::pieces))]
+fn put_bad<E: Sink>(
+    a: &[u8],
+    b: &[u8],
+    c: &[u8],
+    fault: BadFeed,
+    err: &mut E,
+) -> Result<(), SinkFault>
+    ensures puts { PutsAll (E.written err.old) ((a.now ++ b.now ++ c.now) ++ (blamed fault ++ codes "\n")) result (E.written err.new) }
+    ensures count { E.faults err.old ≤ E.faults err.new }
+    ensures failed { FailsWhereRose (E.faults err.old) result (E.faults err.new) }
+{
+    match put_three(a, b, c, err) {
+        Ok(()) => put_fault(fault, err),
+        Err(e) => Err(e),
+    }
+}
+
 // Two pieces, and a number between two more.
 #[tactic(auto, using(crate::proofs::LineLemmas::pieces))]
 fn put_five<E: Sink>(
@@ -120,6 +191,10 @@ pub fn tell<E: Sink>(outcome: &Outcome, err: &mut E) -> Result<(), SinkFault>
             put_three(b"zi: cannot read ", uri.as_str().as_bytes(), b"\n", err)
         }
         Outcome::NoRootFeed => err.put(b"zi: no feed for the root\n"),
+        Outcome::BadFeed { uri, fault } => {
+            let uri = uri.as_str().as_bytes();
+            put_bad(b"zi: bad feed ", uri, b": ", *fault, err)
+        }
         Outcome::FeedTooLong { uri, limit } => {
             let uri = uri.as_str().as_bytes();
             put_five(b"zi: ", uri, b" is longer than ", *limit, b" bytes\n", err)

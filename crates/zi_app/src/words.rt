@@ -1,9 +1,14 @@
 ghost use Rattle.std.specs.Prelude.{◌≡◌, ◌↔◌, ℕ, List, Some, true, false, IsTrue, slice_get, MatchResult, MatchOption};
-ghost use Rattle.zi_app.specs.Words.{is_root, parts_from, AsksFor, Right};
+ghost use Rattle.zi_app.specs.Words.{is_plain_byte, is_root, parts_from, AsksFor, Right};
 ghost use Rattle.zi_text.specs.Front.{StopsAt};
 
-use crate::plain::plain_byte;
 use zi_text::Text;
+
+fn plain_byte(b: u8) -> bool
+    ensures { result ≡ is_plain_byte b }
+{
+    b.is_ascii_alphanumeric() || b == b'.' || b == b'-' || b == b'_'
+}
 
 // The parts behind the first slash: each a plain value.
 #[tactic(auto, using(crate::proofs::WordsLemmas::lefts))]
