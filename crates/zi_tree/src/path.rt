@@ -70,6 +70,14 @@ impl RelPath {
         Ok(Some(RelPath { parts }))
     }
 
+    /// The same path once more. Memory is its one refusal.
+    pub fn copy(&self, alloc: Global) -> Result<RelPath, Memory>
+        ensures { IfOk result (λ p. p ≡ self.now) }
+    {
+        let parts = copied(alloc, &self.parts)?;
+        Ok(RelPath { parts })
+    }
+
     /// Its parts, lent. Each is a name.
     pub fn parts(&self) -> &List<Text>
         ensures parts { result.now ≡ self.now }

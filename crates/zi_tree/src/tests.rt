@@ -47,6 +47,7 @@ fn children(rt: HostRuntime) -> Result<(), Fail> {
     assert_eq!(rt; root.parts().len(), 0);
     let child = root.child(rt.alloc(), "...")?.ok_or("no name")?;
     assert_eq!(rt; child.parts().len(), 1);
+    assert_eq!(rt; child.copy(rt.alloc())?.parts().at(0).as_str(), "...");
     assert!(rt; child.child(rt.alloc(), "..")?.is_none());
     assert!(rt; child.child(rt.alloc(), "a/b")?.is_none());
     Ok(())
