@@ -12,6 +12,7 @@ mod reasons;
 mod tests;
 mod types;
 
+pub use languages::place_among;
 pub use order::{before, compare};
 pub use reasons::usable;
 pub use types::{Standing, WhyNot};
