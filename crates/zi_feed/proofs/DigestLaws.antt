@@ -134,13 +134,10 @@ digest_is t n h = by_decoded (decoded t) refl h
     by_decoded (Some m) d e = by_same m (same (spelling m) t) d refl e
 
 -- what `DigestName::parse` gives
-pub found : (r : Option DigestName) (t : List ℕ) (n : DigestName) → r ≡ Some n → IfSome r (λ m. spelling m ≡ t) → IsDigest n → Some n ≡ digest_of t
-found None t n e is whole = absurd (cc)
-found (Some m) t n e is whole = let f : m ≡ n = cc in sym (digest_spelled n whole) ∙ ap digest_of (ap spelling (sym f) ∙ is)
-
-pub unfound : (r : Option DigestName) (t : List ℕ) → r ≡ None → IfNone r ((n : DigestName) → IsDigest n → spelling n ≢ t) → None ≡ digest_of t
-unfound (Some n) t e refused = absurd (cc)
-unfound None t e refused = by_digest (digest_of t) refl
+pub parsed : (r : Option DigestName) (t : List ℕ) → IfSome r (λ m. spelling m ≡ t) → IfSome r IsDigest → IfNone r ((n : DigestName) → IsDigest n → spelling n ≢ t)
+    → r ≡ digest_of t
+parsed (Some n) t is whole refused = sym (digest_spelled n whole) ∙ ap digest_of is
+parsed None t is whole refused = by_digest (digest_of t) refl
   where
     by_digest : (o : Option DigestName) → digest_of t ≡ o → None ≡ digest_of t
     by_digest None d = sym d

@@ -11,6 +11,7 @@ pub mod ListingLaws
 pub mod NodeLaws
 pub mod NumeralLaws
 pub mod PartLaws
+pub mod PlaceLaws
 pub mod RepeatLaws
 pub mod SeenLaws
 pub mod TableLaws

@@ -20,31 +20,31 @@ abbrev pub AreDistinct : List Impl → Type 0
 AreDistinct impls = (i k : ℕ) (c d : Impl) → slice_get impls i ≡ Some c → slice_get impls k ≡ Some d → c.id ≡ d.id → i ≡ k
 
 -- by cases of a test
-by_bool : {G : Type 0} (b : Bool) → (b ≡ true → G) → (b ≡ false → G) → G
+pub by_bool : {G : Type 0} (b : Bool) → (b ≡ true → G) → (b ≡ false → G) → G
 by_bool true t f = t refl
 by_bool false t f = f refl
 
-some_same : {A : Type 0} {x y : A} → Some x ≡ Some y → x ≡ y
+pub some_same : {A : Type 0} {x y : A} → Some x ≡ Some y → x ≡ y
 some_same e = cc
 
-none_some : {A : Type 0} {x : A} → None ≡ Some x → ⊥
+pub none_some : {A : Type 0} {x : A} → None ≡ Some x → ⊥
 none_some e = cc
 
-cons_nil : {A : Type 0} {x : A} {xs : List A} → x ∷ xs ≡ [] → ⊥
+pub cons_nil : {A : Type 0} {x : A} {xs : List A} → x ∷ xs ≡ [] → ⊥
 cons_nil e = cc
 
-true_false : true ≡ false → ⊥
+pub true_false : true ≡ false → ⊥
 true_false e = cc
 
 and_both : (a b : Bool) → (a && b) ≡ true → (a ≡ true) × (b ≡ true)
 and_both true b e = (refl, e)
 and_both false b e = absurd (true_false (sym e))
 
-or_neither : (a b : Bool) → (a || b) ≡ false → (a ≡ false) × (b ≡ false)
+pub or_neither : (a b : Bool) → (a || b) ≡ false → (a ≡ false) × (b ≡ false)
 or_neither true b e = absurd (true_false e)
 or_neither false b e = (refl, e)
 
-both_empty : {A : Type 0} (xs ys : List A) → xs ++ ys ≡ [] → (xs ≡ []) × (ys ≡ [])
+pub both_empty : {A : Type 0} (xs ys : List A) → xs ++ ys ≡ [] → (xs ≡ []) × (ys ≡ [])
 both_empty [] ys e = (refl, e)
 both_empty (x ∷ xs) ys e = absurd (cons_nil e)
 
@@ -61,7 +61,7 @@ least_none : (fs : List Fault) → least fs ≡ None → fs ≡ []
 least_none [] e = refl
 least_none (f ∷ fs) e = absurd (lesser_is f (least fs) e)
 
-no_faults : (root : Elem) (uri : List ℕ) → feed_fault root uri ≡ None → all_faults uri root ≡ []
+pub no_faults : (root : Elem) (uri : List ℕ) → feed_fault root uri ≡ None → all_faults uri root ≡ []
 unfolding feed_fault
 no_faults root uri e = chosen (is (codes "interface") root) e
   where
@@ -79,14 +79,14 @@ unfolding impl_of impl_from
 id_of ways t i e = mapped _ (value (codes "id") t.element) (λ v. refl) _ i e
 
 -- What counts and has no fault has an id.
-unclear_false : (e : Elem) → counts e ≡ true → (is_impl e ≡ true) × (is_unclear e ≡ false)
+pub unclear_false : (e : Elem) → counts e ≡ true → (is_impl e ≡ true) × (is_unclear e ≡ false)
 unclear_false e c = let p : (is_impl e ≡ true) × (not (is_unclear e) ≡ true) = and_both (is_impl e) (not (is_unclear e)) c in (p.0, negated (is_unclear e) p.1)
   where
     negated : (b : Bool) → not b ≡ true → b ≡ false
     negated true e = absurd (true_false (sym e))
     negated false e = refl
 
-map_nil : {A B : Type 0} (f : A → B) (xs : List A) → map f xs ≡ [] → xs ≡ []
+pub map_nil : {A B : Type 0} (f : A → B) (xs : List A) → map f xs ≡ [] → xs ≡ []
 map_nil f [] e = refl
 map_nil f (x ∷ xs) e = absurd (cons_nil e)
 
@@ -94,7 +94,7 @@ has_from : (o : Option (List ℕ)) → is_none (unwrap_or o []) ≡ false → is
 has_from None e = absurd (true_false e)
 has_from (Some t) e = refl
 
-second_fails : {A : Type 0} (test : A → Bool) (a b : A) (xs : List A) → filter test (a ∷ b ∷ xs) ≡ [] → test b ≡ false
+pub second_fails : {A : Type 0} (test : A → Bool) (a b : A) (xs : List A) → filter test (a ∷ b ∷ xs) ≡ [] → test b ≡ false
 second_fails test a b xs e = cases (test a) (test b) refl refl e
   where
     cases : (p q : Bool) → test a ≡ p → test b ≡ q → filter test (a ∷ b ∷ xs) ≡ [] → test b ≡ false

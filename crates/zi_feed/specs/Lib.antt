@@ -11,3 +11,4 @@ pub mod Feeds
 pub mod Means
 pub mod Views
 pub mod IdLaws
+pub mod Places

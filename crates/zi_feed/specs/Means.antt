@@ -1,5 +1,5 @@
 -- What an answer means.
-use Rattle.std.specs.Prelude.{◌≡◌, true, not, ◌&&◌, List, ℕ, Option, Some, None, Result, Ok, Err}
+use Rattle.std.specs.Prelude.{◌≡◌, Bool, not, ◌&&◌, List, ℕ, Option, Some, None, Result, Ok, Err}
 use Rattle.zi_forest.specs.Forest.{Elem}
 use Rattle.zi_feed.specs.Words.{is_among}
 use Rattle.zi_feed.specs.Sites.{is, is_ours, is_left_out, binding_names}
@@ -14,9 +14,9 @@ Reads fault value (Err (Bad kind place)) = fault ≡ Some (record { kind = kind;
 Reads fault value (Err Memory) = Unit {0}
 
 -- an element of this name that its condition doesn't leave out
-abbrev pub IsPart : List ℕ → Elem → Type 0
-IsPart name e = (is name e ≡ true) × (not (is_left_out e) ≡ true)
+abbrev pub counts_as : List ℕ → Elem → Bool
+counts_as name e = is name e && not (is_left_out e)
 
 -- a binding that its condition doesn't leave out
-abbrev pub IsBinding : Elem → Type 0
-IsBinding e = ((is_ours e && is_among binding_names e.name) ≡ true) × (not (is_left_out e) ≡ true)
+abbrev pub counts_as_binding : Elem → Bool
+counts_as_binding e = is_ours e && is_among binding_names e.name && not (is_left_out e)

@@ -2,8 +2,6 @@
 ghost use Rattle.std.specs.Prelude.{◌≡◌, ◌++◌, IfOk, [], ◌∷◌, map, option_copied};
 ghost use Rattle.std.specs.List.{filter_map};
 ghost use Rattle.std.specs.Option.{option_or};
-ghost use Rattle.hex.specs.Hex.{IsBytes};
-ghost use Rattle.zi_digest.specs.Name.{IsBytesOf, IsDigest};
 ghost use Rattle.zi_forest.specs.Forest.{element_view, attribute, value};
 ghost use Rattle.zi_feed.specs.Words.{first};
 ghost use Rattle.zi_feed.specs.Digests.{digest_of, digest_by, attribute_by, front_by};
@@ -17,38 +15,11 @@ use zi_digest::{Algorithm, DigestName};
 use zi_elements::Element;
 use zi_text::{List, Memory, Text};
 
-// The three functions below do nothing: their clauses say what each value of a type has.
-
-// Each item is a byte.
-fn are_bytes(bytes: &[u8])
-    ensures { IsBytes bytes.now }
-{}
-
-// There are N bytes.
-fn are_sized<const N: usize>(bytes: &[u8; N])
-    ensures { IsBytesOf N bytes.now }
-{
-    are_bytes(bytes.as_slice());
-}
-
-// A digest has its algorithm's number of bytes.
-fn is_whole(name: &DigestName)
-    ensures { IsDigest name.now }
-{
-    match name {
-        DigestName::Sha1new(bytes) => are_sized(bytes),
-        DigestName::Sha256(bytes) => are_sized(bytes),
-        DigestName::Sha256new(bytes) => are_sized(bytes),
-    }
-}
-
 /// The digest name that is spelled so.
 pub fn digest_of(text: &str) -> Option<DigestName>
     ensures { result ≡ digest_of text.now }
 {
-    let name = DigestName::parse(text)?;
-    is_whole(&name);
-    Some(name)
+    DigestName::parse(text)
 }
 
 /// An algorithm's attribute.

@@ -1,18 +1,19 @@
-ghost use Rattle.std.specs.Prelude.{◌≡◌, Some, None, codes};
+ghost use Rattle.std.specs.Prelude.{◌≡◌, true, IfOk, Some, None, codes};
 ghost use Rattle.zi_forest.specs.Forest.{element_view};
 ghost use Rattle.zi_feed.specs.Feeds.{feed_fault, feed_of, part_fault};
 ghost use Rattle.zi_feed.specs.Impls.{said_digests};
-ghost use Rattle.zi_feed.specs.Means.{Reads, IsPart, IsBinding};
+ghost use Rattle.zi_feed.specs.Means.{Reads, counts_as, counts_as_binding};
 ghost use Rattle.zi_feed.specs.Values.{binding_of, dep_of, command_of};
 ghost use Rattle.zi_feed.specs.declared.fault.FeedFault.TheVariants.{Bad};
 
 use crate::fault::{Fault, FeedFault};
 use crate::feed::{Binding, Command, Dep, Feed};
+use crate::reading::{is, is_binding, is_left_out, is_ours};
 use crate::{digests, finding, parts};
 use std::alloc::Global;
 use zi_digest::DigestName;
 use zi_elements::Element;
-use zi_text::List;
+use zi_text::{List, Memory};
 
 // The answer of a fault.
 fn bad(fault: Fault) -> FeedFault
@@ -37,10 +38,26 @@ impl Feed {
     }
 }
 
+/// Whether an element has this name in the namespace of feeds, and its condition `if-0install-version` doesn't leave it out:
+/// what the readers of single elements ask for. Memory is the one refusal.
+pub fn counts_as(alloc: Global, e: &Element, name: &str) -> Result<bool, Memory>
+    ensures { IfOk result (λ b. b ≡ counts_as name.now (element_view e.now)) }
+{
+    Ok(is(e, name) && !is_left_out(alloc, e)?)
+}
+
+/// Whether an element is one of the bindings of the format, and its condition `if-0install-version` doesn't leave it out:
+/// what `binding_of` asks for. Memory is the one refusal.
+pub fn counts_as_binding(alloc: Global, e: &Element) -> Result<bool, Memory>
+    ensures { IfOk result (λ b. b ≡ counts_as_binding (element_view e.now)) }
+{
+    Ok(is_ours(e) && is_binding(e.name.as_str()) && !is_left_out(alloc, e)?)
+}
+
 /// The binding that an element of a selections document means, or the fault of it and all in it. It is one of the bindings
 /// of the format, and its condition `if-0install-version` doesn't leave it out. Memory is the other refusal.
 pub fn binding_of(alloc: Global, e: &Element) -> Result<Binding, FeedFault>
-    requires { IsBinding (element_view e.now) }
+    requires { counts_as_binding (element_view e.now) ≡ true }
     ensures { Reads (part_fault (element_view e.now)) (binding_of (element_view e.now)) result }
 {
     if let Some(fault) = finding::part_fault(alloc, e)? {
@@ -52,7 +69,7 @@ pub fn binding_of(alloc: Global, e: &Element) -> Result<Binding, FeedFault>
 /// The digests that a `manifest-digest` says, in the order of use, or its fault. Its condition `if-0install-version`
 /// doesn't leave it out. Memory is the other refusal.
 pub fn digests_of(alloc: Global, e: &Element) -> Result<List<DigestName>, FeedFault>
-    requires { IsPart (codes "manifest-digest") (element_view e.now) }
+    requires { counts_as (codes "manifest-digest") (element_view e.now) ≡ true }
     ensures { Reads (part_fault (element_view e.now)) (said_digests (element_view e.now)) result }
 {
     if let Some(fault) = finding::part_fault(alloc, e)? {
@@ -64,7 +81,7 @@ pub fn digests_of(alloc: Global, e: &Element) -> Result<List<DigestName>, FeedFa
 /// The dependency that a `requires` of a selections document means, its address as it is written and without restrictions,
 /// or the fault of it and all in it. Its condition `if-0install-version` doesn't leave it out. Memory is the other refusal.
 pub fn dep_of(alloc: Global, e: &Element) -> Result<Dep, FeedFault>
-    requires { IsPart (codes "requires") (element_view e.now) }
+    requires { counts_as (codes "requires") (element_view e.now) ≡ true }
     ensures { Reads (part_fault (element_view e.now)) (dep_of None (element_view e.now)) result }
 {
     if let Some(fault) = finding::part_fault(alloc, e)? {
@@ -76,7 +93,7 @@ pub fn dep_of(alloc: Global, e: &Element) -> Result<Dep, FeedFault>
 /// The command that a `command` of a selections document means, addresses as they are written and without restrictions, or
 /// the fault of it and all in it. Its condition `if-0install-version` doesn't leave it out. Memory is the other refusal.
 pub fn command_of(alloc: Global, e: &Element) -> Result<Command, FeedFault>
-    requires { IsPart (codes "command") (element_view e.now) }
+    requires { counts_as (codes "command") (element_view e.now) ≡ true }
     ensures { Reads (part_fault (element_view e.now)) (command_of None (element_view e.now)) result }
 {
     if let Some(fault) = finding::part_fault(alloc, e)? {

@@ -14,6 +14,7 @@ mod finding;
 mod forms;
 mod from_tree;
 mod impls;
+mod laws;
 mod methods;
 mod parts;
 mod reading;
@@ -24,4 +25,5 @@ pub use fault::{Fault, FeedFault, FeedKind};
 pub use feed::{
     Binding, Command, Dep, DepKind, Extra, Feed, Impl, Import, Method, Mode, Runner, Step, Word,
 };
-pub use from_tree::{binding_of, command_of, dep_of, digests_of};
+pub use from_tree::{binding_of, command_of, counts_as, counts_as_binding, dep_of, digests_of};
+pub use laws::impls_are_in_order;

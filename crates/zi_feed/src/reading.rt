@@ -46,9 +46,9 @@ pub fn value<'a>(e: &'a Element, name: &str) -> &'a str
     }
 }
 
-// It is in the namespace of feeds.
+/// Whether it is in the namespace of feeds.
 #[tactic(auto, unfolding(crate::specs::Texts::same))]
-fn is_ours(e: &Element) -> bool
+pub fn is_ours(e: &Element) -> bool
     ensures { result ≡ is_ours (element_view e.now) }
 {
     e.space.as_str() == INJECTOR
