@@ -1,0 +1,12 @@
+pub mod NamingLemmas
+pub mod OfferLemmas
+pub mod ReadingLemmas
+pub mod TableLemmas
+pub mod ListingLemmas
+pub mod LoadedLemmas
+pub mod RefusalLemmas
+pub mod WholeLemmas
+pub mod RankedLemmas
+pub mod NextLemmas
+pub mod OnceLemmas
+pub mod ExclusionLemmas

@@ -1,0 +1,125 @@
+-- One interface more: its feeds offer these, and it is finished.
+use Rattle.std.proofs.Common.{Option, ◌≡◌, ℕ, ◌+◌, ◌<◌, ◌≤◌, true, List, [], ◌∷◌, ◌++◌, length, map, get_or, All, Some, slice_get, refl, sym, ap, subst, ◌∙◌, arith, length-append}
+use Rattle.std.specs.Prelude.{Result, Ok, Err, MatchResult}
+use Rattle.std.proofs.lemmas.List.Sums.{sum_by_push}
+use Rattle.std.proofs.lemmas.Option.{slice_get_within, get_or_from_slice_get}
+use Rattle.zi_policy.specs.declared.types.Policy.{Policy}
+use Rattle.zi_policy.specs.Platform.{listed}
+use Rattle.zi_feed.specs.declared.feed.Feed.{Feed}
+use Rattle.zi_outside.specs.Outside.{Holding}
+use Rattle.zi_universe.specs.declared.types.Requirement.{Requirement}
+use Rattle.zi_universe.specs.declared.types.Candidate.{Candidate}
+use Rattle.zi_universe.specs.declared.types.Interface.{Interface}
+use Rattle.zi_universe.specs.declared.fault.LoadFault.{LoadFault}
+use Rattle.zi_universe.specs.declared.loading.Loading.{Loading}
+use Rattle.zi_universe.specs.Naming.{Uri, Uris, joined, all_of, AreApart}
+use Rattle.zi_universe.specs.Candidates.{Store, imports_of, admitted, AreCandidates, asked_by_all}
+use Rattle.zi_universe.specs.Whole.{candidates_in, most_interfaces, most_candidates}
+use Rattle.zi_universe.specs.Loading.{Reading, Refuses}
+use Rattle.zi_universe.specs.Tables.{addresses, feeds_at, Agrees}
+use Rattle.zi_universe.specs.Stages.{Gathers, HasLoaded, IsAt, IsBegun, ArePlaced, IsSorting, Finishes, StopsFinishing, LoadsNext}
+use Rattle.zi_universe.proofs.NamingLemmas.{without_repeats_apart}
+use Rattle.zi_universe.proofs.TableLemmas.{feeds_agreed, addresses-feeds_at, reading_of, reading_agrees}
+use Rattle.zi_universe.proofs.LoadedLemmas.{loaded_none, places_now, here_listed, closed_now, loaded_more}
+use Rattle.zi_universe.proofs.RefusalLemmas.{refuses_earlier, refuses_finishing}
+use Rattle.zi_universe.proofs.RankedLemmas.{admitted_placed}
+
+-- the candidates that are counted are within the limit
+pub few_counted : (told : Option Holding) (req : Requirement) (p : Policy) (stored : Store) (s : Loading) → IsAt told req p stored s → s.count ≤ most_candidates
+few_counted told req p stored s a =
+    let h = a.loaded in
+    let apart : AreApart (addresses s.table) = subst AreApart (sym h.places) (without_repeats_apart (all_of h.groups)) in
+    let come = h.come (reading_of s.table) (reading_agrees s.table apart) in
+    omega (arith, a.counted, come.few_candidates)
+
+module _ (told : Option Holding) (f g : ℕ) (req : Requirement) (p : Policy) (stored : Store) (old : Loading) (uri : Uri) (a : IsAt told req p stored old)
+    (next : slice_get old.names.keys (length old.done) ≡ Some uri) (offered : List Candidate) (fs : List Feed) (o : Gathers told req p stored uri old.table offered fs) where
+  within : length old.done < length old.names.keys
+  within = slice_get_within old.names.keys (length old.done) uri next
+
+  turn : get_or old.names.keys (length old.done) uri ≡ uri
+  turn = get_or_from_slice_get old.names.keys (length old.done) uri uri next
+
+  all_there : All (λ u. listed u (addresses fs) ≡ true) o.here
+  all_there = here_listed told req p stored old.done old.names.keys old.table uri a.loaded within turn o.here fs o.feeds
+
+  fs_apart : AreApart (addresses fs)
+  fs_apart =
+      let places = places_now told req p stored old.done old.names.keys old.table uri a.loaded within turn o.here fs o.feeds in
+      subst AreApart (sym places) (without_repeats_apart (all_of (a.loaded.groups ++ o.here ∷ [])))
+
+  here_apart : AreApart o.here
+  here_apart =
+      let named = closed_now told req p stored old.done old.names.keys old.table uri a.loaded within turn o.here fs o.feeds (reading_of fs) (reading_agrees fs fs_apart) in
+      subst AreApart (sym named.are) (without_repeats_apart (uri ∷ all_of (map (λ u. imports_of p (reading_of fs u)) o.here)))
+
+  placed : ArePlaced (admitted req p stored uri (feeds_at fs o.here))
+  placed = admitted_placed req p stored uri (feeds_at fs o.here) (subst AreApart (sym (addresses-feeds_at fs o.here all_there)) here_apart)
+
+  sorted : (cs : List Candidate) → IsSorting p (admitted req p stored uri (feeds_at fs o.here)) cs → AreCandidates req p stored uri (feeds_at fs o.here) cs
+  sorted cs s = record { same = s.same; ranked = s.ranked placed }
+
+  sorted_at : (cs : List Candidate) → IsSorting p (admitted req p stored uri (feeds_at fs o.here)) cs → (at : Reading) → Agrees at fs → AreCandidates req p stored uri (map at o.here) cs
+  sorted_at cs s at agrees =
+      let P : List Feed → Type 0 = λ q. AreCandidates req p stored uri q cs in
+      subst P (feeds_agreed at fs o.here all_there agrees) (sorted cs s)
+
+  pub loads_next : (new : Loading) → Finishes p uri offered (record old { table = fs }) new → LoadsNext told req p stored old new
+  loads_next new z = record { at = record { loaded = loaded; counted = counted }; one = one }
+    where
+      item : Interface
+      item = record { uri = uri; candidates = z.cs }
+
+      sorting : IsSorting p (admitted req p stored uri (feeds_at fs o.here)) z.cs
+      sorting = let P : List Candidate → Type 0 = λ q. IsSorting p q z.cs in subst P o.are z.sorting
+
+      few : candidates_in old.done + length z.cs ≤ most_candidates
+      few = omega (arith, a.counted, z.count, z.few_candidates)
+
+      many : length (joined old.names.keys (asked_by_all z.cs)) ≤ most_interfaces
+      many = let P : Uris → Type 0 = λ q. length q ≤ most_interfaces in subst P z.names z.few_interfaces
+
+      more : HasLoaded told req p stored (old.done ++ item ∷ []) (joined old.names.keys (asked_by_all z.cs)) fs
+      more = loaded_more told req p stored old.done old.names.keys old.table uri a.loaded within turn o.here fs o.feeds z.cs (sorted_at z.cs sorting) few many
+
+      loaded : HasLoaded told req p stored new.done new.names.keys new.table
+      loaded =
+          let P : List Interface → Type 0 = λ q. HasLoaded told req p stored q (joined old.names.keys (asked_by_all z.cs)) fs in
+          let Q : Uris → Type 0 = λ q. HasLoaded told req p stored new.done q fs in
+          let R : List Feed → Type 0 = λ q. HasLoaded told req p stored new.done new.names.keys q in
+          subst R (sym z.table) (subst Q (sym z.names) (subst P (sym z.done) more))
+
+      one : length new.done ≡ length old.done + 1
+      one = ap length z.done ∙ length-append old.done (item ∷ [])
+
+      counted : new.count ≡ candidates_in new.done
+      counted = z.count ∙ ap (λ n. n + length z.cs) a.counted ∙ sym (sum_by_push (λ (i : Interface). length i.candidates) old.done item) ∙ ap candidates_in (sym z.done)
+
+  pub refuses_next : (why : LoadFault) → StopsFinishing p offered (record old { table = fs }) why → Refuses told f g req p stored why
+  refuses_next why r =
+      let P : List Candidate → Type 0 = λ q. StopsFinishing p q (record old { table = fs }) why in
+      refuses_finishing told f g req p stored old.done old.names.keys old.table uri a.loaded within turn o.here fs o.feeds next
+      (record old { table = fs }) why refl a.counted sorted (subst P o.are r)
+
+  pub next_done : {X : Type 0} (r : Result X LoadFault) (new : Loading) → MatchResult r (λ _. Finishes p uri offered (record old { table = fs }) new) (StopsFinishing p offered (record old { table = fs }))
+      → MatchResult r (λ _. LoadsNext told req p stored old new) (Refuses told f g req p stored)
+  next_done (Ok x) new h = loads_next new h
+  next_done (Err e) new h = refuses_next e h
+
+-- The same outside, with an earlier count.
+pub refuses_from : (told told' : Option Holding) (f f' g : ℕ) (req : Requirement) (p : Policy) (stored : Store) (e : LoadFault) → told' ≡ told → f ≤ f'
+    → Refuses told' f' g req p stored e → Refuses told f g req p stored e
+refuses_from told told' f f' g req p stored e same le r =
+    let P : Option Holding → Type 0 = λ q. Refuses q f' g req p stored e in
+    refuses_earlier told f f' g req p stored e le (subst P same r)
+
+-- At the start.
+pub at_begun : (told : Option Holding) (req : Requirement) (p : Policy) (stored : Store) (s : Loading) → IsBegun req.interface s → IsAt told req p stored s
+at_begun told req p stored s b =
+    let P : List Interface → Type 0 = λ q. HasLoaded told req p stored q (req.interface ∷ []) [] in
+    let Q : Uris → Type 0 = λ q. HasLoaded told req p stored s.done q [] in
+    let R : List Feed → Type 0 = λ q. HasLoaded told req p stored s.done s.names.keys q in
+    record {
+      loaded = subst R (sym b.table) (subst Q (sym b.names) (subst P (sym b.done) (loaded_none told req p stored)));
+      counted = b.count ∙ sym (ap candidates_in b.done);
+    }

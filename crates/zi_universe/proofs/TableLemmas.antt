@@ -1,0 +1,177 @@
+-- Feeds by their addresses, and the readings that agree with them.
+use Rattle.std.proofs.Common.{◌≡◌, ◌≢◌, ℕ, zero, suc, ◌<◌, Bool, true, false, true≢false, ◌||◌, List, [], ◌∷◌, ◌++◌, length, map, get_or, Option, Some, None, option_map, All, Contains, bytes_eq, refl, sym, ap, subst, ◌∙◌, arith, if◌then◌else◌}
+use Rattle.std.specs.Prelude.{unwrap_or, is_some, option_copied}
+use Rattle.std.specs.Borrow.{Bor}
+use Rattle.std.specs.List.{cons_option}
+use Rattle.std.specs.Map.{lookup}
+use Rattle.std.proofs.lemmas.List.{get_or-map}
+use Rattle.std.proofs.lemmas.List.Elements.{All-head, All-tail, All-cons, All-contains, All-weaker, All-push}
+use Rattle.indexmap.specs.IndexMap.{IndexMap, insert_entry}
+use Rattle.indexmap.proofs.CallerLemmas.{insert_entry-new}
+use Rattle.zi_policy.specs.declared.types.Policy.{Policy}
+use Rattle.zi_policy.specs.Platform.{listed}
+use Rattle.zi_feed.specs.declared.feed.Feed.{Feed}
+use Rattle.zi_outside.specs.Outside.{Holding}
+use Rattle.zi_universe.specs.Naming.{Uri, Uris, AreApart}
+use Rattle.zi_universe.specs.Candidates.{imports_of}
+use Rattle.zi_universe.specs.Loading.{no_feed, IsRead, Reading, AreRead}
+use Rattle.zi_universe.specs.Tables.{addresses, find_feed, feeds_at, imports_at, Agrees, AllRead}
+use Rattle.zi_universe.proofs.NamingLemmas.{bytes_eq-true, bytes_eq-refl, Contains-listed, length-map, map-append}
+
+-- The front of what agrees agrees.
+pub All-front : {X : Type 0} (P : X → Type 0) (xs ys : List X) → All P (xs ++ ys) → All P xs
+All-front P [] ys a = λ k d lt. absurd (omega (arith, lt))
+All-front P (x ∷ xs) ys a = All-cons P x xs (All-head P x (xs ++ ys) a) (All-front P xs ys (All-tail P x (xs ++ ys) a))
+
+-- A feed whose address is listed is found.
+pub record IsFound (fs : List Feed) (uri : Uri) : Type 0 where
+  pub feed : Feed
+  pub found : find_feed fs uri ≡ Some feed
+  pub place : feed.uri ≡ uri
+  pub member : Contains fs feed
+
+Contains-behind : {X : Type 0} (x y : X) (xs : List X) → Contains xs y → Contains (x ∷ xs) y
+Contains-behind x y xs c = (suc c.0, omega (arith, c.1), c.2)
+
+pub found : (fs : List Feed) (uri : Uri) → listed uri (addresses fs) ≡ true → IsFound fs uri
+found [] uri e = absurd (true≢false (sym e))
+found (f ∷ fs) uri e = by (bytes_eq uri f.uri) refl (λ h. found fs uri h)
+  where
+    by : (b : Bool) → bytes_eq uri f.uri ≡ b → (listed uri (addresses fs) ≡ true → IsFound fs uri) → IsFound (f ∷ fs) uri
+    by true s rest = record {
+      feed = f;
+      found = ap (λ b. if b then Some f else find_feed fs uri) s;
+      place = sym (bytes_eq-true uri f.uri s);
+      member = (zero, omega arith, refl);
+    }
+    by false s rest =
+        let r = rest (ap (λ b. b || listed uri (addresses fs)) (sym s) ∙ e) in record {
+          feed = r.feed;
+          found = ap (λ b. if b then Some f else find_feed fs uri) s ∙ r.found;
+          place = r.place;
+          member = Contains-behind f r.feed fs r.member;
+        }
+
+-- one whose address isn't listed isn't
+pub not_found : (fs : List Feed) (uri : Uri) → find_feed fs uri ≡ None → listed uri (addresses fs) ≡ false
+not_found [] uri e = refl
+not_found (f ∷ fs) uri e = by (bytes_eq uri f.uri) refl (λ h. not_found fs uri h)
+  where
+    by : (b : Bool) → bytes_eq uri f.uri ≡ b → (find_feed fs uri ≡ None → listed uri (addresses fs) ≡ false) → listed uri (addresses (f ∷ fs)) ≡ false
+    by true s rest = absurd (let bad : Some f ≡ None = sym (ap (λ b. if b then Some f else find_feed fs uri) s) ∙ e in cc)
+    by false s rest =
+        ap (λ b. b || listed uri (addresses fs)) s ∙ rest (sym (ap (λ b. if b then Some f else find_feed fs uri) s) ∙ e)
+
+pub absent : (fs : List Feed) (uri : Uri) → listed uri (addresses fs) ≡ false → find_feed fs uri ≡ None
+absent [] uri n = refl
+absent (g ∷ gs) uri n = by (bytes_eq uri g.uri) refl (λ h. absent gs uri h)
+  where
+    by : (b : Bool) → bytes_eq uri g.uri ≡ b → (listed uri (addresses gs) ≡ false → find_feed gs uri ≡ None) → find_feed (g ∷ gs) uri ≡ None
+    by true s rest = absurd (true≢false (sym (ap (λ b. b || listed uri (addresses gs)) s) ∙ n))
+    by false s rest = ap (λ b. if b then Some g else find_feed gs uri) s ∙ rest (ap (λ b. b || listed uri (addresses gs)) (sym s) ∙ n)
+
+-- whether one is found
+pub is_found : (fs : List Feed) (uri : Uri) → is_some (find_feed fs uri) ≡ listed uri (addresses fs)
+is_found [] uri = refl
+is_found (f ∷ fs) uri = by (bytes_eq uri f.uri) (is_found fs uri)
+  where
+    by : (b : Bool) → is_some (find_feed fs uri) ≡ listed uri (addresses fs) → is_some (if b then Some f else find_feed fs uri) ≡ (b || listed uri (addresses fs))
+    by true e = refl
+    by false e = e
+
+pub found_listed : (fs : List Feed) (uri : Uri) (f : Feed) → find_feed fs uri ≡ Some f → listed uri (addresses fs) ≡ true
+found_listed fs uri f e = by (listed uri (addresses fs)) refl
+  where
+    by : (b : Bool) → listed uri (addresses fs) ≡ b → listed uri (addresses fs) ≡ true
+    by true l = l
+    by false l = absurd (let bad : Some f ≡ None = sym e ∙ absent fs uri l in cc)
+
+-- What agrees gives the feed that is found.
+pub agreed : (at : Reading) (fs : List Feed) (uri : Uri) (r : IsFound fs uri) → Agrees at fs → at uri ≡ r.feed
+agreed at fs uri r a = ap at (sym r.place) ∙ All-contains (λ f. at f.uri ≡ f) fs r.feed a r.member
+
+pub imports_agreed : (p : Policy) (at : Reading) (fs : List Feed) (uri : Uri) → listed uri (addresses fs) ≡ true → Agrees at fs
+    → imports_at p fs uri ≡ imports_of p (at uri)
+imports_agreed p at fs uri l a =
+    let r = found fs uri l in
+    ap (λ o. unwrap_or (option_map (imports_of p) o) []) r.found ∙ ap (imports_of p) (sym (agreed at fs uri r a))
+
+pub feeds_agreed : (at : Reading) (fs : List Feed) (uris : Uris) → All (λ u. listed u (addresses fs) ≡ true) uris → Agrees at fs
+    → feeds_at fs uris ≡ map at uris
+feeds_agreed at fs [] l a = refl
+feeds_agreed at fs (u ∷ us) l a =
+    let r = found fs u (All-head (λ v. listed v (addresses fs) ≡ true) u us l) in
+    ap (λ o. cons_option o (feeds_at fs us)) (r.found ∙ ap (λ f. Some f) (sym (agreed at fs u r a)))
+    ∙ ap (λ q. at u ∷ q) (feeds_agreed at fs us (All-tail (λ v. listed v (addresses fs) ≡ true) u us l) a)
+
+-- the addresses of those that are there
+pub addresses-feeds_at : (fs : List Feed) (uris : Uris) → All (λ u. listed u (addresses fs) ≡ true) uris → addresses (feeds_at fs uris) ≡ uris
+addresses-feeds_at fs [] l = refl
+addresses-feeds_at fs (u ∷ us) l =
+    let r = found fs u (All-head (λ v. listed v (addresses fs) ≡ true) u us l) in
+    ap (λ o. addresses (cons_option o (feeds_at fs us))) r.found ∙ ap (λ q. q ∷ addresses (feeds_at fs us)) r.place
+    ∙ ap (λ q. u ∷ q) (addresses-feeds_at fs us (All-tail (λ v. listed v (addresses fs) ≡ true) u us l))
+
+-- The reading that a table gives.
+pub reading_of : List Feed → Reading
+reading_of fs uri = unwrap_or (find_feed fs uri) (no_feed uri)
+
+pub reads_found : (fs : List Feed) (uri : Uri) (f : Feed) → find_feed fs uri ≡ Some f → reading_of fs uri ≡ f
+unfolding reading_of
+reads_found fs uri f e = ap (λ o. unwrap_or o (no_feed uri)) e
+
+-- where addresses are apart, each feed is the one that is found at its address
+finds_each : (fs : List Feed) → AreApart (addresses fs) → All (λ f. find_feed fs f.uri ≡ Some f) fs
+finds_each [] a = λ k d lt. absurd (omega (arith, lt))
+finds_each (f ∷ fs) a = All-cons (λ g. find_feed (f ∷ fs) g.uri ≡ Some g) f fs
+    (ap (λ b. if b then Some f else find_feed fs f.uri) (bytes_eq-refl f.uri))
+    (λ k d lt. later (get_or fs k d) (other k d lt) (finds_each fs (λ i j v below within. a (suc i) (suc j) v (omega (arith, below)) (omega (arith, within))) k d lt))
+  where
+    later : (g : Feed) → g.uri ≢ f.uri → find_feed fs g.uri ≡ Some g → find_feed (f ∷ fs) g.uri ≡ Some g
+    later g n e = by (bytes_eq g.uri f.uri) refl
+      where
+        by : (b : Bool) → bytes_eq g.uri f.uri ≡ b → find_feed (f ∷ fs) g.uri ≡ Some g
+        by true s = absurd (n (bytes_eq-true g.uri f.uri s))
+        by false s = ap (λ b. if b then Some f else find_feed fs g.uri) s ∙ e
+
+    other : (k : ℕ) (d : Feed) → k < length fs → (get_or fs k d).uri ≢ f.uri
+    other k d lt s = a zero (suc k) f.uri (omega arith) (omega (arith, length-map (λ (g : Feed). g.uri) fs, lt)) (sym s ∙ sym (get_or-map (λ (g : Feed). g.uri) fs k d f.uri lt))
+
+pub reading_agrees : (fs : List Feed) → AreApart (addresses fs) → Agrees (reading_of fs) fs
+reading_agrees fs a = All-weaker (λ f. find_feed fs f.uri ≡ Some f) (λ f. reading_of fs f.uri ≡ f) (λ f e. reads_found fs f.uri f e) fs (finds_each fs a)
+
+pub reading_reads : (told : Option Holding) (root : Uri) (fs : List Feed) → AllRead told root fs → AreRead told root (reading_of fs) (addresses fs)
+reading_reads told root fs all uri c =
+    let r = found fs uri (Contains-listed uri (addresses fs) c) in
+    let read : IsRead told root r.feed.uri r.feed = All-contains (λ f. IsRead told root f.uri f) fs r.feed all r.member in
+    let P : Uri → Type 0 = λ u. IsRead told root u r.feed in
+    let Q : Feed → Type 0 = λ f. IsRead told root uri f in
+    subst Q (sym (reads_found fs uri r.feed r.found)) (subst P r.place read)
+
+-- The feeds in a map under their addresses.
+pub lookup_feed : (es : List (Uri × Feed)) (uri : Uri) → All (λ e. e.0 ≡ e.1.uri) es → lookup (bytes_eq uri) es ≡ find_feed (map (λ e. e.1) es) uri
+lookup_feed [] uri all = refl
+lookup_feed (e ∷ es) uri all =
+    let same : bytes_eq uri e.0 ≡ bytes_eq uri e.1.uri = ap (bytes_eq uri) (All-head (λ (x : Uri × Feed). x.0 ≡ x.1.uri) e es all) in
+    ap (λ b. if b then Some e.1 else lookup (bytes_eq uri) es) same
+    ∙ ap (λ o. if bytes_eq uri e.1.uri then Some e.1 else o) (lookup_feed es uri (All-tail (λ (x : Uri × Feed). x.0 ≡ x.1.uri) e es all))
+
+-- one feed more in the map
+pub record Grows {S : Type 0} (n : IndexMap Uri Feed S) (fs : List Feed) (f : Feed) : Type 0 where
+  pub placed : All (λ e. e.0 ≡ e.1.uri) n.entries
+  pub grown : map (λ e. e.1) n.entries ≡ fs ++ f ∷ []
+
+pub grows : {S : Type 0} (m n : IndexMap Uri Feed S) (fs : List Feed) (uri : Uri) (f : Feed) → All (λ e. e.0 ≡ e.1.uri) m.entries → map (λ e. e.1) m.entries ≡ fs
+    → uri ≡ f.uri → listed f.uri (addresses fs) ≡ false → n.entries ≡ insert_entry bytes_eq m.entries uri f → Grows n fs f
+grows m n fs uri f all view same none e =
+    let empty : lookup (bytes_eq uri) m.entries ≡ None = lookup_feed m.entries uri all ∙ ap (λ gs. find_feed gs uri) view ∙ ap (find_feed fs) same ∙ absent fs f.uri none in
+    let more : n.entries ≡ m.entries ++ (uri, f) ∷ [] = e ∙ insert_entry-new bytes_eq m uri f empty in
+    record {
+      placed = (let P : List (Uri × Feed) → Type 0 = λ q. All (λ (x : Uri × Feed). x.0 ≡ x.1.uri) q in subst P (sym more) (All-push (λ (x : Uri × Feed). x.0 ≡ x.1.uri) m.entries (uri, f) all same));
+      grown = ap (map (λ (x : Uri × Feed). x.1)) more ∙ map-append (λ (x : Uri × Feed). x.1) m.entries ((uri, f) ∷ []) ∙ ap (λ q. q ++ f ∷ []) view;
+    }
+
+-- what is lent is there where it is there
+pub lent_there : {T : Type 0} (r : Option (Bor T)) → is_some r ≡ is_some (option_copied r)
+lent_there None = refl
+lent_there (Some x) = refl

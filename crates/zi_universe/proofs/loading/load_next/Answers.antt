@@ -1,0 +1,28 @@
+use Rattle.std.proofs.Common.{◌≡◌, ℕ, length, slice_get, Some, subst}
+use Rattle.std.proofs.lemmas.Result.{err_from_is_err_and}
+use Rattle.zi_universe.specs.Naming.{in_set}
+use Rattle.zi_universe.proofs.RefusalLemmas.{refuses_listing}
+use Rattle.zi_universe.proofs.NextLemmas.{few_counted, next_done}
+use Rattle.zi_universe.proofs.loading.load_next.Goals as goal
+
+pub finish-requires : goal.finish-requires
+finish-requires g c = few_counted (g.F.Feeds.holds c.args.feeds.now) c.args.wanted.now.req.now c.args.wanted.now.policy.now (in_set c.args.wanted.now.stored.keys) c.args.state.now c.requires.at
+
+pub returns-in_err-candidates-clause-next : goal.returns-in_err-candidates-clause-next
+returns-in_err-candidates-clause-next g c =
+    let s = c.args.state.now in
+    let P : ℕ → Type 0 = λ n. slice_get s.names.keys n ≡ Some c.in_ok-uri.uri in
+    let next : slice_get s.names.keys (length s.done) ≡ Some c.in_ok-uri.uri = subst P c.len.ensures c.in_ok-uri.ensures in
+    let q = err_from_is_err_and c.from_residual-in_err-candidates.result c.from_residual-in_err-candidates.ensures.1 in
+    rw (q.1, q.2)
+    (refuses_listing (g.F.Feeds.holds c.args.feeds.now) (g.F.Feeds.faults c.args.feeds.now) (g.F.Feeds.faults c.look_for.new.feeds)
+    c.args.wanted.now.req.now c.args.wanted.now.policy.now (in_set c.args.wanted.now.stored.keys) s.done s.names.keys s.table c.in_ok-uri.uri
+    c.requires.at.loaded next c.in_err-candidates.field-0.0 c.in_err-candidates.ensures.gathers)
+
+pub returns-clause-next : goal.returns-clause-next
+returns-clause-next g c =
+    let s = c.args.state.now in
+    let P : ℕ → Type 0 = λ n. slice_get s.names.keys n ≡ Some c.in_ok-uri.uri in
+    next_done (g.F.Feeds.holds c.args.feeds.now) (g.F.Feeds.faults c.args.feeds.now) (g.F.Feeds.faults c.look_for.new.feeds)
+    c.args.wanted.now.req.now c.args.wanted.now.policy.now (in_set c.args.wanted.now.stored.keys) s c.in_ok-uri.uri c.requires.at
+    (subst P c.len.ensures c.in_ok-uri.ensures) c.in_ok-candidates.candidates.items c.look_for.new.table c.in_ok-candidates.ensures.gathers c.finish.result c.finish.new.state c.finish.ensures

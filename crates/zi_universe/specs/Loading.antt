@@ -1,0 +1,152 @@
+-- What a loading answers: the universe, or the first refusal in the order of loading.
+use Rattle.std.specs.Prelude.{◌≡◌, ◌≢◌, ℕ, ◌+◌, ◌<◌, ◌≤◌, false, List, [], ◌∷◌, ◌++◌, map, length, take, slice_get, Option, Some, None, IfSome, IsSomeAnd, MatchOption, Contains}
+use Rattle.std.specs.List.{AllZip}
+use Rattle.zi_policy.specs.declared.types.Policy.{Policy}
+use Rattle.zi_policy.specs.Platform.{listed}
+use Rattle.zi_digest.specs.declared.DigestName.{DigestName}
+use Rattle.zi_digest.specs.Name.{spelling}
+use Rattle.zi_elements.specs.declared.element.Element.{Element}
+use Rattle.zi_forest.specs.Forest.{element_view}
+use Rattle.zi_doc.specs.Documents as doc
+use Rattle.zi_feed.specs.declared.feed.Feed.{Feed}
+use Rattle.zi_feed.specs.Feeds.{feed_of, feed_fault}
+use Rattle.zi_outside.specs.Count.{Rose}
+use Rattle.zi_outside.specs.Outside.{Holding}
+use Rattle.zi_universe.specs.declared.types.Requirement.{Requirement}
+use Rattle.zi_universe.specs.declared.types.Interface.{Interface}
+use Rattle.zi_universe.specs.declared.types.Candidate.{Candidate}
+use Rattle.zi_universe.specs.declared.fault.BadFeed.{BadFeed}
+use Rattle.zi_universe.specs.declared.fault.BadFeed.TheVariants as bad
+use Rattle.zi_universe.specs.declared.fault.LoadFault.{LoadFault}
+use Rattle.zi_universe.specs.declared.fault.LoadFault.TheVariants as fault
+use Rattle.zi_universe.specs.Naming.{Uri, Uris, joined, without_repeats, all_of, IsNamed, IsClosed}
+use Rattle.zi_universe.specs.Candidates.{Store, imports_of, admitted, AreCandidates, asked_by, asked_by_all}
+use Rattle.zi_universe.specs.Whole.{uris_of, candidates_in, most_feeds, most_candidates, most_interfaces, feed_limit}
+
+-- the names of the trees that are stored
+abbrev pub names_of : List DigestName → Store
+names_of stored t = listed t (map spelling stored)
+
+-- What stands at an address.
+
+-- the document that the bytes spell is this feed of the address
+abbrev pub Says : Uri → List ℕ → Feed → Type 0
+Says uri bytes f = (t : Element) × doc.Spells bytes t × (feed_fault (element_view t) uri ≡ None) × (f ≡ feed_of (element_view t) uri)
+
+-- the bytes are no document, or the document that they spell is no feed of the address
+abbrev pub HasFault : Uri → List ℕ → BadFeed → Type 0
+HasFault uri bytes (bad.Doc kind place) = doc.HasFault bytes kind place
+HasFault uri bytes (bad.Feed kind place) =
+    (t : Element) × doc.Spells bytes t × (feed_fault (element_view t) uri ≡ Some (record { kind = kind; place = place }))
+
+-- what is held at an address, where it is told
+abbrev pub IsHeld : Option Holding → Uri → Option (List ℕ) → Type 0
+IsHeld told uri held = IfSome told (λ holds. holds uri ≡ held)
+
+-- the feed of an address that is absent
+abbrev pub no_feed : Uri → Feed
+no_feed uri = record { uri = uri; imports = []; impls = [] }
+
+-- f is the feed at this address; that of the root is there
+pub record IsRead (told : Option Holding) (root uri : Uri) (f : Feed) : Type 0 where
+  pub held : Option (List ℕ)
+  pub told_so : IsHeld told uri held
+  pub means : MatchOption held ((uri ≢ root) × (f ≡ no_feed uri)) (λ bytes. (length bytes ≤ feed_limit) × Says uri bytes f)
+
+-- the feed at each address
+abbrev pub Reading : Type 0
+Reading = Uri → Feed
+
+abbrev pub AreRead : Option Holding → Uri → Reading → Uris → Type 0
+AreRead told root at uris = (uri : Uri) → Contains uris uri → IsRead told root uri (at uri)
+
+-- Interfaces over feeds.
+
+-- the feeds of an interface: its own, and what these import, as long as more are named
+abbrev pub AreFeedsOf : Reading → Policy → Uri → Uris → Type 0
+AreFeedsOf at p interface feeds = IsClosed interface (λ uri. imports_of p (at uri)) feeds
+
+-- i is the interface of its address over these feeds
+pub record IsInterface (at : Reading) (req : Requirement) (p : Policy) (stored : Store) (feeds : Uris) (i : Interface) : Type 0 where
+  pub closed : AreFeedsOf at p i.uri feeds
+  pub candidates : AreCandidates req p stored i.uri (map at feeds) i.candidates
+
+-- the feeds that some interfaces reach, each at its first place
+abbrev pub reached : List Uris → Uris
+reached groups = without_repeats (all_of groups)
+
+-- The loading has come so far: these interfaces are done, over these groups of feeds; names are the root and all that they
+-- ask for, and the first of the names are theirs. No limit is passed.
+pub record HasCome (at : Reading) (req : Requirement) (p : Policy) (stored : Store) (done : List Interface) (groups : List Uris) (names : Uris) : Type 0 where
+  pub named : IsNamed req.interface (map asked_by done) names
+  pub in_turn : uris_of done ≡ take (length done) names
+  pub each : AllZip (IsInterface at req p stored) groups done
+  pub few_feeds : length (reached groups) ≤ most_feeds
+  pub few_candidates : candidates_in done ≤ most_candidates
+  pub few_interfaces : length names ≤ most_interfaces
+
+-- all that are named are done
+abbrev pub IsUniverse : Reading → Requirement → Policy → Store → List Uris → List Interface → Type 0
+IsUniverse at req p stored groups is = HasCome at req p stored is groups (uris_of is)
+
+-- The loading has come to this address without a refusal, and has got others so far, but not this one.
+pub record ComesTo (told : Option Holding) (req : Requirement) (p : Policy) (stored : Store) (uri : Uri) (got : Uris) : Type 0 where
+  pub at : Reading
+  pub done : List Interface
+  pub groups : List Uris
+  pub names : Uris
+  pub come : HasCome at req p stored done groups names
+  -- the interface whose feeds are looked for
+  pub interface : Uri
+  pub next : slice_get names (length done) ≡ Some interface
+  -- its feeds so far, the first n of which were looked at
+  pub here : Uris
+  pub n : ℕ
+  pub listed_here : IsNamed interface (map (λ u. imports_of p (at u)) (take n here)) here
+  pub turn : slice_get here n ≡ Some uri
+  pub so_far : got ≡ reached (groups ++ take n here ∷ [])
+  pub few : length got ≤ most_feeds
+  pub new : listed uri got ≡ false
+  pub read : AreRead told req.interface at got
+
+-- it may still get one more
+abbrev pub ComesToGet : Option Holding → Requirement → Policy → Store → Uri → Type 0
+ComesToGet told req p stored uri = (got : Uris) × ComesTo told req p stored uri got × (length got < most_feeds)
+
+-- The loading has found the feeds of the interface behind those that are done, without a refusal before.
+pub record Finds (told : Option Holding) (req : Requirement) (p : Policy) (stored : Store) (done : List Interface) (names : Uris) (interface : Uri) (feeds : List Feed) : Type 0 where
+  pub at : Reading
+  pub groups : List Uris
+  pub come : HasCome at req p stored done groups names
+  pub next : slice_get names (length done) ≡ Some interface
+  pub here : Uris
+  pub closed : AreFeedsOf at p interface here
+  pub are : feeds ≡ map at here
+  pub few : length (reached (groups ++ here ∷ [])) ≤ most_feeds
+  pub read : AreRead told req.interface at (reached (groups ++ here ∷ []))
+
+-- The refusals. f and g are the feeds' counts of faults before and after.
+abbrev pub Refuses : Option Holding → ℕ → ℕ → Requirement → Policy → Store → LoadFault → Type 0
+Refuses told f g req p stored (fault.FeedRead uri) = ComesToGet told req p stored uri × Rose f g
+Refuses told f g req p stored fault.NoRootFeed = ComesToGet told req p stored req.interface × IsHeld told req.interface None
+Refuses told f g req p stored (fault.BadFeed uri why) =
+    ComesToGet told req p stored uri × ((bytes : List ℕ) × IsHeld told uri (Some bytes) × (length bytes ≤ feed_limit) × HasFault uri bytes why)
+Refuses told f g req p stored (fault.FeedTooLong uri limit) =
+    ComesToGet told req p stored uri × (limit ≡ feed_limit) × IfSome told (λ holds. IsSomeAnd (holds uri) (λ bytes. feed_limit < length bytes))
+Refuses told f g req p stored (fault.TooManyInterfaces limit) =
+    (limit ≡ most_interfaces) × ((done : List Interface) × (names : Uris) × (interface : Uri) × (feeds : List Feed) × (cs : List Candidate)
+    × Finds told req p stored done names interface feeds × AreCandidates req p stored interface feeds cs
+    × (candidates_in done + length cs ≤ most_candidates) × (most_interfaces < length (joined names (asked_by_all cs))))
+Refuses told f g req p stored (fault.TooManyCandidates limit) =
+    (limit ≡ most_candidates) × ((done : List Interface) × (names : Uris) × (interface : Uri) × (feeds : List Feed)
+    × Finds told req p stored done names interface feeds × (most_candidates < candidates_in done + length (admitted req p stored interface feeds)))
+Refuses told f g req p stored (fault.TooManyFeeds limit) =
+    (limit ≡ most_feeds) × ((uri : Uri) × (got : Uris) × ComesTo told req p stored uri got × (length got ≡ most_feeds))
+Refuses told f g req p stored fault.Memory = Unit {0}
+
+-- these are all the interfaces, over the feeds that they reach
+pub record Loads (told : Option Holding) (req : Requirement) (p : Policy) (stored : Store) (is : List Interface) : Type 0 where
+  pub at : Reading
+  pub groups : List Uris
+  pub universe : IsUniverse at req p stored groups is
+  pub read : AreRead told req.interface at (reached groups)

@@ -1,0 +1,22 @@
+//! What holds of loadings as such: each function's clause is a law, proved over the definitions alone.
+ghost use Rattle.zi_universe.specs.Laws.{HasOneUniverse, UniverseExcludes};
+
+use zi_doc::one_answer;
+use zi_rank::laws::ranks_are_strict;
+
+/// Over feeds that tell what they hold there is one universe at most, so what `load` answers is the universe.
+pub fn one_universe()
+    ensures { HasOneUniverse }
+{
+    one_answer();
+    ranks_are_strict();
+}
+
+/// Over feeds that tell what they hold, where there is a universe no refusal has its cause but a failed call and want of
+/// memory: so bad feeds, an absent root and passed limits are refused exactly where they stand in the way of one.
+pub fn universe_excludes()
+    ensures { UniverseExcludes }
+{
+    one_answer();
+    ranks_are_strict();
+}

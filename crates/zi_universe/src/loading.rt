@@ -1,0 +1,182 @@
+//! The loading, interface by interface.
+ghost use Rattle.std.specs.Prelude.{◌≡◌, ◌+◌, ◌<◌, ◌≤◌, length, slice_get, Some, IfOk, IfErr, MatchResult};
+ghost use Rattle.zi_universe.specs.Naming.{in_set};
+ghost use Rattle.zi_universe.specs.Whole.{BeginsWith, most_feeds, most_candidates};
+ghost use Rattle.zi_universe.specs.Loading.{names_of, Loads, Refuses};
+ghost use Rattle.zi_universe.specs.Stages.{UnlessMemory, StopsListing, Gathers, IsAt, IsBegun, Finishes, StopsFinishing, LoadsNext};
+
+use crate::fault::LoadFault;
+use crate::feeds::list_feeds;
+use crate::limits::{MOST_CANDIDATES, MOST_INTERFACES};
+use crate::naming::{add_asked, single, spelled};
+use crate::offers::{Wanted, gather};
+use crate::ranking::rank;
+use crate::table::FeedTable;
+use crate::types::{Candidate, Interface, Requirement};
+use crate::universe::Universe;
+use indexmap::IndexSet;
+use std::alloc::Global;
+use zi_digest::DigestName;
+use zi_outside::Feeds;
+use zi_policy::Policy;
+use zi_text::{List, Memory, Text};
+
+/// How far a loading has come.
+#[derive(Drop)]
+struct Loading {
+    /// The addresses of the interfaces that are asked for, as they were first asked for.
+    names: IndexSet<Text>,
+    /// The feeds got so far.
+    table: FeedTable,
+    /// The interfaces that are done: the first of those that are asked for.
+    done: List<Interface>,
+    /// The number of their candidates.
+    count: usize,
+}
+
+// Nothing is done; the root is asked for.
+fn begin(alloc: Global, req: &Requirement) -> Result<Loading, Memory>
+    ensures { IfOk result (IsBegun req.now.interface) }
+{
+    let names = single(alloc, &req.interface)?;
+    Ok(Loading {
+        names,
+        table: FeedTable::new(alloc),
+        done: List::new(alloc),
+        count: 0,
+    })
+}
+
+// An interface with these candidates, which are ranked and counted, and what they ask for is named.
+fn finish(
+    alloc: Global,
+    wanted: &Wanted,
+    uri: Text,
+    mut candidates: Vec<Candidate>,
+    state: &mut Loading,
+) -> Result<(), LoadFault>
+    requires { state.old.count ≤ most_candidates }
+    ensures { MatchResult result (λ _. Finishes wanted.now.policy.now uri candidates.items state.old state.new)
+        (StopsFinishing wanted.now.policy.now candidates.items state.old) }
+{
+    if candidates.len() > MOST_CANDIDATES - state.count {
+        let limit = MOST_CANDIDATES as u64;
+        return Err(LoadFault::TooManyCandidates { limit });
+    }
+    state.count += candidates.len();
+    rank(candidates.as_mut_slice(), wanted.policy);
+    add_asked(alloc, candidates.as_slice(), &mut state.names)?;
+    if state.names.len() > MOST_INTERFACES {
+        let limit = MOST_INTERFACES as u64;
+        return Err(LoadFault::TooManyInterfaces { limit });
+    }
+    let candidates = List::from_vec(candidates);
+    state.done.push(Interface { uri, candidates })?;
+    Ok(())
+}
+
+// The address at a place, once more.
+fn copy_at(alloc: Global, names: &IndexSet<Text>, place: usize) -> Result<Text, Memory>
+    requires { place < length names.now.keys }
+    ensures { IfOk result (λ name. slice_get names.now.keys place ≡ Some name) }
+{
+    names.as_slice()[place].copy(alloc)
+}
+
+// What the feeds of an interface, which are got first, offer for it.
+fn look_for<F: Feeds>(
+    alloc: Global,
+    wanted: &Wanted,
+    uri: &Text,
+    table: &mut FeedTable,
+    feeds: &mut F,
+) -> Result<Vec<Candidate>, LoadFault>
+    requires { length table.old ≤ most_feeds }
+    ensures gathers { MatchResult result
+        (λ cs. Gathers (F.holds feeds.old) wanted.now.req.now wanted.now.policy.now (in_set wanted.now.stored.keys) uri.now table.old cs.items table.new)
+        (λ e. UnlessMemory e (StopsListing (F.holds feeds.old) (F.faults feeds.old) (F.faults feeds.new) wanted.now.req.now.interface wanted.now.policy.now uri.now table.old e)) }
+    ensures holds { F.holds feeds.new ≡ F.holds feeds.old }
+    ensures count { F.faults feeds.old ≤ F.faults feeds.new }
+{
+    let here = list_feeds(
+        alloc,
+        &wanted.req.interface,
+        wanted.policy,
+        uri,
+        table,
+        feeds,
+    )?;
+    let candidates = gather(alloc, wanted, uri, table, here.as_slice())?;
+    Ok(candidates)
+}
+
+// The first of the interfaces that are asked for and aren't done.
+fn load_next<F: Feeds>(
+    alloc: Global,
+    wanted: &Wanted,
+    state: &mut Loading,
+    feeds: &mut F,
+) -> Result<(), LoadFault>
+    requires at { IsAt (F.holds feeds.old) wanted.now.req.now wanted.now.policy.now (in_set wanted.now.stored.keys) state.old }
+    requires more { length state.old.done < length state.old.names.keys }
+    ensures next { MatchResult result
+        (λ _. LoadsNext (F.holds feeds.old) wanted.now.req.now wanted.now.policy.now (in_set wanted.now.stored.keys) state.old state.new)
+        (Refuses (F.holds feeds.old) (F.faults feeds.old) (F.faults feeds.new) wanted.now.req.now wanted.now.policy.now (in_set wanted.now.stored.keys)) }
+    ensures holds { F.holds feeds.new ≡ F.holds feeds.old }
+    ensures count { F.faults feeds.old ≤ F.faults feeds.new }
+{
+    let uri = copy_at(alloc, &state.names, state.done.len())?;
+    let candidates = look_for(alloc, wanted, &uri, &mut state.table, feeds)?;
+    finish(alloc, wanted, uri, candidates, state)
+}
+
+// All that are asked for.
+fn load_all<F: Feeds>(
+    alloc: Global,
+    wanted: &Wanted,
+    feeds: &mut F,
+) -> Result<List<Interface>, LoadFault>
+    ensures all { MatchResult result
+        (Loads (F.holds feeds.old) wanted.now.req.now wanted.now.policy.now (in_set wanted.now.stored.keys))
+        (Refuses (F.holds feeds.old) (F.faults feeds.old) (F.faults feeds.new) wanted.now.req.now wanted.now.policy.now (in_set wanted.now.stored.keys)) }
+    ensures holds { F.holds feeds.new ≡ F.holds feeds.old }
+    ensures count { F.faults feeds.old ≤ F.faults feeds.new }
+{
+    let mut state = begin(alloc, wanted.req)?;
+    while state.done.len() < state.names.len() {
+        load_next(alloc, wanted, &mut state, feeds)?;
+    }
+    let Loading { done, .. } = state;
+    Ok(done)
+}
+
+/// The universe of a requirement under a policy: the root's interface and, as long as more are asked for, those that active
+/// dependencies and runners of candidates ask for, each with its candidates in rank order. `stored` has the digests of the
+/// trees that the store holds.
+///
+/// Each feed is got once, when it is first reached: the feeds of an interface are its own and those that these import,
+/// unless an import is skipped. The first refusal that is met is answered; for one feed the order is: the object failed,
+/// too many bytes, an absent root, bad bytes. A limit is passed as the number would pass it: a feed counts before it is got,
+/// an interface's candidates once its feeds are there, and interfaces as candidates ask for them. `Memory` says nothing.
+pub fn load<F: Feeds>(
+    alloc: Global,
+    req: &Requirement,
+    policy: &Policy,
+    stored: &[DigestName],
+    feeds: &mut F,
+) -> Result<Universe, LoadFault>
+    ensures loads { IfOk result (λ u. Loads (F.holds feeds.old) req.now policy.now (names_of stored.now) u) }
+    ensures refuses { IfErr result (λ e. Refuses (F.holds feeds.old) (F.faults feeds.old) (F.faults feeds.new) req.now policy.now (names_of stored.now) e) }
+    ensures rooted { IfOk result (λ u. BeginsWith u req.now.interface) }
+    ensures holds { F.holds feeds.new ≡ F.holds feeds.old }
+    ensures count { F.faults feeds.old ≤ F.faults feeds.new }
+{
+    let stored = spelled(alloc, stored)?;
+    let wanted = Wanted {
+        req,
+        policy,
+        stored,
+    };
+    let interfaces = load_all(alloc, &wanted, feeds)?;
+    Ok(Universe::from_whole(interfaces))
+}
