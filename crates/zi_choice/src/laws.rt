@@ -1,0 +1,39 @@
+//! What holds of walks and of the best choice as such: each function's clause is a law, proved over the definitions alone.
+
+ghost use Rattle.zi_choice.specs.Laws.{WalkIsOne, WalkIsThere, EarlierIsStrict, OneRanksEarlier, BestIsOne, FirstAloneIsBest, NoRootNoChoice};
+
+/// A choice has one walk at most.
+pub fn walk_is_one()
+    ensures { WalkIsOne }
+{}
+
+/// A choice has a walk.
+pub fn walk_is_there()
+    ensures { WalkIsThere }
+{}
+
+/// "Ranks earlier" is a strict order.
+pub fn earlier_is_strict()
+    ensures { EarlierIsStrict }
+{}
+
+/// Of two different valid choices one ranks earlier than the other.
+pub fn one_ranks_earlier()
+    ensures { OneRanksEarlier }
+{}
+
+/// At most one choice is the best.
+pub fn best_is_one()
+    ensures { BestIsOne }
+{}
+
+/// Where no command is wanted, and no candidate of the root has a dependency of its own, the root's first candidate alone is
+/// the best choice, if the root has one.
+pub fn first_alone_is_best()
+    ensures { FirstAloneIsBest }
+{}
+
+/// Where the root has no candidate, no choice is valid.
+pub fn no_root_no_choice()
+    ensures { NoRootNoChoice }
+{}
