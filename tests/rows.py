@@ -20,8 +20,11 @@ class Wrong(Exception):
     pass
 
 
-def run(words, folder, stdout=subprocess.PIPE):
-    done = subprocess.run([PROGRAM] + words, cwd=folder, stdout=stdout, stderr=subprocess.PIPE)
+def run(words, folder, stdout=subprocess.PIPE, feeds=None):
+    env = {name: value for name, value in os.environ.items() if name != "ZI_FEEDS"}
+    if feeds is not None:
+        env["ZI_FEEDS"] = feeds
+    done = subprocess.run([PROGRAM] + words, cwd=folder, env=env, stdout=stdout, stderr=subprocess.PIPE)
     return done.returncode, done.stdout, done.stderr
 
 
@@ -46,14 +49,26 @@ def feed(*parts):
     return f'<interface xmlns="{NS}">\n' + "".join(f"  {part}\n" for part in parts) + "</interface>\n"
 
 
-def selections(root, id_, version):
-    folder = root[: root.rindex("/") + 1]
+def document(root, attributes):
     return (
         '<?xml version="1.0" encoding="utf-8"?>\n'
         f'<selections xmlns="{NS}" interface="{root}">\n'
-        f'  <selection interface="{root}" id="{id_}" version="{version}" local-path="{folder}{id_}" stability="testing"/>\n'
+        f'  <selection interface="{root}" {attributes}/>\n'
         "</selections>\n"
     ).encode()
+
+
+def selections(root, id_, version):
+    folder = root[: root.rindex("/") + 1]
+    return document(root, f'id="{id_}" version="{version}" local-path="{folder}{id_}" stability="testing"')
+
+
+def picks(folder, text, options, id_):
+    """The id that is selected of a feed under these options, whatever else is said of it."""
+    root = write(folder, "picks.xml", text)
+    status, out, err = run(SELECT + options + [root], folder)
+    if status != 0 or err or f' id="{id_}" '.encode() not in out:
+        raise Wrong(f"{options}: {status}, {out!r}, {err!r}, not {id_}")
 
 
 def five_versions(folder):
@@ -70,12 +85,11 @@ def one_version_and_ties(folder):
 
 
 def the_examples(folder):
-    # the root is a path below the top folder, and a plain one only where that folder's own path is
     root = write(folder, "hello.xml", open(os.path.join(TOP, "examples", "hello.xml"), "rb").read())
     expect(run(["select", "--no-command", root], folder), 0, selections(root, "e", "1.2.10"), b"")
     root = write(folder, "groups.xml", open(os.path.join(TOP, "examples", "groups.xml"), "rb").read())
-    document = selections(root, "third", "1.3-rc1").replace(b'"third"', b'"third &amp; last"').replace(b"/third", b"/second")
-    expect(run(["select", "--no-command", root], folder), 0, document, b"")
+    written = selections(root, "third", "1.3-rc1").replace(b'"third"', b'"third &amp; last"').replace(b"/third", b"/second")
+    expect(run(["select", "--no-command", root], folder), 0, written, b"")
 
 
 SELECT = ["select", "--no-command"]
@@ -102,24 +116,64 @@ def bad_feeds(folder):
         expect(run(SELECT + [root], folder), 67, b"", f"zi: bad feed {root}: {fault}\n".encode())
 
 
+UNBUILT = (95, b"", b"zi: not built yet\n")
+
+
 def feeds_that_are_not_heeded_yet(folder):
     local = 'id="b" version="1" local-path="b"'
     rows = [
         f'<interface xmlns="{NS}"/>',
-        feed('<feed src="b.xml"/>', impl("a", "1")),
-        feed(impl("a", "1"), '<implementation id="b" version="1"/>'),
-        feed(f'<implementation {local} stability="stable"/>'),
-        feed(f'<implementation {local} arch="*-*"/>'),
-        feed(f'<implementation {local} langs="en"/>'),
-        feed(f'<implementation {local} released="2020-01-01"/>'),
-        feed(f'<implementation {local}><requires interface="/b.xml"/></implementation>'),
+        feed('<implementation id="b" version="1"/>'),
+        feed(f'<implementation {local} stability="buggy"/>'),
+        feed(f'<implementation {local}><requires interface="/b.xml"/></implementation>', impl("a", "2")),
+        feed(f'<implementation {local}><requires interface="/b.xml" importance="recommended"/></implementation>'),
+        feed(f'<implementation {local}><restricts interface="/b.xml"/></implementation>'),
         feed(f'<implementation {local}><environment name="A" value="b"/></implementation>'),
         feed('<group><requires interface="/b.xml"/>' + impl("a", "1") + "</group>"),
         feed(f'<implementation {local}><manifest-digest sha256="{"0" * 64}"/></implementation>'),
     ]
     for text in rows:
         root = write(folder, "f.xml", text)
-        expect(run(SELECT + [root], folder), 95, b"", b"zi: not built yet\n")
+        expect(run(SELECT + [root], folder), *UNBUILT)
+    expect(run(["store", "list"], folder), *UNBUILT)
+    expect(run(["manifest", "sha256", "t"], folder), *UNBUILT)
+    # what isn't active, or isn't a candidate, doesn't count
+    rows = [
+        feed('<implementation id="a" version="1" local-path="a"><requires interface="b.xml" os="Windows"/></implementation>'),
+        feed('<implementation id="a" version="1" local-path="a"><requires interface="b.xml" use="testing"/></implementation>'),
+        feed(impl("a", "1"), '<implementation id="b" version="2"><environment name="A" value="b"/></implementation>'),
+        feed('<implementation id="a" version="1" local-path="a"><command name="run"><requires interface="b.xml"/></command></implementation>'),
+    ]
+    for text in rows:
+        root = write(folder, "f.xml", text)
+        expect(run(SELECT + [root], folder), 0, selections(root, "a", "1"), b"")
+
+
+def imports(folder):
+    root = write(folder, "root.xml", feed('<feed src="more.xml"/>', '<feed src="none.xml"/>', '<feed src="win.xml" arch="Windows-*"/>', impl("a", "1")))
+    expect(run(SELECT + [root], folder), 0, selections(root, "a", "1"), b"")
+    more = write(folder, "more.xml", feed('<feed src="sub/last.xml"/>', impl("b", "2")))
+    write(folder, "win.xml", "<bad/>")
+    wanted = f'id="b" version="2" from-feed="{more}" local-path="{folder}/b" stability="testing"'
+    expect(run(SELECT + [root], folder), 0, document(root, wanted), b"")
+    os.mkdir(os.path.join(folder, "sub"))
+    last = write(folder, "sub/last.xml", feed(impl("c", "3")))
+    wanted = f'id="c" version="3" from-feed="{last}" local-path="{folder}/sub/c" stability="testing"'
+    expect(run(SELECT + [root], folder), 0, document(root, wanted), b"")
+    write(folder, "sub/last.xml", f"{START}{impl('c', 'x')}{END}")
+    expect(run(SELECT + [root], folder), 67, b"", f"zi: bad feed {last}: feed 3 at {len(START)}\n".encode())
+    write(folder, "sub/last.xml", b" " * 4194305)
+    expect(run(SELECT + [root], folder), 68, b"", f"zi: {last} is longer than 4194304 bytes\n".encode())
+    os.remove(last)
+    os.mkdir(last)
+    expect(run(SELECT + [root], folder), 65, b"", f"zi: cannot read {last}\n".encode())
+
+
+def dependencies_are_loaded_first(folder):
+    root = write(folder, "root.xml", feed('<implementation id="a" version="1" local-path="a"><requires interface="lib.xml"/></implementation>'))
+    expect(run(SELECT + [root], folder), *UNBUILT)
+    lib = write(folder, "lib.xml", "<interface/>")
+    expect(run(SELECT + [root], folder), 67, b"", f"zi: bad feed {lib}: feed 1 at 0\n".encode())
 
 
 def whole_feeds(folder):
@@ -130,26 +184,41 @@ def whole_feeds(folder):
         "<implementation id='c' version='1.0' local-path='c'/></group></interface>"
     )
     root = write(folder, "groups.xml", groups)
-    document = selections(root, "a", "1.2-rc1").replace(b'local-path="' + folder.encode() + b"/a", b'local-path="' + folder.encode() + b"/x")
-    expect(run(SELECT + [root], folder), 0, document, b"")
+    written = selections(root, "a", "1.2-rc1").replace(b'local-path="' + folder.encode() + b"/a", b'local-path="' + folder.encode() + b"/x")
+    expect(run(SELECT + [root], folder), 0, written, b"")
     text = feed("<implementation id='&amp;&lt;&gt;&quot;&#9;&#xe9;' version='1' local-path='./p//../&#10;&#13;'/>")
     root = write(folder, "escapes.xml", text)
-    document = selections(root, "I", "1").replace(b'id="I"', 'id="&amp;&lt;&gt;&quot;&#9;\u00e9"'.encode()).replace(b'/I"', b'/&#10;&#13;"')
-    expect(run(SELECT + [root], folder), 0, document, b"")
+    written = selections(root, "I", "1").replace(b'id="I"', 'id="&amp;&lt;&gt;&quot;&#9;\u00e9"'.encode()).replace(b'/I"', b'/&#10;&#13;"')
+    expect(run(SELECT + [root], folder), 0, written, b"")
     signed = SIGNED.replace(b"sha1new=da39a3ee5e6b4b0d3255bfef95601890afd80709", b"a").replace(b'version="1">', b'version="1" local-path="a">')
     root = write(folder, "signed.xml", signed)
     expect(run(SELECT + [root], folder), 0, selections(root, "a", "1"), b"")
 
 
-def most_implementations(folder):
+def limits(folder):
     def of(count):
         ids = "".join(f"<implementation id='{n}'/>" for n in range(count))
         return write(folder, "most.xml", f"{START}<group version='1' local-path='a'>{ids}</group>{END}")
 
     root = of(65536)
-    document = selections(root, "9999", "1").replace(b"/9999", b"/a")
-    expect(run(SELECT + [root], folder), 0, document, b"")
-    expect(run(SELECT + [of(65537)], folder), 95, b"", b"zi: not built yet\n")
+    written = selections(root, "9999", "1").replace(b"/9999", b"/a")
+    expect(run(SELECT + [root], folder), 0, written, b"")
+    expect(run(SELECT + [of(65537)], folder), 71, b"", b"zi: more than 65536 candidates\n")
+
+    def asking(count):
+        asked = "".join(f"<requires interface='{n}.xml'/>" for n in range(count))
+        return write(folder, "asks.xml", f"{START}<implementation id='a' version='1' local-path='a'>{asked}</implementation>{END}")
+
+    expect(run(SELECT + [asking(4095)], folder), *UNBUILT)
+    expect(run(SELECT + [asking(4096)], folder), 70, b"", b"zi: more than 4096 interfaces\n")
+
+    def importing(count):
+        imported = "".join(f"<feed src='{n}.xml'/>" for n in range(count))
+        return write(folder, "imports.xml", f"{START}{imported}{impl('a', '1')}{END}")
+
+    root = importing(8191)
+    expect(run(SELECT + [root], folder), 0, selections(root, "a", "1"), b"")
+    expect(run(SELECT + [importing(8192)], folder), 69, b"", b"zi: more than 8192 feeds\n")
 
 
 def many_implementations(folder):
@@ -162,7 +231,7 @@ def feeds_that_cannot_be_read(folder):
     expect(run(["select", "--no-command", root], folder), 66, b"", b"zi: no feed for the root\n")
     write(folder, "file.xml", "x")
     root = os.path.join(folder, "file.xml", "a")
-    expect(run(["select", "--no-command", root], folder), 66, b"", b"zi: no feed for the root\n")
+    expect(run(["select", "--no-command", root], folder), 65, b"", f"zi: cannot read {root}\n".encode())
     line = f"zi: cannot read {folder}\n".encode()
     expect(run(["select", "--no-command", folder], folder), 65, b"", line)
 
@@ -188,19 +257,135 @@ def wrong_words(folder):
     rows = [
         ([], 0),
         (["selects"], 0),
+        (["--help", "x"], 1),
+        (["--version", "--help"], 1),
         (["select"], 1),
         (["select", "/a"], 1),
+        (["select", "--"], 1),
         (["select", "--no-command"], 2),
         (["select", "--no-command", "a"], 2),
-        (["select", "--no-command", "/"], 2),
-        (["select", "--no-command", "/-a"], 2),
         (["select", "--no-command", "/a", "/b"], 3),
+        (["select", "--no-command", "--no-command", "/a"], 2),
+        (["select", "--no-command", "--", "--", "/a"], 3),
+        (["select", "--no-command", "--proof", "/a"], 2),
+        (["select", "--no-command", "/a\tb"], 2),
+        (["select", "--no-command", "--version=1", "/a"], 2),
+        (["select", "--no-command", "--version", "..3", "/a"], 3),
+        (["select", "--no-command", "--version", "1.2-foo", "/a"], 3),
+        (["select", "--no-command", "--version", "1.2.", "/a"], 3),
+        (["select", "--no-command", "--version", "", "/a"], 3),
+        (["select", "--no-command", "--version", "1", "--version", "1", "/a"], 4),
+        (["select", "--no-command", "--level", "preferred", "/a"], 3),
+        (["select", "--no-command", "--network", "none", "/a"], 3),
+        (["select", "--no-command", "--os", "", "/a"], 3),
+        (["select", "--no-command", "--search", "4000000001", "/a"], 3),
+        (["select", "--no-command", "--rate", "/a", "x", "stable", "--rate", "/a", "x", "stable", "/a"], 8),
         (["select", b"--no-command\xff"], 1),
         (["select", "--no-command", b"/\xff"], 2),
         (["select", "--no-command", "/a", b"\xff"], 3),
+        (["select", "--rate", "/a", b"\xff", "stable", "--no-command", "/a"], 3),
+        (["select", "x", b"\xff"], 1),
+        ([b"\xff"], 0),
     ]
     for words, index in rows:
         expect(run(words, folder), 64, b"", f"zi: usage at word {index}\n".encode())
+
+
+def help_and_version(folder):
+    status, out, err = run(["--help"], folder)
+    options = ["--no-command", "--version", "--version-for", "--os", "--cpu", "--lang", "--level", "--network", "--use", "--rate", "--search"]
+    missing = [word for word in ["zi select", "zi --help", "zi --version", "Linux", "x86_64", "100000", "ZI_FEEDS"] + options if word.encode() not in out]
+    if status != 0 or err or missing or not out.endswith(b"\n"):
+        raise Wrong(f"{status}, {missing}, {out!r}, {err!r}")
+    expect(run(["--version"], folder), 0, b"zi 0.1\n", b"")
+
+
+def options(folder):
+    versions = feed(impl("a", "2.6"), impl("b", "3-pre"), impl("c", "3"), impl("d", "3.2.2"))
+    picks(folder, versions, [], "d")
+    picks(folder, versions, ["--version", "..!3.2.2"], "c")
+    picks(folder, versions, ["--version", "2.6..!3 | 3.2.2.."], "d")
+    picks(folder, versions, ["--version", "2.6..!3"], "b")
+    picks(folder, versions, ["--version", "!3.2.2"], "c")
+    picks(folder, versions, ["--version-for", os.path.join(folder, "picks.xml"), "..!3"], "b")
+    picks(folder, versions, ["--version-for", "/other.xml", "..!3"], "d")
+    root = write(folder, "picks.xml", versions)
+    expect(run(SELECT + ["--version", "5..", root], folder), *UNBUILT)
+
+    def on(id_, version, arch):
+        return f'<implementation id="{id_}" version="{version}" local-path="{id_}" arch="{arch}"/>'
+
+    machines = feed(on("x", "1", "Linux-i686"), on("y", "1", "Linux-x86_64"))
+    picks(folder, machines, [], "y")
+    picks(folder, machines, ["--cpu", "i686"], "x")
+    systems = feed(on("l", "1", "Linux-*"), on("w", "1", "Windows-*"), on("p", "0", "POSIX-*"))
+    picks(folder, systems, [], "l")
+    picks(folder, systems, ["--os", "Windows"], "w")
+    picks(folder, systems, ["--os", "Darwin"], "p")
+
+    def speaks(id_, version, langs):
+        return f'<implementation id="{id_}" version="{version}" local-path="{id_}" langs="{langs}"/>'
+
+    tongues = feed(speaks("g", "2", "en_GB"), speaks("f", "1", "fr"))
+    picks(folder, tongues, ["--lang", "fr", "--lang", "en"], "f")
+    picks(folder, tongues, ["--lang", "en", "--lang", "fr"], "g")
+    picks(folder, tongues, [], "g")
+
+    levels = feed('<implementation id="s" version="1" local-path="s" stability="stable"/>', '<implementation id="t" version="2" local-path="t" stability="testing"/>')
+    root = os.path.join(folder, "picks.xml")
+    picks(folder, levels, [], "s")
+    picks(folder, levels, ["--level", "stable"], "s")
+    picks(folder, levels, ["--level", "testing"], "t")
+    picks(folder, levels, ["--rate", root, "s", "preferred", "--level", "testing"], "s")
+    picks(folder, levels, ["--rate", root, "s", "buggy"], "t")
+    picks(folder, levels, ["--rate", root, "", "preferred", "--rate", root, "t", "packaged"], "t")
+    picks(folder, levels, ["--rate", "/other.xml", "t", "preferred"], "s")
+    rated = document(root, f'id="t" version="2" local-path="{folder}/t" stability="preferred"')
+    expect(run(SELECT + ["--rate", root, "t", "preferred", root], folder), 0, rated, b"")
+
+    fetched = f'<implementation id="r" version="2"><manifest-digest sha256="{"0" * 64}"/><file href="http://example.com/x" size="1" dest="x"/></implementation>'
+    root = write(folder, "net.xml", feed(impl("a", "1"), fetched))
+    expect(run(SELECT + [root], folder), *UNBUILT)
+    expect(run(SELECT + ["--network", "minimal", root], folder), *UNBUILT)
+    expect(run(SELECT + ["--network", "off", root], folder), 0, selections(root, "a", "1"), b"")
+
+    used = feed('<implementation id="a" version="1" local-path="a"><requires interface="b.xml" use="testing"/></implementation>')
+    root = write(folder, "use.xml", used)
+    expect(run(SELECT + ["--use", "other", root], folder), 0, selections(root, "a", "1"), b"")
+    expect(run(SELECT + ["--use", "other", "--use", "testing", root], folder), *UNBUILT)
+
+    root = write(folder, "--dash.xml", feed(impl("a", "1")))
+    expect(run(SELECT + ["--search", "0", "--", root], folder), 0, selections(root, "a", "1"), b"")
+    root = write(folder, "a b.xml", feed(impl("a", "1")))
+    expect(run(SELECT + [root], folder), 0, selections(root, "a", "1"), b"")
+
+
+def what_is_said_of_the_chosen(folder):
+    whole = '<implementation id="&lt;" version="1" version-modifier="-rc1" local-path="/x" arch="POSIX-i586" released="2020-01-01" stability="stable" langs="en"/>'
+    root = write(folder, "whole.xml", feed(whole))
+    attributes = 'id="&lt;" version="1-rc1" local-path="/x" arch="POSIX-i586" released="2020-01-01" stability="stable"'
+    expect(run(SELECT + [root], folder), 0, document(root, attributes), b"")
+
+
+def web_addresses(folder):
+    kept = os.path.join(folder, "feeds")
+    os.mkdir(kept)
+    root = "http://example.com/hello.xml"
+    local = write(folder, "local.xml", feed(impl("a", "1")))
+    write(kept, "http%3A%2F%2Fexample.com%2Fhello.xml", feed(f'<feed src="{local}"/>', '<feed src="https://example.com/a-b_c.1?x=~%20"/>'))
+    # in a feed of the web a path is joined to its address
+    joined = "http://example.com" + local
+    expect(run(SELECT + [root], folder), *UNBUILT)
+    write(kept, "http%3A%2F%2Fexample.com" + local.replace("/", "%2F"), "<bad/>")
+    expect(run(SELECT + [root], folder), 67, b"", f"zi: bad feed {joined}: feed 1 at 0\n".encode())
+    os.rename(kept, os.path.join(folder, "elsewhere"))
+    expect(run(SELECT + [root], folder), 66, b"", b"zi: no feed for the root\n")
+    line = f"zi: bad feed {joined}: feed 1 at 0\n".encode()
+    expect(run(SELECT + [root], folder, feeds=os.path.join(folder, "elsewhere")), 67, b"", line)
+    # a local feed may import one of the web, whose implementations aren't local
+    write(folder, "elsewhere/https%3A%2F%2Fexample.com%2Fa-b_c.1%3Fx%3D~%20".replace("~", "%7E").replace("%20", "%2520"), feed(impl("w", "9")))
+    root = write(folder, "root.xml", feed('<feed src="https://example.com/a-b_c.1?x=~%20"/>', impl("a", "1")))
+    expect(run(SELECT + [root], folder, feeds="elsewhere"), 0, selections(root, "a", "1"), b"")
 
 
 SIGNED = (
@@ -244,13 +429,19 @@ ROWS = [
     the_examples,
     bad_feeds,
     feeds_that_are_not_heeded_yet,
+    imports,
+    dependencies_are_loaded_first,
     whole_feeds,
-    most_implementations,
+    what_is_said_of_the_chosen,
+    limits,
     many_implementations,
     feeds_that_cannot_be_read,
     a_long_feed,
     an_output_that_fails,
     wrong_words,
+    help_and_version,
+    options,
+    web_addresses,
     documents,
 ]
 
@@ -262,7 +453,6 @@ def main():
             return 1
     failed = 0
     for row in ROWS:
-        # a root is plain where each part of its path is letters, digits, `.`, `-` and `_`
         folder = tempfile.mkdtemp(prefix="zi-rows-")
         try:
             row(folder)

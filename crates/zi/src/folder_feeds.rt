@@ -3,17 +3,15 @@ ghost use Rattle.std.specs.Prelude.{None, IfOk};
 ghost use Rattle.zi.specs.Found.{FitsIn};
 
 use crate::piecewise::{Found, deliver, fault_of, read_up_to};
-use percent_encoding::{AsciiSet, NON_ALPHANUMERIC, ascii_set, utf8_percent_encode};
 use std::fs;
-use std::io::{Error, ErrorKind};
+use std::io::ErrorKind;
 use std::rt::Files;
+use zi_app::feed_file;
 use zi_outside::{Feeds, FeedsFault, Got};
 use zi_text::{Memory, Text};
 
-// Every byte of an address but letters, digits, `-`, `.` and `_` is escaped in the name of its file.
-const ESCAPED: AsciiSet = ascii_set!(NON_ALPHANUMERIC.remove(b'-').remove(b'.').remove(b'_'));
-
-/// Feeds in files, which don't tell what they hold: a web address is a file of the folder, any other text is a path.
+/// Feeds in files, which don't tell what they hold: a web address is a file of the folder (`zi_app::feed_file`), any other text
+/// is a path. What isn't found is absent; a folder, or a path through a file, is a failure.
 #[derive(Drop)]
 pub struct FolderFeeds<'a, R: Files + AllocGlobal> {
     rt: &'a R,
@@ -38,7 +36,7 @@ impl<'a, R: Files + AllocGlobal> FolderFeeds<'a, R> {
         }
         let mut path = String::from_str(self.rt.alloc(), self.folder.as_str())?;
         path.push('/')?;
-        utf8_percent_encode(key, ESCAPED).append_to(&mut path)?;
+        path.push_str(feed_file(self.rt.alloc(), key)?.as_str())?;
         Ok(path)
     }
 
@@ -50,7 +48,7 @@ impl<'a, R: Files + AllocGlobal> FolderFeeds<'a, R> {
         match fs::open(self.rt, path.as_str()) {
             Ok(mut file) => read_up_to(self.rt.alloc(), &mut file, limit),
             Err(error) => {
-                if names_nothing(&error) {
+                if error.kind() == ErrorKind::NotFound {
                     Ok(Found::Absent)
                 } else {
                     Err(fault_of(&error))
@@ -58,17 +56,6 @@ impl<'a, R: Files + AllocGlobal> FolderFeeds<'a, R> {
             }
         }
     }
-}
-
-// Whether no file can stand under a name: none does, a part on the way is a file, or the name is too long or has a NUL.
-fn names_nothing(error: &Error) -> bool {
-    matches!(
-        error.kind(),
-        ErrorKind::NotFound
-            | ErrorKind::NotADirectory
-            | ErrorKind::InvalidFilename
-            | ErrorKind::InvalidInput
-    )
 }
 
 impl<R: Files + AllocGlobal> Feeds for FolderFeeds<'_, R> {

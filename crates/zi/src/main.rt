@@ -7,25 +7,28 @@ mod folder_feeds;
 mod piecewise;
 mod std_sink;
 
-use arguments::{feeds_folder, words};
+use arguments::{TextWords, feeds_folder, words};
 use folder_feeds::FolderFeeds;
 use std::process::ExitCode;
 use std_sink::StdSink;
-use zi_app::{Outcome, run};
+use zi_app::{Outcome, refuse, run};
 use zi_outside::Vars;
 use zi_text::Memory;
 
 // The program's work; Err where memory is refused before it begins.
 fn work(rt: &HostRuntime) -> Result<Outcome, Memory> {
-    let words = words(rt, rt.alloc())?;
-    let vars = Vars::new(rt.alloc());
+    let alloc = rt.alloc();
+    let TextWords { texts, whole } = words(rt, alloc)?;
+    let mut err = StdSink::new(rt.stderr());
+    if !whole {
+        return Ok(refuse(alloc, texts.as_slice(), &mut err));
+    }
+    let vars = Vars::new(alloc);
     let mut feeds = FolderFeeds::new(rt, feeds_folder(rt)?);
     let mut out = StdSink::new(rt.stdout());
-    let mut err = StdSink::new(rt.stderr());
-    let alloc = rt.alloc();
     Ok(run(
         alloc,
-        words.as_slice(),
+        texts.as_slice(),
         &vars,
         &mut feeds,
         &mut out,
@@ -52,14 +55,18 @@ mod tests {
     #[test]
     fn feeds_are_files(rt: HostRuntime) -> Result<(), Fail> {
         fs::write(&rt, "feed.xml", "<a/>")?;
+        fs::write(&rt, "http%3A%2F%2Fexample.com%2Fhello.xml", "<b/>")?;
         let mut feeds = FolderFeeds::new(&rt, Text::from_str(rt.alloc(), ".")?);
         let mut into = Vec::new(rt.alloc());
         assert!(rt; feeds.get("feed.xml", 4, &mut into) == Ok(Got::Held));
         assert!(rt; feeds.get("feed.xml", 3, &mut into) == Ok(Got::TooLong));
         assert!(rt; feeds.get("no.xml", 4, &mut into) == Ok(Got::Absent));
-        assert!(rt; feeds.get("feed.xml/a", 4, &mut into) == Ok(Got::Absent));
+        assert!(rt; feeds.get("feed.xml/a", 4, &mut into) == Err(FeedsFault::Failed));
         assert!(rt; feeds.get(".", 4, &mut into) == Err(FeedsFault::Failed));
         assert_eq!(rt; into.as_slice(), b"<a/>".as_slice());
+        let web = "http://example.com/hello.xml";
+        assert!(rt; feeds.get(web, 4, &mut into) == Ok(Got::Held));
+        assert_eq!(rt; into.as_slice(), b"<a/><b/>".as_slice());
         Ok(())
     }
 

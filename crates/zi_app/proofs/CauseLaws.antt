@@ -1,5 +1,5 @@
 -- Bytes have one fault or say one feed.
-use Rattle.std.proofs.Common.{◌≡◌, ℕ, ◌⊎◌, inl, inr, true, false, List, refl, sym, ap, subst, ◌∙◌, Option, Some, None}
+use Rattle.std.proofs.Common.{◌≡◌, ℕ, ◌⊎◌, inl, inr, List, refl, sym, ap, ◌∙◌, Option, Some, None}
 use Rattle.zi_elements.specs.declared.element.Element.{Element}
 use Rattle.zi_doc.specs.Documents as documents
 use Rattle.zi_doc.specs.Laws.{IsSettled}
@@ -8,12 +8,10 @@ use Rattle.zi_feed.specs.Feeds.{feed_fault, feed_of}
 use Rattle.zi_feed.specs.declared.fault.Fault.{Fault}
 use Rattle.zi_feed.specs.declared.fault.FeedKind.{FeedKind}
 use Rattle.zi_feed.specs.declared.feed.Feed.{Feed}
-use Rattle.zi_app.specs.declared.outcome.BadFeed.{BadFeed}
-use Rattle.zi_app.specs.declared.outcome.BadFeed.TheVariants as bad
-use Rattle.zi_app.specs.Best.{IsBest}
-use Rattle.zi_app.specs.Feed.{SaysFeed, HasFault, is_built}
+use Rattle.zi_universe.specs.declared.fault.BadFeed.{BadFeed}
+use Rattle.zi_universe.specs.declared.fault.BadFeed.TheVariants as bad
+use Rattle.zi_universe.specs.Loading.{Says, HasFault}
 use Rattle.zi_app.specs.Laws.{HasOneCause}
-use Rattle.zi_app.proofs.BestLemmas.{not_both}
 
 some_same : {f g : Fault} → Some f ≡ Some g → f ≡ g
 some_same e = cc
@@ -21,15 +19,12 @@ some_same e = cc
 no_fault : {f : Fault} → None ≡ Some f → ⊥
 no_fault e = cc
 
-true_false : true ≡ false → ⊥
-true_false e = cc
-
 fault_or_feed : (root bytes : List ℕ) (tree : Element) (o : Option Fault) → documents.Spells bytes tree → feed_fault (element_view tree) root ≡ o
-    → ((fault : BadFeed) × HasFault root bytes fault) ⊎ ((feed : Feed) × SaysFeed root bytes feed)
-fault_or_feed root bytes tree None spells e = inr (feed_of (element_view tree) root, record { tree = tree; spells = spells; right = e; says = refl })
+    → ((fault : BadFeed) × HasFault root bytes fault) ⊎ ((feed : Feed) × Says root bytes feed)
+fault_or_feed root bytes tree None spells e = inr (feed_of (element_view tree) root, (tree, spells, e, refl))
 fault_or_feed root bytes tree (Some f) spells e = inl (bad.Feed f.kind f.place, (tree, spells, e))
 
-some_cause : (root bytes : List ℕ) → IsSettled bytes → ((fault : BadFeed) × HasFault root bytes fault) ⊎ ((feed : Feed) × SaysFeed root bytes feed)
+some_cause : (root bytes : List ℕ) → IsSettled bytes → ((fault : BadFeed) × HasFault root bytes fault) ⊎ ((feed : Feed) × Says root bytes feed)
 some_cause root bytes settled = elim settled.some [
   | inl p ↦ fault_or_feed root bytes p.0 (feed_fault (element_view p.0) root) p.1 refl
   | inr q ↦ inl (bad.Doc q.0 q.1, q.2)
@@ -54,16 +49,16 @@ one_fault root bytes settled (bad.Feed j p) (bad.Feed k q) (tree, spells, f) (mo
     let same : feed_fault (element_view tree) root ≡ feed_fault (element_view more) root = ap (λ t. feed_fault (element_view t) root) e in
     same_feed_fault j k p q _ _ refl refl (sym f ∙ same ∙ g)
 
-one_feed : (root bytes : List ℕ) → IsSettled bytes → (f g : Feed) → SaysFeed root bytes f → SaysFeed root bytes g → f ≡ g
-one_feed root bytes settled f g x y =
-    let e : x.tree ≡ y.tree = settled.tree x.tree y.tree x.spells y.spells in
-    x.says ∙ ap (λ t. feed_of (element_view t) root) e ∙ sym y.says
+one_feed : (root bytes : List ℕ) → IsSettled bytes → (f g : Feed) → Says root bytes f → Says root bytes g → f ≡ g
+one_feed root bytes settled f g (tree, spells, right, says) (more, spelled, also_right, also_says) =
+    let e : tree ≡ more = settled.tree tree more spells spelled in
+    says ∙ ap (λ t. feed_of (element_view t) root) e ∙ sym also_says
 
-never_both : (root bytes : List ℕ) → IsSettled bytes → (a : BadFeed) (f : Feed) → HasFault root bytes a → SaysFeed root bytes f → ⊥
-never_both root bytes settled (bad.Doc j p) f x y = settled.apart y.tree j p y.spells x
-never_both root bytes settled (bad.Feed j p) f (tree, spells, e) y =
-    let same : y.tree ≡ tree = settled.tree y.tree tree y.spells spells in
-    no_fault (sym y.right ∙ ap (λ t. feed_fault (element_view t) root) same ∙ e)
+never_both : (root bytes : List ℕ) → IsSettled bytes → (a : BadFeed) (f : Feed) → HasFault root bytes a → Says root bytes f → ⊥
+never_both root bytes settled (bad.Doc j p) f x (tree, spells, right, says) = settled.apart tree j p spells x
+never_both root bytes settled (bad.Feed j p) f (more, spelled, e) (tree, spells, right, says) =
+    let same : tree ≡ more = settled.tree tree more spells spelled in
+    no_fault (sym right ∙ ap (λ t. feed_fault (element_view t) root) same ∙ e)
 
 pub one_cause : (root bytes : List ℕ) → IsSettled bytes → HasOneCause root bytes
 one_cause root bytes settled = record {
@@ -71,6 +66,4 @@ one_cause root bytes settled = record {
   fault = one_fault root bytes settled;
   feed = one_feed root bytes settled;
   apart = never_both root bytes settled;
-  built = λ s x y. true_false (sym x.built ∙ ap is_built (one_feed root bytes settled x.feed y.feed x.says y.says) ∙ y.built);
-  chosen = λ s t x y. let e : x.feed ≡ y.feed = one_feed root bytes settled x.feed y.feed x.says y.says in not_both y.feed.impls s t (subst (λ (f : Feed). IsBest f.impls s) e x.best) y.best;
 }

@@ -1,7 +1,6 @@
-pub mod BestLemmas
-pub mod WordsLemmas
 pub mod LineLemmas
 pub mod RunLemmas
-pub mod DocumentLemmas
-pub mod FeedLemmas
+pub mod SelectLemmas
+pub mod FileNameLaws
 pub mod CauseLaws
+pub mod DocumentLemmas

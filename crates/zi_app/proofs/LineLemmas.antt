@@ -109,3 +109,12 @@ pub told_bad : {T : Type 0} (old : Option (List ℕ)) (uri fault : List ℕ) (r 
     → PutsAll old ((codes "zi: bad feed " ++ uri ++ codes ": ") ++ (fault ++ codes "\n")) r new
     → PutsAll old (codes "zi: " ++ (codes "bad feed " ++ uri ++ codes ": " ++ fault) ++ codes "\n") r new
 told_bad old uri fault r new p = subst (λ t. PutsAll old t r new) (sym (bad_line uri fault)) p
+
+-- the line of a limit that is passed, in its pieces
+many_line : (n what : List ℕ) → codes "zi: " ++ (codes "more than " ++ n ++ what) ++ codes "\n" ≡ codes "zi: more than " ++ n ++ (what ++ codes "\n")
+many_line n what = simp append_assoc
+
+pub told_many : {T : Type 0} (old : Option (List ℕ)) (n what : List ℕ) (r : Result T SinkFault) (new : Option (List ℕ))
+    → PutsAll old (codes "zi: more than " ++ n ++ (what ++ codes "\n")) r new
+    → PutsAll old (codes "zi: " ++ (codes "more than " ++ n ++ what) ++ codes "\n") r new
+told_many old n what r new p = subst (λ t. PutsAll old t r new) (sym (many_line n what)) p

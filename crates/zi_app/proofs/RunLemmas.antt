@@ -1,11 +1,19 @@
--- The outcome after its line was told.
-use Rattle.std.proofs.Common.{◌≡◌, ℕ, inl, inr, List, length, sym, ap, ◌∙◌, arith, Option}
-use Rattle.std.proofs.lemmas.List.{take_all}
+-- The outcome of the words, and the outcome after its line was told.
+use Rattle.std.proofs.Common.{◌≡◌, ℕ, inl, inr, ◌⊎◌, true, false, List, [], ◌∷◌, length, refl, sym, ap, subst, ◌∙◌, arith, Option, None}
+use Rattle.std.proofs.lemmas.List.{take_all, append-nil}
+use Rattle.zi_text.specs.Front.{StopsAt, stops_at_end}
 use Rattle.zi_outside.specs.Count.{Rose}
 use Rattle.zi_outside.specs.Outside.{Holding, gained, GainsFront}
+use Rattle.zi_words.specs.declared.request.Ask.{Ask}
+use Rattle.zi_words.specs.declared.request.Request.{Request}
+use Rattle.zi_words.specs.declared.request.Request.TheVariants as request
+use Rattle.zi_words.specs.Words.{Right, AreRight}
+use Rattle.zi_words.specs.declared.asked.Asked.{Asked}
+use Rattle.zi_words.specs.Options.{ask_of, gathered}
+use Rattle.zi_words.specs.Store.{AsksStore}
 use Rattle.zi_app.specs.declared.outcome.Outcome.{Outcome}
-use Rattle.zi_app.specs.declared.outcome.Outcome.TheVariants.{Done, Usage, FeedRead, NoRootFeed, BadFeed, FeedTooLong, SinkFault, Memory, Unbuilt}
-use Rattle.zi_app.specs.Select.{Runs, Tells}
+use Rattle.zi_app.specs.declared.outcome.Outcome.TheVariants.{Done, Usage, FeedRead, NoRootFeed, BadFeed, FeedTooLong, TooManyFeeds, TooManyInterfaces, TooManyCandidates, Unwritable, SinkFault, Memory, Unbuilt}
+use Rattle.zi_app.specs.Select.{Selects, Writes, Waits, Answers, NeedsNoCommand, Runs, Stops, Tells, IsOrMemory}
 use Rattle.zi_app.specs.Line.{line_of}
 
 whole_front : (old : Option (List ℕ)) (text : List ℕ) (new : Option (List ℕ)) → new ≡ gained old text → GainsFront old text new
@@ -19,6 +27,10 @@ told_ok e f old new (FeedRead uri) p = inl p
 told_ok e f old new NoRootFeed p = inl p
 told_ok e f old new (BadFeed uri fault) p = inl p
 told_ok e f old new (FeedTooLong uri limit) p = inl p
+told_ok e f old new (TooManyFeeds limit) p = inl p
+told_ok e f old new (TooManyInterfaces limit) p = inl p
+told_ok e f old new (TooManyCandidates limit) p = inl p
+told_ok e f old new (Unwritable place) p = inl p
 told_ok e f old new SinkFault p = inl p
 told_ok e f old new Unbuilt p = inl p
 
@@ -30,21 +42,163 @@ told_failed e f old new (FeedRead uri) r p = inr (r, p)
 told_failed e f old new NoRootFeed r p = inr (r, p)
 told_failed e f old new (BadFeed uri fault) r p = inr (r, p)
 told_failed e f old new (FeedTooLong uri limit) r p = inr (r, p)
+told_failed e f old new (TooManyFeeds limit) r p = inr (r, p)
+told_failed e f old new (TooManyInterfaces limit) r p = inr (r, p)
+told_failed e f old new (TooManyCandidates limit) r p = inr (r, p)
+told_failed e f old new (Unwritable place) r p = inr (r, p)
 told_failed e f old new SinkFault r p = inr (r, p)
 told_failed e f old new Unbuilt r p = inr (r, p)
 
 pub told_memory : (e f : ℕ) (old new : Option (List ℕ)) (o : Outcome) → GainsFront old (line_of o) new → Tells e f old new Memory
 told_memory e f old new o p = (o, p)
 
+pub ruleset telling = (told_ok, told_failed, told_memory)
+
+-- what `select` wrote is nothing, or a front of a document
+selects_memory : (ask : Ask) (told : Option Holding) (f g o p : ℕ) (old new : Option (List ℕ)) (outcome : Outcome) → Selects ask told f g o p old new outcome → Selects ask told f g o p old new Memory
+selects_memory ask told f g o p old new Memory r = r
+selects_memory ask told f g o p old new Done (c, chooses, e) = inr (c, chooses, whole_front old _ new e)
+selects_memory ask told f g o p old new (Usage index) r = absurd r
+selects_memory ask told f g o p old new (FeedRead uri) r = inl r.1
+selects_memory ask told f g o p old new NoRootFeed r = inl r.1
+selects_memory ask told f g o p old new (BadFeed uri fault) r = inl r.1
+selects_memory ask told f g o p old new (FeedTooLong uri limit) r = inl r.1
+selects_memory ask told f g o p old new (TooManyFeeds limit) r = inl r.1
+selects_memory ask told f g o p old new (TooManyInterfaces limit) r = inl r.1
+selects_memory ask told f g o p old new (TooManyCandidates limit) r = inl r.1
+selects_memory ask told f g o p old new (Unwritable place) (c, chooses, amiss, e) = inl e
+selects_memory ask told f g o p old new SinkFault (c, chooses, rose, front) = inr (c, chooses, front)
+selects_memory ask told f g o p old new Unbuilt r = inl r.1
+
+writes_memory : (text : List ℕ) (o p : ℕ) (old new : Option (List ℕ)) (outcome : Outcome) → Writes text o p old new outcome → GainsFront old text new
+writes_memory text o p old new Done w = whole_front old text new w
+writes_memory text o p old new SinkFault w = w.1
+writes_memory text o p old new Memory w = w
+writes_memory text o p old new (Usage index) w = absurd w
+writes_memory text o p old new (FeedRead uri) w = absurd w
+writes_memory text o p old new NoRootFeed w = absurd w
+writes_memory text o p old new (BadFeed uri fault) w = absurd w
+writes_memory text o p old new (FeedTooLong uri limit) w = absurd w
+writes_memory text o p old new (TooManyFeeds limit) w = absurd w
+writes_memory text o p old new (TooManyInterfaces limit) w = absurd w
+writes_memory text o p old new (TooManyCandidates limit) w = absurd w
+writes_memory text o p old new (Unwritable place) w = absurd w
+writes_memory text o p old new Unbuilt w = absurd w
+
+waits_memory : (old new : Option (List ℕ)) (outcome : Outcome) → Waits old new outcome → new ≡ old
+waits_memory old new Unbuilt w = w
+waits_memory old new Done w = absurd w
+waits_memory old new SinkFault w = absurd w
+waits_memory old new Memory w = absurd w
+waits_memory old new (Usage index) w = absurd w
+waits_memory old new (FeedRead uri) w = absurd w
+waits_memory old new NoRootFeed w = absurd w
+waits_memory old new (BadFeed uri fault) w = absurd w
+waits_memory old new (FeedTooLong uri limit) w = absurd w
+waits_memory old new (TooManyFeeds limit) w = absurd w
+waits_memory old new (TooManyInterfaces limit) w = absurd w
+waits_memory old new (TooManyCandidates limit) w = absurd w
+waits_memory old new (Unwritable place) w = absurd w
+
+abbrev MemoryAfter : Request → Option Holding → ℕ → ℕ → ℕ → ℕ → Option (List ℕ) → Option (List ℕ) → Type 0
+MemoryAfter r told f g o p old new = (new ≡ old) ⊎ Answers r told f g o p old new Memory
+
+answers_memory : (r : Request) (told : Option Holding) (f g o p : ℕ) (old new : Option (List ℕ)) (outcome : Outcome) → Answers r told f g o p old new outcome → MemoryAfter r told f g o p old new
+answers_memory (request.Select ask false) told f g o p old new outcome a = inr (selects_memory ask told f g o p old new outcome a)
+answers_memory (request.Select ask true) told f g o p old new outcome a = inl (waits_memory old new outcome a)
+answers_memory (request.Manifest algorithm name) told f g o p old new outcome a = inl (waits_memory old new outcome a)
+answers_memory (request.Add name files) told f g o p old new outcome a = inl (waits_memory old new outcome a)
+answers_memory (request.Verify name) told f g o p old new outcome a = inl (waits_memory old new outcome a)
+answers_memory request.Names told f g o p old new outcome a = inl (waits_memory old new outcome a)
+answers_memory request.Help told f g o p old new outcome a = inr (writes_memory _ o p old new outcome a)
+answers_memory request.Version told f g o p old new outcome a = inr (writes_memory _ o p old new outcome a)
+
+asked_memory : (words : List (List ℕ)) (told : Option Holding) (f g o p : ℕ) (old new : Option (List ℕ)) (outcome : Outcome)
+    → ((r : Request) × Right words r × Answers r told f g o p old new outcome) → Runs words told f g o p old new Memory
+asked_memory words told f g o p old new outcome (r, right, a) = elim (answers_memory r told f g o p old new outcome a) [
+  | inl same ↦ inl same
+  | inr m ↦ inr (r, right, m)
+]
+
 pub runs_memory : (words : List (List ℕ)) (told : Option Holding) (f g o p : ℕ) (old new : Option (List ℕ)) (outcome : Outcome) → Runs words told f g o p old new outcome → Runs words told f g o p old new Memory
 runs_memory words told f g o p old new Memory r = r
-runs_memory words told f g o p old new Done (root, asks, (s, chosen, e)) = inr (root, asks, inr (s, chosen, whole_front old _ new e))
 runs_memory words told f g o p old new (Usage index) r = inl r.2
-runs_memory words told f g o p old new (FeedRead uri) (root, asks, r) = inl r.2
-runs_memory words told f g o p old new NoRootFeed (root, asks, r) = inl r.1
-runs_memory words told f g o p old new (BadFeed uri fault) (root, asks, r) = inl r.2
-runs_memory words told f g o p old new (FeedTooLong uri limit) (root, asks, r) = inl r.3
-runs_memory words told f g o p old new SinkFault (root, asks, (s, chosen, rose, front)) = inr (root, asks, inr (s, chosen, front))
-runs_memory words told f g o p old new Unbuilt (root, asks, r) = inl r.1
+runs_memory words told f g o p old new Done r = asked_memory words told f g o p old new Done r
+runs_memory words told f g o p old new (FeedRead uri) r = asked_memory words told f g o p old new (FeedRead uri) r
+runs_memory words told f g o p old new NoRootFeed r = asked_memory words told f g o p old new NoRootFeed r
+runs_memory words told f g o p old new (BadFeed uri fault) r = asked_memory words told f g o p old new (BadFeed uri fault) r
+runs_memory words told f g o p old new (FeedTooLong uri limit) r = asked_memory words told f g o p old new (FeedTooLong uri limit) r
+runs_memory words told f g o p old new (TooManyFeeds limit) r = asked_memory words told f g o p old new (TooManyFeeds limit) r
+runs_memory words told f g o p old new (TooManyInterfaces limit) r = asked_memory words told f g o p old new (TooManyInterfaces limit) r
+runs_memory words told f g o p old new (TooManyCandidates limit) r = asked_memory words told f g o p old new (TooManyCandidates limit) r
+runs_memory words told f g o p old new (Unwritable place) r = asked_memory words told f g o p old new (Unwritable place) r
+runs_memory words told f g o p old new SinkFault r = asked_memory words told f g o p old new SinkFault r
+runs_memory words told f g o p old new Unbuilt r = asked_memory words told f g o p old new Unbuilt r
 
-pub ruleset running = (told_ok, told_failed, told_memory, runs_memory)
+-- the outcome after its line was told
+pub runs_told : (words : List (List ℕ)) (told : Option Holding) (f g o p : ℕ) (old new : Option (List ℕ)) (outcome r : Outcome)
+    → Runs words told f g o p old new outcome → IsOrMemory outcome r → Runs words told f g o p old new r
+runs_told words told f g o p old new outcome r runs (inl e) = subst (λ x. Runs words told f g o p old new x) (sym e) runs
+runs_told words told f g o p old new outcome r runs (inr e) = subst (λ x. Runs words told f g o p old new x) (sym e) (runs_memory words told f g o p old new outcome runs)
+
+pub ruleset running = (runs_told)
+
+no_usage : (r : Request) (told : Option Holding) (f g o p : ℕ) (old new : Option (List ℕ)) (index : ℕ) → Answers r told f g o p old new (Usage index) → ⊥
+no_usage (request.Select ask false) told f g o p old new index a = a
+no_usage (request.Select ask true) told f g o p old new index a = a
+no_usage (request.Manifest algorithm name) told f g o p old new index a = a
+no_usage (request.Add name files) told f g o p old new index a = a
+no_usage (request.Verify name) told f g o p old new index a = a
+no_usage request.Names told f g o p old new index a = a
+no_usage request.Help told f g o p old new index a = a
+no_usage request.Version told f g o p old new index a = a
+
+-- the outcome of a request is that of the words that ask for it
+pub runs_answer : (words : List (List ℕ)) (r : Request) (told : Option Holding) (f g o p : ℕ) (old new : Option (List ℕ)) (outcome : Outcome)
+    → Right words r → Answers r told f g o p old new outcome → Runs words told f g o p old new outcome
+runs_answer words r told f g o p old new Memory right a = inr (r, right, a)
+runs_answer words r told f g o p old new (Usage index) right a = absurd (no_usage r told f g o p old new index a)
+runs_answer words r told f g o p old new Done right a = (r, right, a)
+runs_answer words r told f g o p old new (FeedRead uri) right a = (r, right, a)
+runs_answer words r told f g o p old new NoRootFeed right a = (r, right, a)
+runs_answer words r told f g o p old new (BadFeed uri fault) right a = (r, right, a)
+runs_answer words r told f g o p old new (FeedTooLong uri limit) right a = (r, right, a)
+runs_answer words r told f g o p old new (TooManyFeeds limit) right a = (r, right, a)
+runs_answer words r told f g o p old new (TooManyInterfaces limit) right a = (r, right, a)
+runs_answer words r told f g o p old new (TooManyCandidates limit) right a = (r, right, a)
+runs_answer words r told f g o p old new (Unwritable place) right a = (r, right, a)
+runs_answer words r told f g o p old new SinkFault right a = (r, right, a)
+runs_answer words r told f g o p old new Unbuilt right a = (r, right, a)
+
+-- right words ask for no command
+asked_none : (root : List ℕ) (a : Asked) → (ask_of root a).command ≡ None
+unfolding ask_of
+asked_none root a = refl
+
+store_none : (ws : List (List ℕ)) (r : Request) → AsksStore ws r → NeedsNoCommand r
+store_none [] r s = absurd s
+store_none (w ∷ ws) r (inl (e, (name, files, are, digest, right, asked))) = subst NeedsNoCommand (sym asked) tt
+store_none (w ∷ ws) r (inr (inl (e, (name, are, digest, asked)))) = subst NeedsNoCommand (sym asked) tt
+store_none (w ∷ ws) r (inr (inr (e, are, asked))) = subst NeedsNoCommand (sym asked) tt
+
+pub no_command : (words : List (List ℕ)) (r : Request) → Right words r → NeedsNoCommand r
+no_command [] r right = absurd right
+no_command (w ∷ ws) r (inl (e, asks)) = subst NeedsNoCommand (sym asks.asked) (asked_none asks.root (gathered asks.options))
+no_command (w ∷ ws) r (inr (inl (inl (e, (a, name, are, right, asked))))) = subst NeedsNoCommand (sym asked) tt
+no_command (w ∷ ws) r (inr (inl (inr (e, s)))) = store_none ws r s
+no_command (w ∷ ws) r (inr (inr (are, inl (e, asked)))) = subst NeedsNoCommand (sym asked) tt
+no_command (w ∷ ws) r (inr (inr (are, inr (e, asked)))) = subst NeedsNoCommand (sym asked) tt
+
+pub ruleset asking = (runs_answer, no_command)
+
+-- right words stop at their end
+pub right_stops : (words : List (List ℕ)) (r : Request) → Right words r → StopsAt AreRight words (length words)
+right_stops words r right = stops_at_end AreRight words ([], (r, subst (λ ws. Right ws r) (sym (append-nil words)) right))
+
+pub ruleset stopping = (right_stops)
+
+pub stops_told : (words : List (List ℕ)) (outcome r : Outcome) → Stops words outcome → IsOrMemory outcome r → Stops words r
+stops_told words outcome r stops (inl e) = subst (λ x. Stops words x) (sym e) stops
+stops_told words outcome r stops (inr e) = subst (λ x. Stops words x) (sym e) tt
+
+pub ruleset stopped_still = (stops_told)

@@ -6,9 +6,9 @@ use Rattle.zi_outside.specs.Outside.{gained, GainsFront}
 use Rattle.zi_outside.specs.declared.sink.SinkFault.{SinkFault as Refusal}
 use Rattle.zi_outside.specs.declared.sink.SinkFault.TheVariants as fault
 use Rattle.zi_app.specs.declared.outcome.Outcome.{Outcome}
-use Rattle.zi_app.specs.declared.outcome.Outcome.TheVariants.{Done, Usage, FeedRead, NoRootFeed, BadFeed, FeedTooLong, SinkFault, Memory, Unbuilt}
-use Rattle.zi_app.specs.declared.outcome.BadFeed.{BadFeed as Fault}
-use Rattle.zi_app.specs.declared.outcome.BadFeed.TheVariants as bad
+use Rattle.zi_app.specs.declared.outcome.Outcome.TheVariants.{Done, Usage, FeedRead, NoRootFeed, BadFeed, FeedTooLong, TooManyFeeds, TooManyInterfaces, TooManyCandidates, Unwritable, SinkFault, Memory, Unbuilt}
+use Rattle.zi_universe.specs.declared.fault.BadFeed.{BadFeed as Fault}
+use Rattle.zi_universe.specs.declared.fault.BadFeed.TheVariants as bad
 use Rattle.zi_doc.specs.Kinds as documents
 use Rattle.zi_feed.specs.Faults as feeds
 
@@ -24,6 +24,10 @@ text_of (FeedRead uri) = codes "cannot read " ++ uri
 text_of NoRootFeed = codes "no feed for the root"
 text_of (BadFeed uri fault) = codes "bad feed " ++ uri ++ codes ": " ++ blamed fault
 text_of (FeedTooLong uri limit) = uri ++ codes " is longer than " ++ decimal limit ++ codes " bytes"
+text_of (TooManyFeeds limit) = codes "more than " ++ decimal limit ++ codes " feeds"
+text_of (TooManyInterfaces limit) = codes "more than " ++ decimal limit ++ codes " interfaces"
+text_of (TooManyCandidates limit) = codes "more than " ++ decimal limit ++ codes " candidates"
+text_of (Unwritable place) = codes "cannot write element " ++ decimal place
 text_of SinkFault = codes "cannot write"
 text_of Memory = codes "out of memory"
 text_of Unbuilt = codes "not built yet"
@@ -39,6 +43,10 @@ code_of (FeedRead uri) = 65
 code_of NoRootFeed = 66
 code_of (BadFeed uri fault) = 67
 code_of (FeedTooLong uri limit) = 68
+code_of (TooManyFeeds limit) = 69
+code_of (TooManyInterfaces limit) = 70
+code_of (TooManyCandidates limit) = 71
+code_of (Unwritable place) = 96
 code_of SinkFault = 93
 code_of Memory = 94
 code_of Unbuilt = 95

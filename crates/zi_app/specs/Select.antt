@@ -1,100 +1,166 @@
 -- What a call of the program does, by its outcome.
-use Rattle.std.specs.Prelude.{◌≡◌, ℕ, ◌<◌, ◌≤◌, ◌*◌, ◌⊎◌, true, false, List, length, Option, Some, None, Result, Ok, Err, IfSome, IsSomeAnd}
+use Rattle.std.specs.Prelude.{◌≡◌, ℕ, ◌⊎◌, Bool, true, false, not, ◌&&◌, ◌==◌, List, [], ◌∷◌, length, slice_get, Option, Some, None, Result, Ok, Err}
+use Rattle.std.specs.List.{list_all}
 use Rattle.zi_text.specs.Front.{StopsAt}
 use Rattle.zi_outside.specs.Count.{Rose}
 use Rattle.zi_outside.specs.Outside.{Holding, gained, GainsFront}
-use Rattle.zi_feed.specs.declared.feed.Feed.{Feed}
-use Rattle.zi_feed.specs.declared.feed.Impl.{Impl}
+use Rattle.zi_docout.specs.declared.fault.WriteFault.{WriteFault}
+use Rattle.zi_docout.specs.declared.fault.WriteFault.TheVariants as writing
+use Rattle.zi_words.specs.declared.request.Ask.{Ask}
+use Rattle.zi_words.specs.declared.request.Request.{Request}
+use Rattle.zi_words.specs.declared.request.Request.TheVariants as request
+use Rattle.zi_words.specs.Words.{Right, AreRight}
+use Rattle.zi_universe.specs.declared.types.Candidate.{Candidate}
+use Rattle.zi_universe.specs.declared.types.Interface.{Interface}
+use Rattle.zi_universe.specs.declared.fault.LoadFault.{LoadFault}
+use Rattle.zi_universe.specs.declared.fault.LoadFault.TheVariants as load
+use Rattle.zi_universe.specs.Loading.{names_of, Loads, Refuses}
+use Rattle.zi_choice.specs.Choice.{first_alone}
+use Rattle.zi_choice.specs.Best.{IsBest}
 use Rattle.zi_app.specs.declared.outcome.Outcome.{Outcome}
-use Rattle.zi_app.specs.declared.outcome.Outcome.TheVariants.{Done, Usage, FeedRead, NoRootFeed, BadFeed, FeedTooLong, SinkFault, Memory, Unbuilt}
-use Rattle.zi_app.specs.declared.outcome.BadFeed.{BadFeed as Fault}
-use Rattle.zi_app.specs.declared.read.NoFeed.{NoFeed}
-use Rattle.zi_app.specs.declared.read.NoFeed.TheVariants as none
-use Rattle.zi_app.specs.Feed.{SaysFeed, HasFault, is_built}
-use Rattle.zi_app.specs.Best.{IsBest}
-use Rattle.zi_app.specs.Document.{document}
-use Rattle.zi_app.specs.Words.{AsksFor, Right}
+use Rattle.zi_app.specs.declared.outcome.Outcome.TheVariants.{Done, Usage, FeedRead, NoRootFeed, BadFeed, FeedTooLong, TooManyFeeds, TooManyInterfaces, TooManyCandidates, Unwritable, SinkFault, Memory, Unbuilt}
+use Rattle.zi_app.specs.declared.help.TheConstants.{HELP, VERSION}
+use Rattle.zi_app.specs.Wanted.{requirement_of}
+use Rattle.zi_app.specs.Document.{document, IsAmiss}
 use Rattle.zi_app.specs.Line.{line_of}
 
--- 4 MiB, the limit of a feed
-abbrev pub feed_limit : ℕ
-feed_limit = 4 * 1024 * 1024
+-- The choice.
 
--- The bytes are those of the root's feed, where the feeds tell, and within the limit.
-pub record IsFeed (told : Option Holding) (root bytes : List ℕ) : Type 0 where
-  pub held : IfSome told (λ holds. holds root ≡ Some bytes)
-  pub short : length bytes ≤ feed_limit
+-- the loading that the words ask for, over no store, gives these interfaces, the root first
+abbrev pub IsLoaded : Option Holding → Ask → List Interface → Type 0
+IsLoaded told ask universe = Loads told (requirement_of ask) ask.policy (names_of []) universe
 
--- The bytes say a feed of this address that is built, and s is its implementation before every other.
-pub record IsChosen (root bytes : List ℕ) (s : Impl) : Type 0 where
-  pub feed : Feed
-  pub says : SaysFeed root bytes feed
-  pub built : is_built feed ≡ true
-  pub best : IsBest feed.impls s
+-- the loading that the words ask for is refused with this fault; f and g are the feeds' counts of faults before and after
+abbrev pub IsRefused : Option Holding → ℕ → ℕ → Ask → LoadFault → Type 0
+IsRefused told f g ask fault = Refuses told f g (requirement_of ask) ask.policy (names_of []) fault
 
--- The bytes say a feed of this address that isn't built.
-pub record IsUnbuilt (root bytes : List ℕ) : Type 0 where
-  pub feed : Feed
-  pub says : SaysFeed root bytes feed
-  pub built : is_built feed ≡ false
+-- nothing stands in the list
+abbrev pub is_empty : {X : Type 0} → List X → Bool
+is_empty xs = length xs == 0
 
--- The choice of s is from the root's bytes.
-pub record Chosen (told : Option Holding) (root : List ℕ) (s : Impl) : Type 0 where
-  pub bytes : List ℕ
-  pub feed : IsFeed told root bytes
-  pub chosen : IsChosen root bytes s
+-- A candidate that needs, restricts, sets and fetches nothing: it has no active dependency of its own, no binding and no digest.
+abbrev pub is_simple : Candidate → Bool
+is_simple c = is_empty c.imp.deps && is_empty c.imp.bindings && is_empty c.imp.digests
 
--- What an outcome of `select` for a root says. f and g are the feeds' counts of faults before and after, o and p those of the output,
--- and old and new what was written to it.
-abbrev pub Selects : List ℕ → Option Holding → ℕ → ℕ → ℕ → ℕ → Option (List ℕ) → Option (List ℕ) → Outcome → Type 0
--- the chosen is before every other candidate, and out gained its document
-Selects root told f g o p old new Done = (s : Impl) × Chosen told root s × (new ≡ gained old (document root s))
-Selects root told f g o p old new (Usage index) = ⊥
-Selects root told f g o p old new (FeedRead uri) = (uri ≡ root) × Rose f g × (new ≡ old)
-Selects root told f g o p old new (FeedTooLong uri limit) = (uri ≡ root) × (limit ≡ feed_limit) × IfSome told (λ holds. IsSomeAnd (holds root) (λ bytes. feed_limit < length bytes)) × (new ≡ old)
-Selects root told f g o p old new NoRootFeed = IfSome told (λ holds. holds root ≡ None) × (new ≡ old)
-Selects root told f g o p old new (BadFeed uri fault) = (uri ≡ root) × ((bytes : List ℕ) × IsFeed told root bytes × HasFault root bytes fault) × (new ≡ old)
-Selects root told f g o p old new Unbuilt = ((bytes : List ℕ) × IsFeed told root bytes × IsUnbuilt root bytes) × (new ≡ old)
-Selects root told f g o p old new SinkFault = (s : Impl) × Chosen told root s × Rose o p × GainsFront old (document root s) new
-Selects root told f g o p old new Memory = (new ≡ old) ⊎ ((s : Impl) × Chosen told root s × GainsFront old (document root s) new)
+-- the candidates of the root, which is the first of the interfaces
+abbrev pub root_candidates : List Interface → List Candidate
+root_candidates [] = []
+root_candidates (root ∷ others) = root.candidates
 
--- The same for any words: those that ask for no root are refused, and nothing is written.
+-- this program chooses from these candidates: there is one, and all of them are simple
+abbrev pub are_built : List Candidate → Bool
+are_built cs = not (is_empty cs) && list_all is_simple cs
+
+-- it chooses from these interfaces
+abbrev pub is_built : List Interface → Bool
+is_built universe = are_built (root_candidates universe)
+
+-- c is the first candidate of the root
+abbrev pub IsFirst : List Interface → Candidate → Type 0
+IsFirst universe c = slice_get (root_candidates universe) 0 ≡ Some c
+
+-- c is the first candidate of the root, in the universe that the words ask for, which this program chooses from; and the choice
+-- of it, and of nothing else, is the best choice
+pub record Chooses (told : Option Holding) (ask : Ask) (c : Candidate) : Type 0 where
+  pub universe : List Interface
+  pub loaded : IsLoaded told ask universe
+  pub built : is_built universe ≡ true
+  pub first : IsFirst universe c
+  pub best : IsBest universe (requirement_of ask) (first_alone universe)
+
+-- the universe that the words ask for is there, and this program can't choose from it
+pub record IsUnbuilt (told : Option Holding) (ask : Ask) : Type 0 where
+  pub universe : List Interface
+  pub loaded : IsLoaded told ask universe
+  pub built : is_built universe ≡ false
+
+-- The outcomes. f and g are the feeds' counts of faults before and after, o and p those of the output, and old and new what was
+-- written to it.
+
+-- the loading was refused, and nothing was written
+abbrev pub Refused : Ask → Option Holding → ℕ → ℕ → Option (List ℕ) → Option (List ℕ) → LoadFault → Type 0
+Refused ask told f g old new fault = IsRefused told f g ask fault × (new ≡ old)
+
+-- `select`
+abbrev pub Selects : Ask → Option Holding → ℕ → ℕ → ℕ → ℕ → Option (List ℕ) → Option (List ℕ) → Outcome → Type 0
+-- c is chosen, and out gained its document
+Selects ask told f g o p old new Done = (c : Candidate) × Chooses told ask c × (new ≡ gained old (document ask.root c))
+Selects ask told f g o p old new (Usage index) = ⊥
+Selects ask told f g o p old new (FeedRead uri) = Refused ask told f g old new (load.FeedRead uri)
+Selects ask told f g o p old new NoRootFeed = Refused ask told f g old new load.NoRootFeed
+Selects ask told f g o p old new (BadFeed uri fault) = Refused ask told f g old new (load.BadFeed uri fault)
+Selects ask told f g o p old new (FeedTooLong uri limit) = Refused ask told f g old new (load.FeedTooLong uri limit)
+Selects ask told f g o p old new (TooManyFeeds limit) = Refused ask told f g old new (load.TooManyFeeds limit)
+Selects ask told f g o p old new (TooManyInterfaces limit) = Refused ask told f g old new (load.TooManyInterfaces limit)
+Selects ask told f g o p old new (TooManyCandidates limit) = Refused ask told f g old new (load.TooManyCandidates limit)
+-- the document of the chosen can't be written: it holds a character that XML can't carry
+Selects ask told f g o p old new (Unwritable place) = (c : Candidate) × Chooses told ask c × IsAmiss ask.root c place × (new ≡ old)
+Selects ask told f g o p old new SinkFault = (c : Candidate) × Chooses told ask c × Rose o p × GainsFront old (document ask.root c) new
+Selects ask told f g o p old new Memory = (new ≡ old) ⊎ ((c : Candidate) × Chooses told ask c × GainsFront old (document ask.root c) new)
+Selects ask told f g o p old new Unbuilt = IsUnbuilt told ask × (new ≡ old)
+
+-- a text is written
+abbrev pub Writes : List ℕ → ℕ → ℕ → Option (List ℕ) → Option (List ℕ) → Outcome → Type 0
+Writes text o p old new Done = new ≡ gained old text
+Writes text o p old new SinkFault = Rose o p × GainsFront old text new
+Writes text o p old new Memory = GainsFront old text new
+Writes text o p old new other = ⊥
+
+-- what can't be done yet: nothing is written
+abbrev pub Waits : Option (List ℕ) → Option (List ℕ) → Outcome → Type 0
+Waits old new Unbuilt = new ≡ old
+Waits old new other = ⊥
+
+-- What comes of a request. Proofs and the commands on the store aren't built yet.
+abbrev pub Answers : Request → Option Holding → ℕ → ℕ → ℕ → ℕ → Option (List ℕ) → Option (List ℕ) → Outcome → Type 0
+Answers (request.Select ask false) told f g o p old new outcome = Selects ask told f g o p old new outcome
+Answers (request.Select ask true) told f g o p old new outcome = Waits old new outcome
+Answers (request.Manifest algorithm name) told f g o p old new outcome = Waits old new outcome
+Answers (request.Add name files) told f g o p old new outcome = Waits old new outcome
+Answers (request.Verify name) told f g o p old new outcome = Waits old new outcome
+Answers request.Names told f g o p old new outcome = Waits old new outcome
+Answers request.Help told f g o p old new outcome = Writes HELP.now o p old new outcome
+Answers request.Version told f g o p old new outcome = Writes VERSION.now o p old new outcome
+
+-- What comes of any words: those that aren't right are refused, and nothing is written.
 abbrev pub Runs : List (List ℕ) → Option Holding → ℕ → ℕ → ℕ → ℕ → Option (List ℕ) → Option (List ℕ) → Outcome → Type 0
-Runs words told f g o p old new (Usage index) = (¬ Right words) × StopsAt Right words index × (new ≡ old)
-Runs words told f g o p old new Memory = (new ≡ old) ⊎ ((root : List ℕ) × AsksFor words root × Selects root told f g o p old new Memory)
-Runs words told f g o p old new outcome = (root : List ℕ) × AsksFor words root × Selects root told f g o p old new outcome
+Runs words told f g o p old new (Usage index) = (¬ AreRight words) × StopsAt AreRight words index × (new ≡ old)
+Runs words told f g o p old new Memory = (new ≡ old) ⊎ ((r : Request) × Right words r × Answers r told f g o p old new Memory)
+Runs words told f g o p old new outcome = (r : Request) × Right words r × Answers r told f g o p old new outcome
 
--- What reading the root's bytes answers: the feed that they say, or their fault.
-abbrev pub ReadsFeed : List ℕ → List ℕ → Result Feed NoFeed → Type 0
-ReadsFeed root bytes (Ok feed) = SaysFeed root bytes feed
-ReadsFeed root bytes (Err (none.Bad fault)) = HasFault root bytes fault
-ReadsFeed root bytes (Err none.Memory) = Unit {0}
+-- the program needs no command of the root
+abbrev pub NeedsNoCommand : Request → Type 0
+NeedsNoCommand (request.Select ask proof) = ask.command ≡ None
+NeedsNoCommand other = Unit {0}
 
--- What the choice from a feed's bytes says.
-abbrev pub ChoosesFrom : List ℕ → List ℕ → ℕ → ℕ → Option (List ℕ) → Option (List ℕ) → Outcome → Type 0
-ChoosesFrom root bytes o p old new Done = (s : Impl) × IsChosen root bytes s × (new ≡ gained old (document root s))
-ChoosesFrom root bytes o p old new (BadFeed uri fault) = (uri ≡ root) × HasFault root bytes fault × (new ≡ old)
-ChoosesFrom root bytes o p old new Unbuilt = IsUnbuilt root bytes × (new ≡ old)
-ChoosesFrom root bytes o p old new SinkFault = (s : Impl) × IsChosen root bytes s × Rose o p × GainsFront old (document root s) new
-ChoosesFrom root bytes o p old new Memory = new ≡ old
-ChoosesFrom root bytes o p old new other = ⊥
-
-abbrev pub IsUnread : List ℕ → Outcome → Type 0
-IsUnread root (FeedRead uri) = uri ≡ root
-IsUnread root Memory = Unit {0}
-IsUnread root other = ⊥
-
-abbrev pub IsBad : List ℕ → Fault → Outcome → Type 0
-IsBad root fault (BadFeed uri f) = (uri ≡ root) × (f ≡ fault)
-IsBad root fault Memory = Unit {0}
-IsBad root fault other = ⊥
-
-abbrev pub IsTooLong : List ℕ → Outcome → Type 0
-IsTooLong root (FeedTooLong uri limit) = (uri ≡ root) × (limit ≡ feed_limit)
-IsTooLong root Memory = Unit {0}
-IsTooLong root other = ⊥
+-- What comes of words that stand before one that isn't text: as many of them as right words may begin with are counted.
+abbrev pub Stops : List (List ℕ) → Outcome → Type 0
+Stops words (Usage index) = StopsAt AreRight words index
+Stops words Memory = Unit {0}
+Stops words other = ⊥
 
 -- The line of the outcome is written whole, or, where the count of err rose, a front of it; where memory was refused, a front of some line.
 abbrev pub Tells : ℕ → ℕ → Option (List ℕ) → Option (List ℕ) → Outcome → Type 0
 Tells e f old new Memory = (o : Outcome) × GainsFront old (line_of o) new
 Tells e f old new outcome = (new ≡ gained old (line_of outcome)) ⊎ (Rose e f × GainsFront old (line_of outcome) new)
+
+-- the outcome, unless memory was refused
+abbrev pub IsOrMemory : Outcome → Outcome → Type 0
+IsOrMemory outcome r = (r ≡ outcome) ⊎ (r ≡ Memory)
+
+-- Parts of the work.
+
+-- what the choice from a universe says
+abbrev pub ChoosesFrom : List ℕ → List Interface → ℕ → ℕ → Option (List ℕ) → Option (List ℕ) → Outcome → Type 0
+ChoosesFrom root u o p old new Done = (c : Candidate) × (is_built u ≡ true) × IsFirst u c × (new ≡ gained old (document root c))
+ChoosesFrom root u o p old new (Unwritable place) = (c : Candidate) × (is_built u ≡ true) × IsFirst u c × IsAmiss root c place × (new ≡ old)
+ChoosesFrom root u o p old new SinkFault = (c : Candidate) × (is_built u ≡ true) × IsFirst u c × Rose o p × GainsFront old (document root c) new
+ChoosesFrom root u o p old new Memory = (new ≡ old) ⊎ ((c : Candidate) × (is_built u ≡ true) × IsFirst u c × GainsFront old (document root c) new)
+ChoosesFrom root u o p old new Unbuilt = (is_built u ≡ false) × (new ≡ old)
+ChoosesFrom root u o p old new other = ⊥
+
+-- the document of the chosen, or why it isn't there; want of memory says nothing
+abbrev pub WritesDocument : List ℕ → Candidate → Result (List ℕ) WriteFault → Type 0
+WritesDocument root c (Ok text) = text ≡ document root c
+WritesDocument root c (Err (writing.Unwritable place)) = IsAmiss root c place
+WritesDocument root c (Err writing.Memory) = Unit {0}

@@ -1,13 +1,20 @@
-ghost use Rattle.std.specs.Prelude.{ℕ, List};
+//! Laws of what the program answers, over definitions alone.
+ghost use Rattle.std.specs.Prelude.{◌≡◌, ℕ, List, All};
+ghost use Rattle.zi_app.specs.FileName.{file_name, IsByte};
 ghost use Rattle.zi_app.specs.Laws.{HasOneCause};
 
 use zi_doc::one_answer;
 
-/// The causes of the answers exclude each other: bytes have one fault or say one feed, and never both; a feed is built or
-/// isn't; and no two of its implementations stand before all others.
+/// What stands at an address has one cause: its bytes have one fault or say one feed, and never both.
 #[tactic(auto, using(crate::proofs::CauseLaws::one_cause))]
 pub fn one_cause()
-    ensures { (root : List ℕ) (bytes : List ℕ) → HasOneCause root bytes }
+    ensures { (uri : List ℕ) (bytes : List ℕ) → HasOneCause uri bytes }
 {
     one_answer();
 }
+
+/// No two addresses have one file.
+#[tactic(auto, using(crate::proofs::FileNameLaws::same_file))]
+pub fn files_differ()
+    ensures { (a b : List ℕ) → All IsByte a → All IsByte b → file_name a ≡ file_name b → a ≡ b }
+{}

@@ -3,9 +3,10 @@ ghost use Rattle.std.specs.Fmt.{decimal};
 ghost use Rattle.zi_feed.specs.Faults.{number};
 ghost use Rattle.zi_app.specs.Line.{PutsAll, FailsWhereRose, line_of, blamed};
 
-use crate::{BadFeed, Outcome};
+use crate::Outcome;
 use zi_feed::FeedKind;
 use zi_outside::{Sink, SinkFault};
+use zi_universe::BadFeed;
 
 // Two pieces, one behind the other.
 
@@ -177,8 +178,16 @@ fn put_five<E: Sink>(
     }
 }
 
-/// Writes the line of an outcome.
+// The line of a limit that is passed.
+fn put_limit<E: Sink>(limit: u64, what: &[u8], err: &mut E) -> Result<(), SinkFault>
+    ensures puts { PutsAll (E.written err.old) (codes "zi: more than " ++ decimal limit ++ what.now) result (E.written err.new) }
+    ensures count { E.faults err.old ≤ E.faults err.new }
+    ensures failed { FailsWhereRose (E.faults err.old) result (E.faults err.new) }
+{
+    put_around(b"zi: more than ", limit, what, err)
+}
 
+/// Writes the line of an outcome.
 pub fn tell<E: Sink>(outcome: &Outcome, err: &mut E) -> Result<(), SinkFault>
     ensures puts { PutsAll (E.written err.old) (line_of outcome.now) result (E.written err.new) }
     ensures count { E.faults err.old ≤ E.faults err.new }
@@ -198,6 +207,12 @@ pub fn tell<E: Sink>(outcome: &Outcome, err: &mut E) -> Result<(), SinkFault>
         Outcome::FeedTooLong { uri, limit } => {
             let uri = uri.as_str().as_bytes();
             put_five(b"zi: ", uri, b" is longer than ", *limit, b" bytes\n", err)
+        }
+        Outcome::TooManyFeeds { limit } => put_limit(*limit, b" feeds\n", err),
+        Outcome::TooManyInterfaces { limit } => put_limit(*limit, b" interfaces\n", err),
+        Outcome::TooManyCandidates { limit } => put_limit(*limit, b" candidates\n", err),
+        Outcome::Unwritable { place } => {
+            put_around(b"zi: cannot write element ", *place, b"\n", err)
         }
         Outcome::SinkFault => err.put(b"zi: cannot write\n"),
         Outcome::Memory => err.put(b"zi: out of memory\n"),

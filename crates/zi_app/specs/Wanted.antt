@@ -1,0 +1,13 @@
+-- What a loading is asked for by the words.
+use Rattle.std.specs.Prelude.{map}
+use Rattle.zi_words.specs.declared.request.Ask.{Ask}
+use Rattle.zi_words.specs.declared.request.Wanted.{Wanted}
+use Rattle.zi_universe.specs.declared.types.Limit.{Limit}
+use Rattle.zi_universe.specs.declared.types.Requirement.{Requirement}
+
+abbrev pub limit_of : Wanted → Limit
+limit_of w = record { interface = w.interface; range = w.range }
+
+-- the root, its command and the limits on versions, as the words have them
+abbrev pub requirement_of : Ask → Requirement
+requirement_of ask = record { interface = ask.root; command = ask.command; limits = map limit_of ask.limits }
