@@ -97,6 +97,14 @@ START = f'<interface xmlns="{NS}">'
 END = "</interface>"
 
 
+OPEN = f'{START}<implementation id="a" version="1" local-path="a">'
+
+
+def inside(part):
+    """A feed of one implementation that holds this."""
+    return f"{OPEN}{part}</implementation>{END}"
+
+
 def bad_feeds(folder):
     rows = [
         ("", "document 4 at 0"),
@@ -107,6 +115,13 @@ def bad_feeds(folder):
         (f'{START}<group><implementation id="x"/></group>{END}', f"feed 3 at {len(START) + len('<group>')}"),
         (f"{START}{impl('a', '1-foo')}{END}", f"feed 3 at {len(START)}"),
         (f"{START}{impl('a', '1')}{impl('a', '2')}{END}", f"feed 13 at {len(START + impl('a', '1'))}"),
+        (inside('<requires interface="/b" version="..3"/>'), f"feed 4 at {len(OPEN)}"),
+        (f'{START}<implementation id="a" version="1" arch="Linux"/>{END}', f"feed 5 at {len(START)}"),
+        (inside('<manifest-digest sha256="x"/>'), f"feed 6 at {len(OPEN)}"),
+        (inside('<environment insert=""/>'), f"feed 7 at {len(OPEN)}"),
+        (inside('<file href="/x" dest="x"/>'), f"feed 8 at {len(OPEN)}"),
+        (f'{START}<implementation id="a" version="1" stability="best"/>{END}', f"feed 11 at {len(START)}"),
+        (f'{START}<feed src="{"../" * 40}x"/>{END}', f"feed 12 at {len(START)}"),
         # the lesser place goes first, and there the lesser kind
         (f'{START}<feed/><implementation version="1"/>{END}', f"feed 9 at {len(START)}"),
         (f'{START}<implementation arch="-"/>{END}', f"feed 2 at {len(START)}"),
@@ -114,6 +129,10 @@ def bad_feeds(folder):
     for text, fault in rows:
         root = write(folder, "f.xml", text)
         expect(run(SELECT + [root], folder), 67, b"", f"zi: bad feed {root}: {fault}\n".encode())
+    # a feed of the web that says another address than it was read under
+    write(folder, "http%3A%2F%2Fexample.com%2Fu.xml", f'<interface xmlns="{NS}" uri="http://example.com/v.xml"/>')
+    root = "http://example.com/u.xml"
+    expect(run(SELECT + [root], folder, feeds=folder), 67, b"", f"zi: bad feed {root}: feed 10 at 0\n".encode())
 
 
 UNBUILT = (95, b"", b"zi: not built yet\n")
