@@ -297,7 +297,8 @@ def wrong_words(folder):
         (["select", "--no-command", "--level", "preferred", "/a"], 3),
         (["select", "--no-command", "--network", "none", "/a"], 3),
         (["select", "--no-command", "--os", "", "/a"], 3),
-        (["select", "--no-command", "--search", "4000000001", "/a"], 3),
+        (["select", "--no-command", "--search", "5", "/r"], 2),
+        (["select", "--search", "5", "--no-command", "/r"], 1),
         (["select", "--no-command", "--rate", "/a", "x", "stable", "--rate", "/a", "x", "stable", "/a"], 8),
         (["select", b"--no-command\xff"], 1),
         (["select", "--no-command", b"/\xff"], 2),
@@ -312,8 +313,8 @@ def wrong_words(folder):
 
 def help_and_version(folder):
     status, out, err = run(["--help"], folder)
-    options = ["--no-command", "--version", "--version-for", "--os", "--cpu", "--lang", "--level", "--network", "--use", "--rate", "--search"]
-    missing = [word for word in ["zi select", "zi --help", "zi --version", "Linux", "x86_64", "100000", "ZI_FEEDS"] + options if word.encode() not in out]
+    options = ["--no-command", "--version", "--version-for", "--os", "--cpu", "--lang", "--level", "--network", "--use", "--rate"]
+    missing = [word for word in ["zi select", "zi --help", "zi --version", "Linux", "x86_64", "ZI_FEEDS"] + options if word.encode() not in out]
     if status != 0 or err or missing or not out.endswith(b"\n"):
         raise Wrong(f"{status}, {missing}, {out!r}, {err!r}")
     expect(run(["--version"], folder), 0, b"zi 0.1\n", b"")
@@ -374,7 +375,7 @@ def options(folder):
     expect(run(SELECT + ["--use", "other", "--use", "testing", root], folder), *UNBUILT)
 
     root = write(folder, "--dash.xml", feed(impl("a", "1")))
-    expect(run(SELECT + ["--search", "0", "--", root], folder), 0, selections(root, "a", "1"), b"")
+    expect(run(SELECT + ["--", root], folder), 0, selections(root, "a", "1"), b"")
     root = write(folder, "a b.xml", feed(impl("a", "1")))
     expect(run(SELECT + [root], folder), 0, selections(root, "a", "1"), b"")
 

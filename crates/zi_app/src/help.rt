@@ -27,8 +27,6 @@ Options of select, before ROOT:
     --rate URI ID STABILITY     The stability of the implementation ID of the interface URI:
                                 insecure, buggy, developer, testing, stable, packaged or
                                 preferred (default: the feed's). Once for each implementation.
-    --search N                  How many lemmas a search may learn, at most 4000000000
-                                (default: 100000). Nothing is searched for yet.
     --                          Ends the options.
 
 Feeds of web addresses are files in the folder that ZI_FEEDS names (default: feeds), each

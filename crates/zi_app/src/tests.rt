@@ -96,7 +96,7 @@ fn the_first_candidate_is_written(rt: HostRuntime) -> Result<(), Fail> {
         &rt,
         rt.alloc(),
         "<implementation id='n' version='1' local-path='n'/><implementation id='o' version='2' local-path='o'/>",
-        ["--rate", ROOT, "n", "preferred", "--search", "0", "--"].as_slice(),
+        ["--rate", ROOT, "n", "preferred", "--"].as_slice(),
         "id=\"n\" version=\"1\" local-path=\"/feeds/n\" stability=\"preferred\"",
     )
 }

@@ -10,7 +10,7 @@ use Rattle.zi_version.specs.Range.{alternative, words, expression}
 use Rattle.zi_words.specs.declared.kind.Kind.{Kind}
 use Rattle.zi_words.specs.declared.kind.Kind.TheVariants as kind
 use Rattle.zi_words.specs.declared.request.Request.{Request}
-use Rattle.zi_words.specs.Forms.{Word, Form, Address, Name, Anything, Range as ARange, Level, Network', Rating, Budget, Is, Are, is_address, is_carried, level_of, network_of, stability_of, budget_of}
+use Rattle.zi_words.specs.Forms.{Word, Form, Address, Name, Anything, Range as ARange, Level, Network', Rating, Is, Are, is_address, is_carried, level_of, network_of, stability_of}
 use Rattle.zi_words.specs.Options.{Item, name_of, forms, first, second, same, clash, any_clash}
 use Rattle.zi_words.specs.Refused.{Asks, LeftAt}
 use Rattle.zi_words.specs.Taken.{Misses, BreaksOff}
@@ -27,10 +27,9 @@ example ARange = codes "1"
 example Level = codes "stable"
 example Network' = codes "off"
 example Rating = codes "stable"
-example Budget = codes "1"
 
 pub example_is : (f : Form) → Is f (example f)
-unfolding is_address is_carried chars expression words alternative value level_of network_of stability_of budget_of
+unfolding is_address is_carried chars expression words alternative value level_of network_of stability_of
 example_is Address = refl
 example_is Name = λ e. cc
 example_is Anything = tt
@@ -38,7 +37,6 @@ example_is ARange = refl
 example_is Level = refl
 example_is Network' = refl
 example_is Rating = refl
-example_is Budget = refl
 
 abbrev pub examples : List Form → List Word
 examples [] = []

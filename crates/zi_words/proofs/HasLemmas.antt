@@ -11,7 +11,7 @@ use Rattle.std.proofs.lemmas.Map.Text.{is_eq-slice_cmp}
 use Rattle.zi_words.specs.declared.kind.Kind.{Kind}
 use Rattle.zi_words.specs.declared.kind.Kind.TheVariants as kind
 use Rattle.zi_words.specs.declared.asked.Asked.{Asked}
-use Rattle.zi_words.specs.Forms.{Word, Form, Level, Network', Budget, Is, Are}
+use Rattle.zi_words.specs.Forms.{Word, Form, Level, Network', Is, Are}
 use Rattle.zi_words.specs.Options.{Item, Once, OncePerPair, Often, AreItems, forms, rule_of, same, first, second, clash, clash_by, set, nothing, gathered}
 use Rattle.zi_words.specs.Taken.{Key, key_cmp, holds, IsKey, SamePairs, AddsPair, AddsBy, has}
 use Rattle.zi_words.proofs.ClashLemmas.{or_none, or_true, and_false, and_true, any_push, any_same, any_never}
@@ -38,8 +38,6 @@ has_set kind.Network kind.Network args a h m = first_is Network' [] args m ∙ s
 has_set kind.Network i args a h m = sym (or_none (is_some a.network))
 has_set kind.Use i args a h m = cc
 has_set kind.Rate i args a h m = cc
-has_set kind.Search kind.Search args a h m = first_is Budget [] args m ∙ sym (or_true (is_some a.search))
-has_set kind.Search i args a h m = sym (or_none (is_some a.search))
 
 or_more : (a b c : Bool) → ((a || b) || c) ≡ (a || (b || c))
 or_more true b c = refl
@@ -63,7 +61,6 @@ has_nothing kind.Level = refl
 has_nothing kind.Network = refl
 has_nothing kind.Use = refl
 has_nothing kind.Rate = refl
-has_nothing kind.Search = refl
 
 -- an option that may stand once was set exactly where it stands
 pub has_gathered : (k : Kind) (is : List Item) → rule_of k ≡ Once → AreItems is → has k (gathered is) ≡ list_any (λ i. same i.kind k) is
@@ -81,7 +78,6 @@ has_once kind.Level a h = refl
 has_once kind.Network a h = refl
 has_once kind.Use a h = cc
 has_once kind.Rate a h = cc
-has_once kind.Search a h = refl
 
 -- one that may stand once clashes with those of its kind
 pub clash_once : (k : Kind) (args : List Word) → rule_of k ≡ Once → (y : Item) → clash y (record { kind = k; arguments = args }) ≡ same y.kind k
@@ -153,7 +149,6 @@ told_next before kind.Level args old new h told = told_kept before kind.Level ar
 told_next before kind.Network args old new h told = told_kept before kind.Network args old new refl h told
 told_next before kind.Use args old new h told = told_kept before kind.Use args old new refl h told
 told_next before kind.Rate args old new h told = told_added before args old new h told
-told_next before kind.Search args old new h told = told_kept before kind.Search args old new refl h told
 
 -- what the set says of a key is whether a rating of those words clashes
 pub rate_clash : (before : List Item) (pairs : BTreeSet Key) (key : Key) (u v : Word) (args : List Word) → Told before pairs → IsKey key u v → first args ≡ u → second args ≡ v
@@ -175,4 +170,3 @@ free before kind.Level args old new items none h told = once_free before kind.Le
 free before kind.Network args old new items none h told = once_free before kind.Network args refl items none
 free before kind.Use args old new items none h told = often_free before kind.Use args refl
 free before kind.Rate args old new items none (key, is, absent, more) told = rate_clash before old key (first args) (second args) args told is refl refl ∙ absent
-free before kind.Search args old new items none h told = once_free before kind.Search args refl items none

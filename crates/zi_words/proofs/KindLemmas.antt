@@ -19,8 +19,7 @@ found w =
     else if bytes_eq w (name_of kind.Level) then kind.Level
     else if bytes_eq w (name_of kind.Network) then kind.Network
     else if bytes_eq w (name_of kind.Use) then kind.Use
-    else if bytes_eq w (name_of kind.Rate) then kind.Rate
-    else kind.Search
+    else kind.Rate
 
 found_name : (k : Kind) → found (name_of k) ≡ k
 unfolding found
@@ -34,7 +33,6 @@ found_name kind.Level = refl
 found_name kind.Network = refl
 found_name kind.Use = refl
 found_name kind.Rate = refl
-found_name kind.Search = refl
 
 pub same_name : (k l : Kind) → name_of k ≡ name_of l → k ≡ l
 same_name k l e = sym (found_name k) ∙ (ap found e ∙ found_name l)
@@ -63,7 +61,6 @@ not_dashes kind.Level e = cc
 not_dashes kind.Network e = cc
 not_dashes kind.Use e = cc
 not_dashes kind.Rate e = cc
-not_dashes kind.Search e = cc
 
 no_address : (k : Kind) → is_address (name_of k) ≡ false
 unfolding is_address
@@ -77,7 +74,6 @@ no_address kind.Level = refl
 no_address kind.Network = refl
 no_address kind.Use = refl
 no_address kind.Rate = refl
-no_address kind.Search = refl
 
 pub not_address : (k : Kind) (root : Word) → name_of k ≡ root → is_address root ≡ true → ⊥
 not_address k root e h = let f : false ≡ true = sym (no_address k) ∙ (ap is_address e ∙ h) in cc

@@ -1,4 +1,3 @@
-pub mod NumberLemmas
 pub mod LeftLemmas
 pub mod ClashLemmas
 pub mod KindLemmas

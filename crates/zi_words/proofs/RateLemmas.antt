@@ -140,4 +140,3 @@ module _ (before : List Item) (pairs : BTreeSet Key) (apart : any_clash before �
   off kind.Network ws n items none h = break_off before kind.Network ws n apart h (λ args. once_free before kind.Network args refl items none)
   off kind.Use ws n items none h = break_off before kind.Use ws n apart h (λ args. often_free before kind.Use args refl)
   off kind.Rate ws n items none h = rate_off ws n h
-  off kind.Search ws n items none h = break_off before kind.Search ws n apart h (λ args. once_free before kind.Search args refl items none)

@@ -1,8 +1,7 @@
 -- What may stand as one word: addresses, names, levels and the like.
-use Rattle.std.specs.Prelude.{◌≡◌, ◌≢◌, ℕ, Bool, true, ◌&&◌, ◌||◌, nat_le, nat_eq, if◌then◌else◌, List, [], ◌∷◌, codes, bytes_eq, Option, Some, None, option_and_then, IsSome}
+use Rattle.std.specs.Prelude.{◌≡◌, ◌≢◌, ℕ, Bool, true, ◌&&◌, ◌||◌, nat_le, nat_eq, if◌then◌else◌, List, [], ◌∷◌, codes, bytes_eq, Option, Some, None, IsSome}
 use Rattle.std.specs.List.{list_all, starts_with}
 use Rattle.std.specs.Str.{chars}
-use Rattle.zi_text.specs.Numeral.{numeral}
 use Rattle.zi_version.specs.Range.{IsExpression}
 use Rattle.zi_policy.specs.declared.types.Stability.{Stability}
 use Rattle.zi_policy.specs.declared.types.Stability.TheVariants as stability
@@ -57,10 +56,6 @@ network_of text =
     else if bytes_eq text (codes "off") then Some network.Off
     else None
 
--- a number of lemmas: decimal digits, at most 4,000,000,000
-unfoldable pub budget_of : Word → Option ℕ
-budget_of text = option_and_then (λ n. if nat_le n 4000000000 then Some n else None) (numeral text)
-
 -- what an argument of an option may be
 pub data Form : Type 0 where
   Address : Form
@@ -70,7 +65,6 @@ pub data Form : Type 0 where
   Level : Form
   Network' : Form
   Rating : Form
-  Budget : Form
 
 -- the word is of this form
 abbrev pub Is : Form → Word → Type 0
@@ -81,7 +75,6 @@ Is Range w = IsExpression w
 Is Level w = IsSome (level_of w)
 Is Network' w = IsSome (network_of w)
 Is Rating w = IsSome (stability_of w)
-Is Budget w = IsSome (budget_of w)
 
 -- the words are of these forms, one each
 abbrev pub Are : List Form → List Word → Type 0

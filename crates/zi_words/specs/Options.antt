@@ -13,7 +13,7 @@ use Rattle.zi_words.specs.declared.asked.Limit.{Limit}
 use Rattle.zi_words.specs.declared.asked.Asked.{Asked}
 use Rattle.zi_words.specs.declared.request.Wanted.{Wanted}
 use Rattle.zi_words.specs.declared.request.Ask.{Ask}
-use Rattle.zi_words.specs.Forms.{Word, Form, Address, Name, Anything, Range as ARange, Level, Network', Rating, Budget, Are, level_of, network_of, stability_of, budget_of}
+use Rattle.zi_words.specs.Forms.{Word, Form, Address, Name, Anything, Range as ARange, Level, Network', Rating, Are, level_of, network_of, stability_of}
 
 -- the word of an option
 abbrev pub name_of : Kind → Word
@@ -27,7 +27,6 @@ name_of kind.Level = codes "--level"
 name_of kind.Network = codes "--network"
 name_of kind.Use = codes "--use"
 name_of kind.Rate = codes "--rate"
-name_of kind.Search = codes "--search"
 
 -- its arguments
 abbrev pub forms : Kind → List Form
@@ -41,7 +40,6 @@ forms kind.Level = Level ∷ []
 forms kind.Network = Network' ∷ []
 forms kind.Use = Name ∷ []
 forms kind.Rate = Address ∷ Anything ∷ Rating ∷ []
-forms kind.Search = Budget ∷ []
 
 -- how often an option may stand: once, once for each pair of its first two arguments, or as often as one likes
 pub data Rule : Type 0 where
@@ -60,7 +58,6 @@ rule_of kind.Level = Once
 rule_of kind.Network = Once
 rule_of kind.Use = Often
 rule_of kind.Rate = OncePerPair
-rule_of kind.Search = Once
 
 -- an option with its arguments, as it stands among the words
 pub record Item : Type 0 where
@@ -130,7 +127,6 @@ set kind.Level args a = record a { level = level_of (first args) }
 set kind.Network args a = record a { network = network_of (first args) }
 set kind.Use args a = record a { uses = a.uses ++ first args ∷ [] }
 set kind.Rate args a = record a { overrides = a.overrides ++ override_of (first args) (second args) (stability_of (get_or args 2 [])) }
-set kind.Search args a = record a { search = budget_of (first args) }
 
 -- nothing is set
 abbrev pub nothing : Asked
@@ -145,7 +141,6 @@ nothing = record {
   network = None;
   uses = [];
   overrides = [];
-  search = None;
 }
 
 -- what options set, each in turn
@@ -161,7 +156,8 @@ or_english (tag ∷ tags) = tag ∷ tags
 abbrev pub wanted : Word → Limit → Wanted
 wanted root l = record { interface = unwrap_or l.interface root; range = l.range }
 
--- what is asked of the program at an address: what isn't set has its default
+-- What is asked of the program at an address: what isn't set has its default. No option sets how many lemmas a search may
+-- learn, so that is always 100,000.
 unfoldable pub ask_of : Word → Asked → Ask
 ask_of root a = record {
   root = root;
@@ -176,5 +172,5 @@ ask_of root a = record {
     uses = a.uses;
     overrides = a.overrides;
   };
-  search = unwrap_or a.search 100000;
+  search = 100000;
 }

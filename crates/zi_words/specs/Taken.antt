@@ -98,7 +98,6 @@ has kind.Level a = is_some a.level
 has kind.Network a = is_some a.network
 has kind.Use a = false
 has kind.Rate a = false
-has kind.Search a = is_some a.search
 
 -- no option stands at the front
 abbrev pub NoOption : List Word → Type 0

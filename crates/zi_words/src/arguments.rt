@@ -1,12 +1,10 @@
 //! The words that stand behind an option or a command, each by its form.
 
-ghost use Rattle.std.specs.Prelude.{◌≡◌, ◌≢◌, [], ◌^◌, ◌<◌, ◌*◌, ◌+◌, ◌-◌, ◌∷◌, ◌&&◌, ◌||◌, true, ℕ, List, Some, codes, option_map, nat_lt, if◌then◌else◌, None, MatchResult};
+ghost use Rattle.std.specs.Prelude.{◌≡◌, ◌≢◌, [], ◌∷◌, ◌||◌, true, Some, codes, MatchResult};
 ghost use Rattle.std.specs.List.{list_all};
 ghost use Rattle.std.specs.Str.{chars};
-ghost use Rattle.std.specs.Char.{is_ascii_digit};
-ghost use Rattle.zi_text.specs.Numeral.{numeral};
 ghost use Rattle.zi_version.specs.Range.{range_of};
-ghost use Rattle.zi_words.specs.Forms.{Word, begins, is_carried, is_address, level_of, stability_of, network_of, budget_of, Address, Name, Range as ARange, Level, «Network'», Rating, Budget};
+ghost use Rattle.zi_words.specs.Forms.{Word, begins, is_carried, is_address, level_of, stability_of, network_of, Address, Name, Range as ARange, Level, «Network'», Rating};
 ghost use Rattle.zi_words.specs.Taken.{MissesWith};
 
 use crate::refusal::Refusal;
@@ -14,9 +12,6 @@ use std::alloc::Global;
 use zi_policy::{Network, Stability};
 use zi_text::Text;
 use zi_version::{Range, RangeFault};
-
-/// The most lemmas that a search may be given.
-const MOST_LEMMAS: u64 = 4_000_000_000;
 
 // A character that XML can carry, no tab and no line end.
 #[tactic(auto, unfolding(crate::specs::Forms::is_carried))]
@@ -170,60 +165,6 @@ pub fn network<'a>(words: &'a [Text]) -> Result<(Network, &'a [Text]), Refusal>
         None => Err(Refusal::Left(0)),
         Some((word, behind)) => match network_of(word.as_str()) {
             Some(network) => Ok((network, behind)),
-            None => Err(Refusal::Left(words.len())),
-        },
-    }
-}
-
-// The number before these digits with one more behind it, where it is below 2 ^ 64.
-fn more(n: u64, digit: u8) -> Option<u64>
-    ensures { result ≡ (if is_ascii_digit digit && nat_lt (10 * n + (digit - 48)) (2 ^ 64) then Some (10 * n + (digit - 48)) else None) }
-{
-    if !digit.is_ascii_digit() {
-        return None;
-    }
-    match n.checked_mul(10) {
-        None => None,
-        Some(tens) => tens.checked_add((digit - b'0') as u64),
-    }
-}
-
-// The number that decimal digits stand for, where it is below 2 ^ 64.
-fn number(digits: &[u8]) -> Option<u64>
-    ensures { result ≡ numeral digits.now }
-{
-    if digits.is_empty() {
-        return None;
-    }
-    let mut n = 0;
-    for digit in digits {
-        match more(n, *digit) {
-            None => return None,
-            Some(m) => n = m,
-        }
-    }
-    Some(n)
-}
-
-// The budget that a word names.
-#[tactic(auto, unfolding(crate::specs::Forms::budget_of))]
-fn budget_of(text: &str) -> Option<u64>
-    ensures { result ≡ budget_of text.now }
-{
-    match number(text.as_bytes()) {
-        None => None,
-        Some(n) => { if n <= MOST_LEMMAS { Some(n) } else { None } }
-    }
-}
-
-/// The budget at the front of the words.
-pub fn budget<'a>(words: &'a [Text]) -> Result<(u64, &'a [Text]), Refusal>
-    ensures { MatchResult result (λ v. (w : Word) × (words.now ≡ w ∷ v.1.now) × (budget_of w ≡ Some v.0)) (MissesWith Budget words.now) }
-{
-    match words.split_first() {
-        None => Err(Refusal::Left(0)),
-        Some((word, behind)) => match budget_of(word.as_str()) {
-            Some(n) => Ok((n, behind)),
             None => Err(Refusal::Left(words.len())),
         },
     }

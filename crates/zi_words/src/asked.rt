@@ -34,6 +34,4 @@ pub struct Asked {
     pub uses: List<Text>,
     /// The stabilities of `--rate`.
     pub overrides: List<Override>,
-    /// The budget of `--search`.
-    pub search: Option<u64>,
 }

@@ -22,6 +22,4 @@ pub enum Kind {
     Use,
     /// `--rate URI ID STABILITY`: a stability that replaces the feed's for one implementation.
     Rate,
-    /// `--search N`: how many lemmas the search may learn, at most 4,000,000,000; 100,000 where it isn't said.
-    Search,
 }

@@ -34,7 +34,6 @@ fn kind_of(word: &str) -> Option<Kind>
         "--network" => Some(Kind::Network),
         "--use" => Some(Kind::Use),
         "--rate" => Some(Kind::Rate),
-        "--search" => Some(Kind::Search),
         _ => None,
     }
 }
@@ -64,7 +63,6 @@ impl Asked {
             network: None,
             uses: List::new(alloc),
             overrides: List::new(alloc),
-            search: None,
         }
     }
 
@@ -79,7 +77,6 @@ impl Asked {
             Kind::Cpu => self.cpu.is_some(),
             Kind::Level => self.level.is_some(),
             Kind::Network => self.network.is_some(),
-            Kind::Search => self.search.is_some(),
             Kind::VersionFor | Kind::Lang | Kind::Use | Kind::Rate => false,
         }
     }
@@ -178,15 +175,6 @@ fn network<'a>(asked: &mut Asked, words: &'a [Text]) -> Result<&'a [Text], Refus
     Ok(behind)
 }
 
-// `--search N`.
-fn search<'a>(asked: &mut Asked, words: &'a [Text]) -> Result<&'a [Text], Refusal>
-    ensures { Sets kind.Search asked.old words.now result asked.new }
-{
-    let (search, behind) = arguments::budget(words)?;
-    asked.search = Some(search);
-    Ok(behind)
-}
-
 // `--rate URI ID STABILITY`, where no pair stands twice.
 fn rate<'a>(
     alloc: Global,
@@ -241,7 +229,6 @@ fn option<'a>(
         Kind::Network => network(asked, words),
         Kind::Use => wanted_use(alloc, asked, words),
         Kind::Rate => rate(alloc, asked, pairs, words),
-        Kind::Search => search(asked, words),
     }
 }
 

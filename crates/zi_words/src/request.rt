@@ -25,7 +25,7 @@ pub struct Ask {
     pub limits: List<Wanted>,
     /// The platform, the languages and the like; the lists stand in the order of the words.
     pub policy: Policy,
-    /// The greatest number of lemmas that the search may learn.
+    /// The greatest number of lemmas that a search may learn: 100,000. No word sets it yet.
     pub search: u64,
 }
 

@@ -107,7 +107,6 @@ impl Asked {
             network,
             uses,
             overrides,
-            search,
         } = self;
         let os = or_default(alloc, os, "Linux")?;
         let machine = or_default(alloc, cpu, "x86_64")?;
@@ -127,7 +126,7 @@ impl Asked {
                 uses,
                 overrides,
             },
-            search: search.unwrap_or(100_000),
+            search: 100_000,
         })
     }
 }

@@ -191,11 +191,9 @@ select --rate /b _ best -> 4
 select --rate /b a buggy --rate /b a buggy --no-command /a -> 7
 select --rate /b a buggy --rate /b -> 7
 select --rate /b a buggy --rate /b b x -> 8
-select --search 4000000001 --no-command /a -> 2
-select --search 18446744073709551616 --no-command /a -> 2
-select --search -1 --no-command /a -> 2
-select --search _ --no-command /a -> 2
-select --search 7 --search 7 -> 3";
+select --search 5 --no-command /a -> 1
+select --no-command --search 5 /a -> 2
+select --no-command --os a --search -> 4";
 
 #[test]
 fn options_have_their_index(rt: HostRuntime) -> Result<(), Fail> {
@@ -207,11 +205,11 @@ const ASKS: &str = "\
 select --no-command /a -> /a false [] Linux x86_64 [en] Stable Full [] [] 100000
 select --no-command -- http:// -> http:// false [] Linux x86_64 [en] Stable Full [] [] 100000
 select --no-command https://é/\u{FFFD}\u{7F} -> https://é/\u{FFFD}\u{7F} false [] Linux x86_64 [en] Stable Full [] [] 100000
-select --os --cpu --cpu ppc64 --level developer --network off --search 007 --no-command / -> / false [] --cpu ppc64 [en] Developer Off [] [] 7
+select --os --cpu --cpu ppc64 --level developer --network off --no-command / -> / false [] --cpu ppc64 [en] Developer Off [] [] 100000
 select --lang fr --use b --lang en_GB --no-command --use a --lang fr /a -> /a false [] Linux x86_64 [fr,en_GB,fr] Stable Full [b,a] [] 100000
 select --level testing --network minimal --no-command /a -> /a false [] Linux x86_64 [en] Testing Minimal [] [] 100000
 select --version-for /b 2.. --version 1 --version-for /b .. --no-command /a -> /a false [/b false true;/a true false;/b true true;] Linux x86_64 [en] Stable Full [] [] 100000
-select --rate /b x buggy --no-command --rate /b _ preferred --search 4000000000 /a -> /a false [] Linux x86_64 [en] Stable Full [] [/b x Buggy;/b  Preferred;] 4000000000";
+select --rate /b x buggy --no-command --rate /b _ preferred /a -> /a false [] Linux x86_64 [en] Stable Full [] [/b x Buggy;/b  Preferred;] 100000";
 
 #[test]
 fn what_is_asked_stands(rt: HostRuntime) -> Result<(), Fail> {
