@@ -30,13 +30,13 @@ use Rattle.zi_universe.proofs.NamingLemmas.{begins, at_stage, closed_once, joine
 use Rattle.zi_universe.proofs.OnceLemmas.{map_same, here, later, later_all, each_over, IsOne, each_one, same_one, asked_at, finds_asked, asks_next, both, read_once, listed-behind}
 
 -- Fronts.
-take_front : (j k : ℕ) (xs : Uris) → j ≤ k → take j (take k xs) ≡ take j xs
+pub take_front : (j k : ℕ) (xs : Uris) → j ≤ k → take j (take k xs) ≡ take j xs
 take_front zero k xs le = refl
 take_front (suc j) zero xs le = absurd (omega (arith, le))
 take_front (suc j) (suc k) [] le = refl
 take_front (suc j) (suc k) (x ∷ xs) le = ap (λ q. x ∷ q) (take_front j k xs (omega (arith, le)))
 
-cut_at : {X : Type 0} (xs : List X) (k : ℕ) (x : X) → slice_get xs k ≡ Some x → (ys : List X) × (xs ≡ take k xs ++ x ∷ ys)
+pub cut_at : {X : Type 0} (xs : List X) (k : ℕ) (x : X) → slice_get xs k ≡ Some x → (ys : List X) × (xs ≡ take k xs ++ x ∷ ys)
 cut_at [] k x e = cc
 cut_at (y ∷ ys) zero x e = (ys, (let s : y ≡ x = cc in ap (λ q. q ∷ ys) s))
 cut_at (y ∷ ys) (suc k) x e = let r = cut_at ys k x e in (r.0, ap (λ q. y ∷ q) r.1)
@@ -76,7 +76,7 @@ module _ (first : Uri) (next : Uri → Uris) (whole part : Uris) (k : ℕ) (m : 
       ∙ sym (at_stage first (map next whole) whole j first m lu) in
       subst P (add-one j) (take_more_same part whole j first (omega (arith, lj, le)) long e same)
 
-  front : (zs : Uris) × (whole ≡ part ++ zs)
+  pub front : (zs : Uris) × (whole ≡ part ++ zs)
   front =
       let b = begins first (map next whole) whole k m in
       let e : take k (map next (take k part)) ≡ take k (map next whole) = same_named k (omega arith) (same_so_far k (omega arith)) in
@@ -84,7 +84,7 @@ module _ (first : Uri) (next : Uri → Uris) (whole part : Uris) (k : ℕ) (m : 
       n.are ∙ ap (λ q. without_repeats (first ∷ all_of q)) (sym (take_all k (map next (take k part)) (omega (arith, as_long))) ∙ e) in
       (b.0, b.1 ∙ ap (λ q. q ++ b.0) (sym s))
 
-cons_same : {X : Type 0} (x y : X) (xs ys : List X) → x ≡ y → xs ≡ ys → x ∷ xs ≡ y ∷ ys
+pub cons_same : {X : Type 0} (x y : X) (xs ys : List X) → x ≡ y → xs ≡ ys → x ∷ xs ≡ y ∷ ys
 cons_same x y xs ys e f = ap (λ q. q ∷ xs) e ∙ ap (λ q. y ∷ q) f
 
 -- A list of interfaces and of groups, cut.
@@ -117,11 +117,11 @@ module _ (req : Requirement) (p : Policy) (stored : Store) (now : Reading) where
       let r = cut_groups gs hs ds i rest z.1 y.1 in
       (r.0, r.1, cons_same g h gs (hs ++ r.0 ∷ r.1) same r.2, r.3)
 
-all_of-cut : (xss : List Uris) (ys : Uris) (zss : List Uris) → all_of (xss ++ ys ∷ zss) ≡ all_of xss ++ (ys ++ all_of zss)
+pub all_of-cut : (xss : List Uris) (ys : Uris) (zss : List Uris) → all_of (xss ++ ys ∷ zss) ≡ all_of xss ++ (ys ++ all_of zss)
 all_of-cut [] ys zss = refl
 all_of-cut (xs ∷ xss) ys zss = ap (λ q. xs ++ q) (all_of-cut xss ys zss) ∙ sym (append_assoc xs (all_of xss) (ys ++ all_of zss))
 
-longer : (xs ys : Uris) → length xs ≤ length (joined xs ys)
+pub longer : (xs ys : Uris) → length xs ≤ length (joined xs ys)
 longer xs ys = let b = joined_behind xs ys in let l : length (joined xs ys) ≡ length xs + length b.0 = ap length b.1 ∙ length-append xs b.0 in omega (arith, l)
 
 -- A loading under way beside a universe.
@@ -211,7 +211,7 @@ module _ (strict : RanksAreStrict) (one : (w : List ℕ) → IsSettled w) (holds
   pub closed_group : IsClosed interface (λ u. imports_of p (now u)) group.0
   closed_group = let P : Uri → Type 0 = λ q. IsNamed q (map (λ u. imports_of p (now u)) group.0) group.0 in subst P item.3 group.3.closed
 
-no_some : {X : Type 0} (x : X) → None ≡ Some x → ⊥
+pub no_some : {X : Type 0} (x : X) → None ≡ Some x → ⊥
 no_some x e = cc
 
 regroup : (g t ys zs m : Uris) (u : Uri) → g ++ (((t ++ u ∷ ys) ++ zs) ++ m) ≡ (g ++ t) ++ u ∷ (ys ++ (zs ++ m))

@@ -10,3 +10,5 @@ pub mod RankedLemmas
 pub mod NextLemmas
 pub mod OnceLemmas
 pub mod ExclusionLemmas
+pub mod PointLemmas
+pub mod RefusedOnceLemmas

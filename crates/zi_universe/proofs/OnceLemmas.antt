@@ -34,7 +34,7 @@ pub later_all : {X : Type 0} (xs ys : List X) (z : X) → Contains ys z → Cont
 later_all [] ys z c = c
 later_all (x ∷ xs) ys z c = later x (xs ++ ys) z (later_all xs ys z c)
 
-is_member : {X : Type 0} (x : X) (xs : List X) (z : X) → Contains (x ∷ xs) z → (z ≡ x) ⊎ Contains xs z
+pub is_member : {X : Type 0} (x : X) (xs : List X) (z : X) → Contains (x ∷ xs) z → (z ≡ x) ⊎ Contains xs z
 is_member x xs z c = by c.0 c.1 c.2
   where
     by : (k : ℕ) → k < length (x ∷ xs) → get_or (x ∷ xs) k z ≡ z → (z ≡ x) ⊎ Contains xs z

@@ -26,3 +26,9 @@ abbrev pub UniverseExcludes : Type 0
 UniverseExcludes =
     (holds : Holding) (f g : ℕ) (req : Requirement) (p : Policy) (stored : Store) (is : List Interface) (e : LoadFault) →
     Loads (Some holds) req p stored is → IsOfFeeds e ≡ true → ¬ Refuses (Some holds) f g req p stored e
+
+-- A loading has one refusal at most: two of them that have their causes are the same.
+abbrev pub HasOneRefusal : Type 0
+HasOneRefusal =
+    (holds : Holding) (f g k l : ℕ) (req : Requirement) (p : Policy) (stored : Store) (e d : LoadFault) →
+    IsOfFeeds e ≡ true → IsOfFeeds d ≡ true → Refuses (Some holds) f g req p stored e → Refuses (Some holds) k l req p stored d → e ≡ d

@@ -1,5 +1,5 @@
 //! What holds of loadings as such: each function's clause is a law, proved over the definitions alone.
-ghost use Rattle.zi_universe.specs.Laws.{HasOneUniverse, UniverseExcludes};
+ghost use Rattle.zi_universe.specs.Laws.{HasOneUniverse, UniverseExcludes, HasOneRefusal};
 
 use zi_doc::one_answer;
 use zi_rank::laws::ranks_are_strict;
@@ -16,6 +16,15 @@ pub fn one_universe()
 /// memory: so bad feeds, an absent root and passed limits are refused exactly where they stand in the way of one.
 pub fn universe_excludes()
     ensures { UniverseExcludes }
+{
+    one_answer();
+    ranks_are_strict();
+}
+
+/// Over feeds that tell what they hold there is one refusal at most, but for a failed call and want of memory: so with
+/// `universe_excludes` each of them is answered exactly where it has its cause.
+pub fn one_refusal()
+    ensures { HasOneRefusal }
 {
     one_answer();
     ranks_are_strict();
