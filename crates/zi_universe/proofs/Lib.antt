@@ -12,3 +12,5 @@ pub mod OnceLemmas
 pub mod ExclusionLemmas
 pub mod PointLemmas
 pub mod RefusedOnceLemmas
+pub mod RankingLemmas
+pub mod SomeLemmas

@@ -45,7 +45,7 @@ flips a b = ap (λ q. q && eqb a.1 b.1) (bytes_eq-flips a.0 b.0) ∙ ap (λ q. b
 placed_sorted : (cs ds : List Candidate) → IsPermutation cs ds → ArePlaced cs → ArePlaced ds
 placed_sorted cs ds same placed = IsDistinct-IsPermutation alike flips (map place_of cs) (map place_of ds) (IsPermutation-map place_of cs ds same) placed
 
-parts_differ : (a b : Uri × ℕ) → alike a b ≡ false → (a.0 ≢ b.0) ⊎ (a.1 ≢ b.1)
+pub parts_differ : (a b : Uri × ℕ) → alike a b ≡ false → (a.0 ≢ b.0) ⊎ (a.1 ≢ b.1)
 parts_differ a b n = by (bytes_eq a.0 b.0) refl
   where
     by : (t : Bool) → bytes_eq a.0 b.0 ≡ t → (a.0 ≢ b.0) ⊎ (a.1 ≢ b.1)

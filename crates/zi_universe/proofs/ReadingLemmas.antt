@@ -14,7 +14,7 @@ use Rattle.zi_universe.specs.Whole.{feed_limit}
 use Rattle.zi_universe.specs.Loading.{Says, IsHeld, no_feed}
 use Rattle.zi_universe.specs.Stages.{UnlessMemory, RefusesBytes, RefusesFeed, Fetches}
 
-place_of_feed : (uri : Uri) (t : Element) → (feed_of (element_view t) uri).uri ≡ uri
+pub place_of_feed : (uri : Uri) (t : Element) → (feed_of (element_view t) uri).uri ≡ uri
 unfolding feed_of
 place_of_feed uri t = refl
 

@@ -128,7 +128,7 @@ module _ (told : Option Holding) (f g : ℕ) (req : Requirement) (p : Policy) (s
   agrees : Agrees (reading_of fs) fs
   agrees = reading_agrees fs apart
 
-  finds : Finds told req p stored done names uri (feeds_at fs here)
+  pub finds : Finds told req p stored done names uri (feeds_at fs here)
   finds =
       let places : addresses fs ≡ reached (h.groups ++ here ∷ []) = places_now told req p stored done names start uri h lt e here fs l in
       let Q : Uris → Type 0 = λ q. AreRead told req.interface (reading_of fs) q in

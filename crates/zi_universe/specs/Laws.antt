@@ -1,5 +1,5 @@
 -- What holds of loadings as such.
-use Rattle.std.specs.Prelude.{◌≡◌, ℕ, Bool, true, false, List, Some}
+use Rattle.std.specs.Prelude.{◌≡◌, ◌⊎◌, ℕ, Bool, true, false, List, Some}
 use Rattle.zi_policy.specs.declared.types.Policy.{Policy}
 use Rattle.zi_outside.specs.Outside.{Holding}
 use Rattle.zi_universe.specs.declared.types.Requirement.{Requirement}
@@ -32,3 +32,9 @@ abbrev pub HasOneRefusal : Type 0
 HasOneRefusal =
     (holds : Holding) (f g k l : ℕ) (req : Requirement) (p : Policy) (stored : Store) (e d : LoadFault) →
     IsOfFeeds e ≡ true → IsOfFeeds d ≡ true → Refuses (Some holds) f g req p stored e → Refuses (Some holds) k l req p stored d → e ≡ d
+
+-- Over an outside that tells what it holds, there is a universe, or one of these refusals has its cause.
+abbrev pub LoadsOrIsRefused : Type 0
+LoadsOrIsRefused =
+    (holds : Holding) (f g : ℕ) (req : Requirement) (p : Policy) (stored : Store) →
+    ((is : List Interface) × Loads (Some holds) req p stored is) ⊎ ((e : LoadFault) × (IsOfFeeds e ≡ true) × Refuses (Some holds) f g req p stored e)

@@ -1,5 +1,5 @@
 //! What holds of loadings as such: each function's clause is a law, proved over the definitions alone.
-ghost use Rattle.zi_universe.specs.Laws.{HasOneUniverse, UniverseExcludes, HasOneRefusal};
+ghost use Rattle.zi_universe.specs.Laws.{HasOneUniverse, UniverseExcludes, HasOneRefusal, LoadsOrIsRefused};
 
 use zi_doc::one_answer;
 use zi_rank::laws::ranks_are_strict;
@@ -25,6 +25,15 @@ pub fn universe_excludes()
 /// `universe_excludes` each of them is answered exactly where it has its cause.
 pub fn one_refusal()
     ensures { HasOneRefusal }
+{
+    one_answer();
+    ranks_are_strict();
+}
+
+/// Over feeds that tell what they hold there is a universe or such a refusal: with the other laws exactly one of all these
+/// answers is right.
+pub fn some_answer()
+    ensures { LoadsOrIsRefused }
 {
     one_answer();
     ranks_are_strict();
