@@ -17,3 +17,4 @@ mod store;
 mod tests;
 
 pub use request::{Ask, Request, Wanted, WordsFault};
+pub use store::last_part;

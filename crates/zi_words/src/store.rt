@@ -45,8 +45,8 @@ fn behind_slash<'a>(path: &'a str) -> Option<&'a str>
     }
 }
 
-// The last part of a path.
-fn last_part<'a>(path: &'a str) -> &'a str
+/// The last part of a path between its slashes.
+pub fn last_part<'a>(path: &'a str) -> &'a str
     ensures { result.now ≡ last_part path.now }
 {
     let mut left = path;
