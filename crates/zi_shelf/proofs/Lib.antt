@@ -4,3 +4,4 @@ pub mod DoingLemmas
 pub mod ReadingLemmas
 pub mod FillingLemmas
 pub mod FilledLemmas
+pub mod WholeLemmas

@@ -8,3 +8,4 @@ pub mod Reading
 pub mod Memory
 pub mod InMemory
 pub mod FittingLaw
+pub mod Whole

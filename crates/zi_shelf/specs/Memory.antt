@@ -4,6 +4,7 @@ use Rattle.std.specs.Ordering.{is_lt, nat_cmp}
 use Rattle.std.specs.Cmp.Lexicographic.{slice_cmp}
 use Rattle.std.specs.Str.{bytes_eq}
 use Rattle.zi_tree.specs.Dir.{Dir}
+use Rattle.zi_tree.specs.Order.{is_tree}
 use Rattle.zi_shelf.specs.Names.{Name}
 use Rattle.zi_shelf.specs.Shelved.{Top, Pending, Renamed, Removed}
 use Rattle.zi_shelf.specs.Told.{Told}
@@ -29,6 +30,11 @@ is_before n (e ∷ es) = is_lt (slice_cmp nat_cmp n e.name) && is_before n es
 abbrev pub are_apart : List TopEntry → Bool
 are_apart [] = true
 are_apart (e ∷ es) = is_before e.name es && are_apart es
+
+-- each holds a tree
+abbrev pub are_trees : List TopEntry → Bool
+are_trees [] = true
+are_trees (e ∷ es) = is_tree e.tree && are_trees es
 
 abbrev pub later_of : Later → Pending Dir
 later_of (RenamedTop a b) = Renamed a b

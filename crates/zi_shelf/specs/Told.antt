@@ -2,8 +2,9 @@
 use Rattle.std.specs.Prelude.{◌≡◌, ℕ, ◌+◌, ◌-◌, ◌^◌, ◌<◌, ◌≤◌, List, [], ◌∷◌, ◌++◌, length, true, false, nat_eq, pos, Option, Some, None, option_map, Result, Ok, Err, IsSome, ◌⊎◌}
 use Rattle.std.specs.List.{list_any}
 use Rattle.zi_tree.specs.Dir.{Dir}
+use Rattle.zi_tree.specs.Order.{is_tree}
 use Rattle.zi_shelf.specs.Names.{Name, put}
-use Rattle.zi_shelf.specs.Shelved.{Shelved, Call, MakeTop, Fill, Settle, Rename, SettleTop, RemoveTop, Reply, Did, Exists, Failed, Memory, Answers, Fits}
+use Rattle.zi_shelf.specs.Shelved.{Top, Shelved, Call, MakeTop, Fill, Settle, Rename, SettleTop, RemoveTop, Reply, Did, Exists, Failed, Memory, Answers, Fits}
 use Rattle.zi_shelf.specs.Filling.{Work, MakeFolder, Append, FinishFile, MakeLink, trees}
 use Rattle.zi_shelf.specs.declared.call.ShelfCall.{ShelfCall}
 use Rattle.zi_shelf.specs.declared.call.CallKind.{CallKind}
@@ -19,6 +20,14 @@ use Rattle.zi_shelf.specs.declared.shelf.Moved.TheVariants as moved
 pub record Told : Type 0 where
   pub shelf : Shelved Dir
   pub calls : List ShelfCall
+
+-- what stands under each top name is a tree: in each folder names that are names, each once, in byte order
+abbrev pub HoldsTrees : Shelved Dir → Type 0
+HoldsTrees s = (n : Name) (e : Top Dir) → s.tops n ≡ Some e → is_tree e.tree ≡ true
+
+-- the same of what a shelf tells, where it tells it
+abbrev pub TellsTrees : Option Told → Type 0
+TellsTrees told = (s : Told) → told ≡ Some s → HoldsTrees s.shelf
 
 abbrev pub fault_reply : ShelfFault → Reply
 fault_reply fault.Failed = Failed

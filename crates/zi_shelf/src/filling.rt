@@ -3,6 +3,7 @@
 //! Where memory is refused the tree is as before, and the call is taken out of the record again.
 
 ghost use Rattle.std.specs.Prelude.{◌≡◌, ◌-◌, [], true, false, pos, Some, OnOk, OnErr, is_some, option_copied, length, take};
+ghost use Rattle.zi_tree.specs.Order.{is_tree};
 ghost use Rattle.zi_tree.specs.Paths.{inserted};
 ghost use Rattle.zi_shelf.specs.Shelved.{Fill};
 ghost use Rattle.zi_shelf.specs.Filling.{filled, Append, FinishFile};
@@ -89,8 +90,10 @@ fn fill_entry(
     ensures unsettled { OnOk result (entry.new.settled ≡ false) }
     ensures name { entry.new.name ≡ entry.old.name }
     ensures err { OnErr result (entry.new ≡ entry.old) }
+    ensures whole { OnOk result (is_tree entry.new.tree ≡ true) }
 {
     fill_tree(alloc, &mut entry.tree, path, filling)?;
+    entry.tree.is_whole();
     entry.settled = false;
     Ok(())
 }

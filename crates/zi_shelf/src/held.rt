@@ -4,7 +4,7 @@
 
 ghost use Rattle.std.specs.Prelude.{◌≡◌, ◌<◌, ◌≤◌, ◌-◌, ◌^◌, ◌++◌, ◌∷◌, [], true, Some, nat_eq, option_copied, IfOk, OnOk, OnErr, refl};
 ghost use Rattle.std.specs.List.{list_any};
-ghost use Rattle.zi_shelf.specs.Memory.{are_apart, told_of, root_of, StaysSure};
+ghost use Rattle.zi_shelf.specs.Memory.{are_apart, are_trees, told_of, root_of, StaysSure};
 ghost use Rattle.zi_shelf.specs.Told.{Rose, plain_call, nothing_told, placed, tree_at};
 
 use crate::call::{CallKind, ShelfCall};
@@ -35,6 +35,7 @@ pub struct Held {
     /// Whether the count of faults stays below its end.
     pub sure: bool,
     ghost apart: { are_apart entries.items ≡ true },
+    ghost whole: { are_trees entries.items ≡ true },
 }
 
 impl Held {
@@ -67,6 +68,7 @@ impl Held {
         ensures faults { self.new.faults ≡ self.old.faults }
         ensures sure { self.new.sure ≡ self.old.sure }
     {
+        tree.is_whole();
         match find_top(self.entries.as_slice(), top) {
             Some(i) => {
                 let entry = &mut self.entries[i];
@@ -154,6 +156,8 @@ pub fn fail(
 }
 
 impl Shelf for Held {
+    ghost use Rattle.zi_shelf.specs.Whole.{tells_trees};
+
     ghost told = { λ m. Some (told_of m.entries.items m.pending.items m.calls) };
 
     ghost honest = { λ m. Unit {0} };
@@ -167,6 +171,8 @@ impl Shelf for Held {
     ghost plan = { λ m. m.fail.items };
 
     ghost sure_is = { λ s h. record { keeps = tt; tells = refl; below_end = h.below_end } };
+
+    ghost holds_trees = { λ s h. tells_trees s.entries.items s.pending.items s.calls s.whole };
 
     fn root(&self) -> &str {
         match &self.root {

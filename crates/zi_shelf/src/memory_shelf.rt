@@ -84,6 +84,8 @@ impl MemoryShelf {
 }
 
 impl Shelf for MemoryShelf {
+    ghost use Rattle.zi_shelf.specs.Whole.{tells_trees};
+
     ghost told = { λ m. Some (shelf_told m) };
 
     ghost honest = { λ m. Unit {0} };
@@ -97,6 +99,8 @@ impl Shelf for MemoryShelf {
     ghost plan = { shelf_plan };
 
     ghost sure_is = { λ s h. absurd h };
+
+    ghost holds_trees = { λ s h. tells_trees s.held.entries.items s.held.pending.items s.held.calls s.held.whole };
 
     fn root(&self) -> &str {
         self.held.root()

@@ -6,7 +6,7 @@ ghost use Rattle.std.specs.Prelude.{◌≡◌, List as Items, ℕ, Option as May
 ghost use Rattle.zi_shelf.specs.Filling.{MakeFolder, Append, FinishFile, MakeLink};
 ghost use Rattle.zi_shelf.specs.Reading.{Names, Entries, Read, Target, Reads, NamesAnswer, EntriesAnswer, ReadAnswer, TargetAnswer, Grows, SureReading};
 ghost use Rattle.zi_shelf.specs.Shelved.{MakeTop, Fill, Settle, Rename, SettleTop, RemoveTop};
-ghost use Rattle.zi_shelf.specs.Told.{Told, plain_reply, made_reply, moved_reply, Does, HasCause, FailsAsPlanned, IsSure, SureCall};
+ghost use Rattle.zi_shelf.specs.Told.{Told, plain_reply, made_reply, moved_reply, Does, HasCause, FailsAsPlanned, IsSure, SureCall, TellsTrees};
 
 use thiserror::Error;
 use zi_text::{List, Memory, Text};
@@ -269,4 +269,7 @@ pub trait Shelf {
 
     /// What a sure shelf is.
     ghost sure_is: { (s : Self) → sure s → IsSure (honest s) (told s) (faults s) };
+
+    /// What stands under each name of an honest shelf is a tree.
+    ghost holds_trees: { (s : Self) → honest s → TellsTrees (told s) };
 }

@@ -76,6 +76,7 @@ impl SureShelf {
 impl Shelf for SureShelf {
     ghost use Rattle.std.specs.Prelude.{Some, refl};
     ghost use Rattle.zi_shelf.specs.InMemory.{sure_told, sure_faults, sure_root};
+    ghost use Rattle.zi_shelf.specs.Whole.{tells_trees};
 
     ghost told = { λ s. Some (sure_told s) };
 
@@ -90,6 +91,8 @@ impl Shelf for SureShelf {
     ghost plan = { λ s. [] };
 
     ghost sure_is = { λ s h. record { keeps = tt; tells = refl; below_end = s.below_end } };
+
+    ghost holds_trees = { λ s h. tells_trees s.held.entries.items s.held.pending.items s.held.calls s.held.whole };
 
     fn root(&self) -> &str {
         self.held.root()

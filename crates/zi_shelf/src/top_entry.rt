@@ -2,7 +2,7 @@
 
 ghost use Rattle.std.specs.Prelude.{◌≡◌, ◌<◌, ◌++◌, ◌∷◌, ◌≤◌, [], true, None, Some, MatchOption, MatchResult, OnOk, length, vec_len, vec_capacity};
 ghost use Rattle.zi_shelf.specs.Names.{put};
-ghost use Rattle.zi_shelf.specs.Memory.{top_of, tops_of, are_apart, IsAt, IsPlace};
+ghost use Rattle.zi_shelf.specs.Memory.{top_of, tops_of, are_apart, are_trees, IsAt, IsPlace};
 
 use crate::shelf::ShelfFault;
 use std::cmp::Ordering;
@@ -86,7 +86,9 @@ pub fn put_in(entries: &mut Vec<TopEntry>, entry: TopEntry)
     requires free { tops_of entries.old.items entry.name ≡ None }
     ensures tops { tops_of entries.new.items ≡ put (tops_of entries.old.items) entry.name (Some (top_of entry)) }
     ensures apart { are_apart entries.new.items ≡ true }
+    ensures whole { are_trees entries.old.items ≡ true → are_trees entries.new.items ≡ true }
 {
+    entry.tree.is_whole();
     let Err(place) = place_of(entries.as_slice(), entry.name.as_str()) else {
         unreachable!()
     };

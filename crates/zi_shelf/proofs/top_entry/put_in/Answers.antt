@@ -1,6 +1,7 @@
 use Rattle.std.proofs.Common.{◌≡◌, None, ap, subst, ◌∙◌}
-use Rattle.zi_shelf.specs.Memory.{tops_of, are_apart, IsPlace}
+use Rattle.zi_shelf.specs.Memory.{tops_of, are_apart, are_trees, IsPlace}
 use Rattle.zi_shelf.proofs.TopsLemmas.{found_at, tops_insert, apart_insert}
+use Rattle.zi_shelf.proofs.WholeLemmas.{whole_insert}
 use Rattle.zi_shelf.proofs.top_entry.put_in.Goals as goal
 
 pub unreachable-requires : goal.unreachable-requires
@@ -19,3 +20,6 @@ returns-clause-apart c =
     let here = subst (λ l. IsPlace c.as_str.result.now l c.in-Err.place) c.as_slice.ensures.value c.in-Err.ensures.1 in
     let at = subst (λ n. IsPlace n es c.in-Err.place) c.as_str.ensures here in
     ap are_apart c.in-Ok.ensures.items ∙ apart_insert es c.in-Err.place c.args.entry at c.requires.free c.requires.apart
+
+pub returns-clause-whole : goal.returns-clause-whole
+returns-clause-whole c w = ap are_trees c.in-Ok.ensures.items ∙ whole_insert c.args.entries.now.items c.in-Err.place c.args.entry c.is_whole.ensures w

@@ -4,6 +4,7 @@ use Rattle.zi_shelf.specs.Fillings.{work_at}
 use Rattle.zi_shelf.specs.Memory.{IsAt}
 use Rattle.zi_shelf.specs.Shelved.{Fill, Did}
 use Rattle.zi_shelf.proofs.TopsLemmas.{apart_set}
+use Rattle.zi_shelf.proofs.WholeLemmas.{whole_set}
 use Rattle.zi_shelf.proofs.DoingLemmas.{fails, unknown_same, not_planned}
 use Rattle.zi_shelf.proofs.FilledLemmas.{name_is, filled_does, misfits, done_then}
 use Rattle.zi_shelf.proofs.held.Held.fill.Goals as goal
@@ -34,7 +35,10 @@ invariant_of-self-else-is_err c =
     let s = c.args.self.now in
     let at = subst (λ l. IsAt c.args.top.now l c.in-Some.i) c.as_slice-3.ensures.value c.in-Some.ensures.1 in
     let y = c.fill_entry.new.entry in
-    record { apart = apart_set s.entries.items c.args.top.now c.in-Some.i y at (name_is s.entries.items c.args.top.now c.in-Some.i c.index_mut.result.now y at c.index_mut.ensures.value c.fill_entry.ensures.name) s.apart }
+    record {
+      apart = apart_set s.entries.items c.args.top.now c.in-Some.i y at (name_is s.entries.items c.args.top.now c.in-Some.i c.index_mut.result.now y at c.index_mut.ensures.value c.fill_entry.ensures.name) s.apart;
+      whole = whole_set s.entries.items c.in-Some.i y (done_then c.fill_entry.result c.fill_entry.ensures.whole (sym c.if-is_err.ensures.value)) s.whole;
+    }
 
 pub returns-clause-does : goal.returns-clause-does
 returns-clause-does c =

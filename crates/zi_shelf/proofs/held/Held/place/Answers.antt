@@ -3,6 +3,7 @@ use Rattle.zi_shelf.specs.declared.top_entry.TopEntry.{TopEntry}
 use Rattle.zi_shelf.specs.Names.{put}
 use Rattle.zi_shelf.specs.Memory.{IsAt, tops_of}
 use Rattle.zi_shelf.proofs.TopsLemmas.{apart_set, at_name}
+use Rattle.zi_shelf.proofs.WholeLemmas.{whole_set}
 use Rattle.zi_shelf.proofs.DoingLemmas.{placed_in, placed_new}
 use Rattle.zi_shelf.proofs.held.Held.place.Goals as goal
 
@@ -13,7 +14,10 @@ invariant_of-self c =
     let y : TopEntry = record { name = x.name; tree = c.args.tree; settled = true } in
     let at = subst (λ l. IsAt c.args.top.now l c.in-Some.i) c.as_slice.ensures.value c.in-Some.ensures.1 in
     let name : x.name ≡ c.args.top.now = ap (λ (t : TopEntry). t.name) c.index_mut-entry.ensures.value ∙ at_name s.entries.items c.args.top.now c.in-Some.i x at in
-    record { apart = apart_set s.entries.items c.args.top.now c.in-Some.i y at name s.apart }
+    record {
+      apart = apart_set s.entries.items c.args.top.now c.in-Some.i y at name s.apart;
+      whole = whole_set s.entries.items c.in-Some.i y c.is_whole.ensures s.whole;
+    }
 
 pub put_in-requires-clause-free : goal.put_in-requires-clause-free
 put_in-requires-clause-free c =

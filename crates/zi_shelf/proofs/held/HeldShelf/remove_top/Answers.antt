@@ -5,6 +5,7 @@ use Rattle.zi_shelf.specs.declared.top_entry.Later.TheVariants.{RemovedTop}
 use Rattle.zi_shelf.specs.Memory.{IsAt}
 use Rattle.zi_shelf.specs.Shelved.{RemoveTop, Did}
 use Rattle.zi_shelf.proofs.TopsLemmas.{apart_remove}
+use Rattle.zi_shelf.proofs.WholeLemmas.{whole_remove}
 use Rattle.zi_shelf.proofs.DoingLemmas.{fails, unknown_same, removed_does, not_planned}
 use Rattle.zi_shelf.proofs.held.HeldShelf.remove_top.Goals as goal
 
@@ -21,7 +22,10 @@ returns-in_default-clause-does c =
 pub invariant_of-self-2 : goal.invariant_of-self-2
 invariant_of-self-2 c =
     let s = c.args.self.now in
-    record { apart = rw c.remove-entry.ensures.items (apart_remove s.entries.items c.in-Some.i s.apart) }
+    record {
+      apart = rw c.remove-entry.ensures.items (apart_remove s.entries.items c.in-Some.i s.apart);
+      whole = rw c.remove-entry.ensures.items (whole_remove s.entries.items c.in-Some.i s.whole);
+    }
 
 pub returns-clause-does : goal.returns-clause-does
 returns-clause-does c =

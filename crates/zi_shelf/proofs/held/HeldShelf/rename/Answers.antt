@@ -4,9 +4,10 @@ use Rattle.zi_shelf.specs.declared.top_entry.TopEntry.{TopEntry}
 use Rattle.zi_shelf.specs.declared.top_entry.Later.{Later}
 use Rattle.zi_shelf.specs.declared.top_entry.Later.TheVariants.{RenamedTop}
 use Rattle.zi_shelf.specs.Names.{put}
-use Rattle.zi_shelf.specs.Memory.{top_of, tops_of, are_apart, IsAt}
+use Rattle.zi_shelf.specs.Memory.{top_of, tops_of, are_apart, are_trees, IsAt}
 use Rattle.zi_shelf.specs.Shelved.{Did, Exists}
 use Rattle.zi_shelf.proofs.TopsLemmas.{apart_remove, free_remove}
+use Rattle.zi_shelf.proofs.WholeLemmas.{whole_remove}
 use Rattle.zi_shelf.proofs.DoingLemmas.{is_there, is_free, exists_name_does, renamed_does, not_planned}
 use Rattle.zi_shelf.proofs.held.HeldShelf.rename.Goals as goal
 
@@ -34,6 +35,14 @@ put_in-requires-clause-free c =
     let at = subst (λ l. IsAt c.args.from.now l c.in-Some.i) c.as_slice-3.ensures.value c.in-Some.ensures.1 in
     let free = subst (λ l. tops_of l c.args.to.now ≡ None) c.as_slice-4.ensures.value (is_free c.as_slice-4.result.now c.args.to.now c.find_top-2.result c.find_top-2.ensures (sym c.is_some.ensures ∙ c.if-is_some.false)) in
     rw (c.remove-entry.ensures.items, c.in_ok-name.ensures) (free_remove s.entries.items c.args.from.now c.args.to.now c.in-Some.i at free)
+
+pub invariant_of-self-2 : goal.invariant_of-self-2
+invariant_of-self-2 c =
+    let s = c.args.self.now in
+    record {
+      apart = c.put_in.ensures.apart;
+      whole = c.put_in.ensures.whole (ap are_trees c.remove-entry.ensures.items ∙ whole_remove s.entries.items c.in-Some.i s.whole);
+    }
 
 pub returns-clause-does : goal.returns-clause-does
 returns-clause-does c =

@@ -1,9 +1,11 @@
-use Rattle.std.proofs.Common.{◌≡◌, ◌+◌, length, nat_eq, false, true, sym, ◌∙◌, ap, subst}
+use Rattle.std.proofs.Common.{◌≡◌, ◌+◌, ◌<◌, List, length, nat_eq, false, true, sym, ◌∙◌, ap, subst}
 use Rattle.std.specs.List.{list_any}
 use Rattle.zi_shelf.specs.declared.top_entry.TopEntry.{TopEntry}
 use Rattle.zi_shelf.specs.Memory.{IsAt}
 use Rattle.zi_shelf.specs.Shelved.{Settle, Did}
 use Rattle.zi_shelf.proofs.TopsLemmas.{apart_set, at_name}
+use Rattle.zi_shelf.proofs.WholeLemmas.{whole_at, whole_set}
+use Rattle.zi_tree.specs.Order.{is_tree}
 use Rattle.zi_shelf.proofs.DoingLemmas.{fails, unknown_same, settled_does, not_planned}
 use Rattle.zi_shelf.proofs.held.HeldShelf.settle.Goals as goal
 
@@ -24,7 +26,12 @@ invariant_of-self-2 c =
     let y : TopEntry = record { name = x.name; tree = x.tree; settled = true } in
     let at = subst (λ l. IsAt c.args.top.now l c.in-Some.i) c.as_slice-3.ensures.value c.in-Some.ensures.1 in
     let name : x.name ≡ c.args.top.now = ap (λ (t : TopEntry). t.name) c.index_mut.ensures.value ∙ at_name s.entries.items c.args.top.now c.in-Some.i x at in
-    record { apart = apart_set s.entries.items c.args.top.now c.in-Some.i y at name s.apart }
+    let inside : c.in-Some.i < length s.entries.items = subst (λ (l : List TopEntry). c.in-Some.i < length l) c.as_slice-3.ensures.value c.in-Some.ensures.0 in
+    let tree : is_tree x.tree ≡ true = subst (λ (t : TopEntry). is_tree t.tree ≡ true) (sym c.index_mut.ensures.value) (whole_at s.entries.items c.in-Some.i x inside s.whole) in
+    record {
+      apart = apart_set s.entries.items c.args.top.now c.in-Some.i y at name s.apart;
+      whole = whole_set s.entries.items c.in-Some.i y tree s.whole;
+    }
 
 pub returns-clause-does : goal.returns-clause-does
 returns-clause-does c =
