@@ -1,0 +1,15 @@
+pub mod LineLemmas
+pub mod OrderLemmas
+pub mod KeepingLemmas
+pub mod NamesLemmas
+pub mod WalkLemmas
+pub mod StandingLemmas
+pub mod BytesLemmas
+pub mod ListingLemmas
+pub mod FrontLemmas
+pub mod LoopLemmas
+pub mod LeafLemmas
+pub mod TreeLemmas
+pub mod VerdictLemmas
+pub mod FileLemmas
+pub mod FolderLemmas

@@ -1,0 +1,57 @@
+use Rattle.std.proofs.Common.{rules}
+use Rattle.std.proofs.lemmas.Result.{err_from_is_err_and}
+use Rattle.zi_manifest.specs.Walk.{shown}
+use Rattle.zi_store.specs.Keeping.{is_reading}
+use Rattle.zi_store.specs.Entries.{emptied}
+use Rattle.zi_store.proofs.KeepingLemmas.{keeps_none, keeps_then, stands_later, rose_later}
+use Rattle.zi_store.proofs.WalkLemmas.{failed_passed}
+use Rattle.zi_store.proofs.LoopLemmas.{read_start, read_more, read_stops, read_end, next_asks, left_at, left_none}
+use Rattle.zi_store.proofs.leaves.read_leaves.Goals as goal
+
+pub loop-entry-init : goal.loop-entry-init
+loop-entry-init g c = (
+  keeps_none is_reading _ _ _ _ _ _,
+  λ whole d st t e. read_start (shown whole d) _ _ _ _ e c.new-tree.ensures,
+)
+
+pub returns-in_err-add_leaf-clause-walks : goal.returns-in_err-add_leaf-clause-walks
+returns-in_err-add_leaf-clause-walks g c whole d st t e =
+    let p = err_from_is_err_and c.from_residual.result c.from_residual.ensures.1 in
+    let l = c.loop-entry in
+    let left = left_at c.args.entries.now l.entry-index c.entry-item.result (search rules) c.entry-item.is in
+    read_stops (emptied (shown whole d)) whole d c.entry-item.result _ _ l.tree c.args.counts.now.nodes c.args.counts.now.bytes l.counts.nodes l.counts.bytes c.add_leaf.new.counts.nodes c.add_leaf.new.counts.bytes c.add_leaf.new.counts.nodes c.add_leaf.new.counts.bytes
+    c.from_residual.result p.0 c.in_err-add_leaf.field-0.0 p.1 p.2 (stands_later l.invariant.0 st) t (l.invariant.1 whole d st t e) left c.in_err-add_leaf.ensures.walks
+
+pub returns-in_err-add_leaf-clause-keeps : goal.returns-in_err-add_leaf-clause-keeps
+returns-in_err-add_leaf-clause-keeps g c = keeps_then c.loop-entry.invariant.0 c.in_err-add_leaf.ensures.keeps
+
+pub returns-in_err-add_leaf-clause-cause : goal.returns-in_err-add_leaf-clause-cause
+returns-in_err-add_leaf-clause-cause g c e =
+    let p = err_from_is_err_and c.from_residual.result c.from_residual.ensures.1 in
+    rose_later _ _ _ c.loop-entry.invariant.0.later (c.in_err-add_leaf.ensures.cause (failed_passed c.from_residual.result p.0 c.in_err-add_leaf.field-0.0 p.1 p.2 e))
+
+pub returns-in_err-add_leaf-clause-sure : goal.returns-in_err-add_leaf-clause-sure
+returns-in_err-add_leaf-clause-sure g c sure whole d st t e f =
+    let p = err_from_is_err_and c.from_residual.result c.from_residual.ensures.1 in
+    let l = c.loop-entry in
+    let left = left_at c.args.entries.now l.entry-index c.entry-item.result (search rules) c.entry-item.is in
+    next_asks whole d c.entry-item.result _ _ (stands_later l.invariant.0 st) t (l.invariant.1 whole d st t e).at_ left
+    (λ x listed tree. c.in_err-add_leaf.ensures.sure (l.invariant.0.sure sure) x listed (failed_passed c.from_residual.result p.0 c.in_err-add_leaf.field-0.0 p.1 p.2 f))
+
+pub loop-entry-preserved : goal.loop-entry-preserved
+loop-entry-preserved g c =
+    let l = c.loop-entry in
+    let left = left_at c.args.entries.now l.entry-index c.entry-item.result (search rules) c.entry-item.is in (
+      keeps_then l.invariant.0 c.in_ok-add_leaf.ensures.keeps,
+      λ whole d st t e.
+          read_more whole d c.entry-item.result _ _ l.tree c.add_leaf.new.tree c.args.counts.now.nodes c.args.counts.now.bytes l.counts.nodes l.counts.bytes c.add_leaf.new.counts.nodes c.add_leaf.new.counts.bytes
+          (stands_later l.invariant.0 st) t (l.invariant.1 whole d st t e) left (λ x listed free. (c.in_ok-add_leaf.ensures.walks x listed free).1) c.in_ok-add_leaf.ensures.tree,
+    )
+
+pub returns-clause-walks : goal.returns-clause-walks
+returns-clause-walks g c whole d st t e =
+    let l = c.loop-entry in
+    read_end (shown whole d) _ l.tree c.args.counts.now.nodes c.args.counts.now.bytes l.counts.nodes l.counts.bytes (left_none c.args.entries.now l.entry-index (search rules)) (l.invariant.1 whole d st t e)
+
+pub returns-clause-keeps : goal.returns-clause-keeps
+returns-clause-keeps g c = c.loop-entry.invariant.0

@@ -1,0 +1,10 @@
+pub mod Rising
+pub mod Keeping
+pub mod Standing
+pub mod Stored
+pub mod Walking
+pub mod Entries
+pub mod TreeAnswers
+pub mod FileAnswers
+pub mod Verdicts
+pub mod Lines

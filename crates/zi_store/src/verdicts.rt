@@ -1,0 +1,70 @@
+//! Whether a stored tree is what its name says.
+
+ghost use Rattle.std.specs.Prelude.{◌≡◌, Err, Some, IfOk};
+ghost use Rattle.zi_shelf.specs.Told.{Told, Rose};
+ghost use Rattle.zi_store.specs.Keeping.{Keeps, is_reading};
+ghost use Rattle.zi_store.specs.Verdicts.{Verifies, Judges, Compares};
+
+use crate::trees::{TreeRead, read_tree};
+use std::alloc::Global;
+use zi_digest::DigestName;
+use zi_manifest::{ManifestOutFault, digest};
+use zi_shelf::{Shelf, ShelfFault};
+use zi_text::Text;
+use zi_tree::{Tree, TreeLimit};
+
+/// What is said of a stored tree.
+#[derive(Drop)]
+pub enum Verdict {
+    /// Its digest by the name's algorithm is the name.
+    Sound,
+    /// No tree is stored under the name.
+    Missing,
+    /// Its digest by the name's algorithm is another.
+    Damaged { found: DigestName },
+    /// It has no digest: the first bad name in the order of the manifest stands at this path, the parts joined by `/`.
+    BadName { path: Text },
+    /// The tree has more than this limit of what it names: bytes, entries, or folders one in another.
+    TooLarge { what: TreeLimit, limit: u64 },
+}
+
+/// Reads the tree that is stored under a name, and says whether it is what the name says. A regular file `.manifest` in its
+/// top folder isn't read.
+///
+/// Failed comes only where the shelf's count of faults rose, Memory where memory is refused.
+pub fn verify<K: Shelf>(alloc: Global, name: &DigestName, k: &mut K) -> Result<Verdict, ShelfFault>
+    ensures verdict { (s : Told) → K.honest k.old → K.told k.old ≡ Some s → Verifies name.now result s.shelf }
+    ensures keeps { Keeps is_reading (K.honest k.old) (K.honest k.new) (K.told k.old) (K.told k.new) (K.faults k.old) (K.faults k.new) (K.sure k.old) (K.sure k.new) (K.place k.old) (K.place k.new) (K.plan k.old) (K.plan k.new) }
+    ensures cause { result ≡ Err ShelfFault.Failed → Rose (K.faults k.old) (K.faults k.new) }
+    ensures sure { K.sure k.old → result ≡ Err ShelfFault.Failed → ⊥ }
+{
+    let spelled = name.text(alloc)?;
+    match read_tree(alloc, spelled.as_str(), k)? {
+        TreeRead::Missing => Ok(Verdict::Missing),
+        TreeRead::TooLarge { what, limit } => Ok(Verdict::TooLarge { what, limit }),
+        TreeRead::Read(tree) => judge(alloc, name, &tree),
+    }
+}
+
+/// What is said of a tree under this name.
+fn judge(alloc: Global, name: &DigestName, tree: &Tree) -> Result<Verdict, ShelfFault>
+    ensures judged { IfOk result (λ verdict. Judges name.now verdict tree.now) }
+    ensures memory { result ≡ Err ShelfFault.Failed → ⊥ }
+{
+    match digest(alloc, tree, name.algorithm()) {
+        Ok(found) => Ok(compared(name, found)),
+        Err(ManifestOutFault::BadName { path }) => Ok(Verdict::BadName { path }),
+        Err(ManifestOutFault::Memory) => Err(ShelfFault::Memory),
+    }
+}
+
+/// What is said of a tree with this digest.
+fn compared(name: &DigestName, found: DigestName) -> Verdict
+    ensures { Compares name.now found result }
+{
+    if found == *name {
+        Verdict::Sound
+    } else {
+        Verdict::Damaged { found }
+    }
+}
