@@ -1,0 +1,16 @@
+pub mod Made
+pub mod Works
+pub mod Rebuilding
+pub mod StoreWorks
+pub mod Machine
+pub mod Law
+pub mod Invariant
+pub mod Places
+pub mod Standing
+pub mod Stepping
+pub mod StoreRules
+pub mod Tie
+pub mod Walk
+pub mod Begun
+pub mod Keeping
+pub mod Alone
