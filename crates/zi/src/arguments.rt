@@ -52,11 +52,40 @@ fn word<R: Env>(rt: &R, alloc: Global, i: usize) -> Result<Option<Vec<u8>>, Memo
     Err(Memory)
 }
 
+// The text of a variable, or a default where it isn't set, is empty or no UTF-8.
+fn text_or<R: Env + AllocGlobal>(rt: &R, name: &str, default: &str) -> Result<Text, Memory> {
+    match env::var(rt, name) {
+        Ok(text) if !text.is_empty() => Text::from_str(rt.alloc(), text.as_str()),
+        Err(VarError::OutOfMemory) => Err(Memory),
+        _ => Text::from_str(rt.alloc(), default),
+    }
+}
+
 /// The folder of the feeds of web addresses: the variable `ZI_FEEDS`, or `feeds` where that isn't set, is empty or no UTF-8.
 pub fn feeds_folder<R: Env + AllocGlobal>(rt: &R) -> Result<Text, Memory> {
-    match env::var(rt, "ZI_FEEDS") {
-        Ok(folder) if !folder.is_empty() => Text::from_str(rt.alloc(), folder.as_str()),
-        Err(VarError::OutOfMemory) => Err(Memory),
-        _ => Text::from_str(rt.alloc(), "feeds"),
+    text_or(rt, "ZI_FEEDS", "feeds")
+}
+
+// A path in a folder.
+fn joined(alloc: Global, folder: &str, path: &str) -> Result<Text, Memory> {
+    let mut whole = String::from_str(alloc, folder)?;
+    whole.push('/')?;
+    whole.push_str(path)?;
+    Text::from_str(alloc, whole.as_str())
+}
+
+/// The folder of the store: the variable `ZI_STORE`, or `store` where that isn't set, is empty or no UTF-8. One that doesn't
+/// begin with `/` is one in the current folder, and is given with that folder's path where the system tells it.
+pub fn store_folder<R: Env + AllocGlobal>(rt: &R) -> Result<Text, Memory> {
+    let folder = text_or(rt, "ZI_STORE", "store")?;
+    if folder.as_str().starts_with('/') {
+        return Ok(folder);
+    }
+    let Ok(current) = env::current_dir(rt) else {
+        return Ok(folder);
+    };
+    match current.to_str() {
+        Some(current) => joined(rt.alloc(), current, folder.as_str()),
+        None => Ok(folder),
     }
 }

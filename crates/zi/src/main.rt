@@ -1,14 +1,20 @@
-//! The program: its words, its folder of feeds and the standard streams, handed to `zi_app::run`.
+//! The program: its words, its folders of feeds and of trees, and the standard streams, handed to `zi_app::run`.
 //! What these real objects do is tried, and not claimed.
 #![tactic(auto)]
 
 mod arguments;
+mod folder_calls;
 mod folder_feeds;
+mod folder_shelf;
 mod piecewise;
+#[cfg(test)]
+mod shelf_tests;
 mod std_sink;
+mod trouble;
 
-use arguments::{TextWords, feeds_folder, words};
+use arguments::{TextWords, feeds_folder, store_folder, words};
 use folder_feeds::FolderFeeds;
+use folder_shelf::FolderShelf;
 use std::process::ExitCode;
 use std_sink::StdSink;
 use zi_app::{Outcome, refuse, run};
@@ -25,12 +31,14 @@ fn work(rt: &HostRuntime) -> Result<Outcome, Memory> {
     }
     let vars = Vars::new(alloc);
     let mut feeds = FolderFeeds::new(rt, feeds_folder(rt)?);
+    let mut shelf = FolderShelf::new(*rt, store_folder(rt)?);
     let mut out = StdSink::new(rt.stdout());
     Ok(run(
         alloc,
         texts.as_slice(),
         &vars,
         &mut feeds,
+        &mut shelf,
         &mut out,
         &mut err,
     ))

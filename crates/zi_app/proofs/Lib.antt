@@ -1,6 +1,9 @@
 pub mod LineLemmas
 pub mod RunLemmas
 pub mod SelectLemmas
+pub mod StoreLemmas
+pub mod AddingLemmas
 pub mod FileNameLaws
 pub mod CauseLaws
 pub mod DocumentLemmas
+pub mod GatheringLemmas

@@ -118,3 +118,16 @@ pub told_many : {T : Type 0} (old : Option (List ℕ)) (n what : List ℕ) (r : 
     → PutsAll old (codes "zi: more than " ++ n ++ (what ++ codes "\n")) r new
     → PutsAll old (codes "zi: " ++ (codes "more than " ++ n ++ what) ++ codes "\n") r new
 told_many old n what r new p = subst (λ t. PutsAll old t r new) (sym (many_line n what)) p
+
+-- a value and what is said of it, in their pieces
+pub told_then : {T : Type 0} (old : Option (List ℕ)) (value what : List ℕ) (r : Result T SinkFault) (new : Option (List ℕ))
+    → PutsAll old (codes "zi: " ++ value ++ (what ++ codes "\n")) r new → PutsAll old (codes "zi: " ++ (value ++ what) ++ codes "\n") r new
+told_then old value what r new p = subst (λ t. PutsAll old (codes "zi: " ++ t) r new) (sym (append_assoc value what (codes "\n"))) p
+
+-- two names and what is said of them, in their pieces
+names_line : (name what found : List ℕ) → codes "zi: " ++ (name ++ what ++ found) ++ codes "\n" ≡ (codes "zi: " ++ name) ++ (what ++ found ++ codes "\n")
+names_line name what found = simp append_assoc
+
+pub told_names : {T : Type 0} (old : Option (List ℕ)) (name what found : List ℕ) (r : Result T SinkFault) (new : Option (List ℕ))
+    → PutsAll old ((codes "zi: " ++ name) ++ (what ++ found ++ codes "\n")) r new → PutsAll old (codes "zi: " ++ (name ++ what ++ found) ++ codes "\n") r new
+told_names old name what found r new p = subst (λ t. PutsAll old t r new) (sym (names_line name what found)) p

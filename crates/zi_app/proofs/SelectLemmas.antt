@@ -15,14 +15,18 @@ use Rattle.zi_universe.specs.declared.fault.LoadFault.{LoadFault}
 use Rattle.zi_universe.specs.declared.fault.LoadFault.TheVariants as load
 use Rattle.zi_universe.specs.Loading.{names_of, Loads, Refuses}
 use Rattle.zi_app.specs.declared.outcome.Outcome.{Outcome}
-use Rattle.zi_app.specs.declared.outcome.Outcome.TheVariants.{Done, Usage, FeedRead, NoRootFeed, BadFeed, FeedTooLong, TooManyFeeds, TooManyInterfaces, TooManyCandidates, Unwritable, SinkFault, Memory, Unbuilt}
+use Rattle.zi_app.specs.declared.outcome.Outcome.TheVariants.{Done, Usage, FeedRead, NoRootFeed, BadFeed, FeedTooLong, TooManyFeeds, TooManyInterfaces, TooManyCandidates, NoFile, Overlap, Mismatch, MissingTree, DamagedTree, BadName, TreeTooLarge, StoreFault, Crowded, Unwritable, SinkFault, Memory, Unbuilt}
 use Rattle.zi_app.specs.Refused.{outcome_of}
 use Rattle.zi_app.specs.Wanted.{requirement_of}
 use Rattle.zi_app.specs.Document.{document}
 use Rattle.zi_choice.specs.Choice.{first_alone}
 use Rattle.zi_choice.specs.Best.{IsBest}
 use Rattle.zi_choice.proofs.AloneLaws.{first_alone_best}
-use Rattle.zi_app.specs.Select.{is_empty, Chooses, is_simple, are_built, is_built, root_candidates, IsFirst, IsLoaded, ChoosesFrom, Selects, Writes}
+use Rattle.zi_digest.specs.declared.DigestName.{DigestName}
+use Rattle.zi_app.specs.Writing.{Writes}
+use Rattle.zi_app.specs.Select.{is_empty, Chooses, is_simple, are_built, is_built, root_candidates, IsFirst, IsLoaded, ChoosesFrom, SelectsOver, Selects}
+use Rattle.zi_app.specs.Shelves.{Shelving}
+use Rattle.zi_app.specs.StoreCommands.{AreStored}
 
 pub none_built : (cs : List Candidate) → slice_get cs 0 ≡ None → are_built cs ≡ false
 none_built [] e = refl
@@ -56,6 +60,15 @@ written root u c text o p old new (FeedTooLong uri limit) built first e w = absu
 written root u c text o p old new (TooManyFeeds limit) built first e w = absurd w
 written root u c text o p old new (TooManyInterfaces limit) built first e w = absurd w
 written root u c text o p old new (TooManyCandidates limit) built first e w = absurd w
+written root u c text o p old new (NoFile name) built first e w = absurd w
+written root u c text o p old new (Overlap path) built first e w = absurd w
+written root u c text o p old new (Mismatch name found) built first e w = absurd w
+written root u c text o p old new (MissingTree name) built first e w = absurd w
+written root u c text o p old new (DamagedTree name found) built first e w = absurd w
+written root u c text o p old new (BadName path) built first e w = absurd w
+written root u c text o p old new (TreeTooLarge what limit) built first e w = absurd w
+written root u c text o p old new (StoreFault name) built first e w = absurd w
+written root u c text o p old new (Crowded tried) built first e w = absurd w
 written root u c text o p old new (Unwritable place) built first e w = absurd w
 written root u c text o p old new Unbuilt built first e w = absurd w
 
@@ -103,55 +116,71 @@ first_is_best : (u : List Interface) (req : Requirement) → req.command ≡ Non
 first_is_best u req none built = let r : (root : Interface) × (slice_get u 0 ≡ Some root) × (are_built root.candidates ≡ true) = has_root u built in
     best_of u req r.0 r.1 none r.2
 
-chooses_first : (told : Option Holding) (ask : Ask) (u : List Interface) (c : Candidate) → ask.command ≡ None → IsLoaded told ask u → is_built u ≡ true → IsFirst u c
-    → Chooses told ask c
-chooses_first told ask u c none loaded built first = record { universe = u; loaded = loaded; built = built; first = first; best = first_is_best u (requirement_of ask) none built }
+chooses_first : (stored : List DigestName) (told : Option Holding) (ask : Ask) (u : List Interface) (c : Candidate) → ask.command ≡ None → IsLoaded stored told ask u → is_built u ≡ true → IsFirst u c
+    → Chooses stored told ask c
+chooses_first stored told ask u c none loaded built first = record { universe = u; loaded = loaded; built = built; first = first; best = first_is_best u (requirement_of ask) none built }
 
-selected_as : (told : Option Holding) (f g : ℕ) (ask : Ask) (u : List Interface) (o p : ℕ) (old new : Option (List ℕ)) (outcome : Outcome)
-    → ask.command ≡ None → IsLoaded told ask u → ChoosesFrom ask.root u o p old new outcome → Selects ask told f g o p old new outcome
-selected_as told f g ask u o p old new Done none loaded (c, built, first, w) = (c, chooses_first told ask u c none loaded built first, w)
-selected_as told f g ask u o p old new (Unwritable place) none loaded (c, built, first, amiss, w) =
-    (c, chooses_first told ask u c none loaded built first, amiss, w)
-selected_as told f g ask u o p old new SinkFault none loaded (c, built, first, rose, w) = (c, chooses_first told ask u c none loaded built first, rose, w)
-selected_as told f g ask u o p old new Memory none loaded (inl same) = inl same
-selected_as told f g ask u o p old new Memory none loaded (inr (c, built, first, w)) = inr (c, chooses_first told ask u c none loaded built first, w)
-selected_as told f g ask u o p old new Unbuilt none loaded (built, w) = (record { universe = u; loaded = loaded; built = built }, w)
-selected_as told f g ask u o p old new (Usage index) none loaded w = absurd w
-selected_as told f g ask u o p old new (FeedRead uri) none loaded w = absurd w
-selected_as told f g ask u o p old new NoRootFeed none loaded w = absurd w
-selected_as told f g ask u o p old new (BadFeed uri fault) none loaded w = absurd w
-selected_as told f g ask u o p old new (FeedTooLong uri limit) none loaded w = absurd w
-selected_as told f g ask u o p old new (TooManyFeeds limit) none loaded w = absurd w
-selected_as told f g ask u o p old new (TooManyInterfaces limit) none loaded w = absurd w
-selected_as told f g ask u o p old new (TooManyCandidates limit) none loaded w = absurd w
+selected_as : (stored : List DigestName) (told : Option Holding) (f g : ℕ) (ask : Ask) (u : List Interface) (o p : ℕ) (old new : Option (List ℕ)) (outcome : Outcome)
+    → ask.command ≡ None → IsLoaded stored told ask u → ChoosesFrom ask.root u o p old new outcome → SelectsOver stored ask told f g o p old new outcome
+selected_as stored told f g ask u o p old new Done none loaded (c, built, first, w) = (c, chooses_first stored told ask u c none loaded built first, w)
+selected_as stored told f g ask u o p old new (Unwritable place) none loaded (c, built, first, amiss, w) =
+    (c, chooses_first stored told ask u c none loaded built first, amiss, w)
+selected_as stored told f g ask u o p old new SinkFault none loaded (c, built, first, rose, w) = (c, chooses_first stored told ask u c none loaded built first, rose, w)
+selected_as stored told f g ask u o p old new Memory none loaded (inl same) = inl same
+selected_as stored told f g ask u o p old new Memory none loaded (inr (c, built, first, w)) = inr (c, chooses_first stored told ask u c none loaded built first, w)
+selected_as stored told f g ask u o p old new Unbuilt none loaded (built, w) = (record { universe = u; loaded = loaded; built = built }, w)
+selected_as stored told f g ask u o p old new (Usage index) none loaded w = absurd w
+selected_as stored told f g ask u o p old new (FeedRead uri) none loaded w = absurd w
+selected_as stored told f g ask u o p old new NoRootFeed none loaded w = absurd w
+selected_as stored told f g ask u o p old new (BadFeed uri fault) none loaded w = absurd w
+selected_as stored told f g ask u o p old new (FeedTooLong uri limit) none loaded w = absurd w
+selected_as stored told f g ask u o p old new (TooManyFeeds limit) none loaded w = absurd w
+selected_as stored told f g ask u o p old new (TooManyInterfaces limit) none loaded w = absurd w
+selected_as stored told f g ask u o p old new (NoFile name) none loaded w = absurd w
+selected_as stored told f g ask u o p old new (Overlap path) none loaded w = absurd w
+selected_as stored told f g ask u o p old new (Mismatch name found) none loaded w = absurd w
+selected_as stored told f g ask u o p old new (MissingTree name) none loaded w = absurd w
+selected_as stored told f g ask u o p old new (DamagedTree name found) none loaded w = absurd w
+selected_as stored told f g ask u o p old new (BadName path) none loaded w = absurd w
+selected_as stored told f g ask u o p old new (TreeTooLarge what limit) none loaded w = absurd w
+selected_as stored told f g ask u o p old new (StoreFault name) none loaded w = absurd w
+selected_as stored told f g ask u o p old new (Crowded tried) none loaded w = absurd w
+selected_as stored told f g ask u o p old new (TooManyCandidates limit) none loaded w = absurd w
 
 -- the choice from the universe that was loaded
-pub selected : (told : Option Holding) (f g : ℕ) (ask : Ask) (req : Requirement) (policy : Policy) (u : List Interface) (o p : ℕ) (old new : Option (List ℕ)) (outcome : Outcome)
-    → ask.command ≡ None → req ≡ requirement_of ask → policy ≡ ask.policy → Loads told req policy (names_of []) u → ChoosesFrom req.interface u o p old new outcome
-    → Selects ask told f g o p old new outcome
-selected told f g ask req policy u o p old new outcome none at_req at_policy loads chooses =
-    selected_as told f g ask u o p old new outcome none
-    (subst (λ q. Loads told (requirement_of ask) q (names_of []) u) at_policy (subst (λ r. Loads told r policy (names_of []) u) at_req loads))
+pub selected : (stored : List DigestName) (told : Option Holding) (f g : ℕ) (ask : Ask) (req : Requirement) (policy : Policy) (u : List Interface) (o p : ℕ) (old new : Option (List ℕ)) (outcome : Outcome)
+    → ask.command ≡ None → req ≡ requirement_of ask → policy ≡ ask.policy → Loads told req policy (names_of stored) u → ChoosesFrom req.interface u o p old new outcome
+    → SelectsOver stored ask told f g o p old new outcome
+selected stored told f g ask req policy u o p old new outcome none at_req at_policy loads chooses =
+    selected_as stored told f g ask u o p old new outcome none
+    (subst (λ q. Loads told (requirement_of ask) q (names_of stored) u) at_policy (subst (λ r. Loads told r policy (names_of stored) u) at_req loads))
     (subst (λ root. ChoosesFrom root u o p old new outcome) (ap (λ (r : Requirement). r.interface) at_req) chooses)
 
-refused_as : (told : Option Holding) (f g : ℕ) (ask : Ask) (o p : ℕ) (old new : Option (List ℕ)) (e : LoadFault)
-    → Refuses told f g (requirement_of ask) ask.policy (names_of []) e → new ≡ old → Selects ask told f g o p old new (outcome_of e)
-refused_as told f g ask o p old new (load.FeedRead uri) r w = (r, w)
-refused_as told f g ask o p old new load.NoRootFeed r w = (r, w)
-refused_as told f g ask o p old new (load.BadFeed uri fault) r w = (r, w)
-refused_as told f g ask o p old new (load.FeedTooLong uri limit) r w = (r, w)
-refused_as told f g ask o p old new (load.TooManyFeeds limit) r w = (r, w)
-refused_as told f g ask o p old new (load.TooManyInterfaces limit) r w = (r, w)
-refused_as told f g ask o p old new (load.TooManyCandidates limit) r w = (r, w)
-refused_as told f g ask o p old new load.Memory r w = inl w
+refused_as : (stored : List DigestName) (told : Option Holding) (f g : ℕ) (ask : Ask) (o p : ℕ) (old new : Option (List ℕ)) (e : LoadFault)
+    → Refuses told f g (requirement_of ask) ask.policy (names_of stored) e → new ≡ old → SelectsOver stored ask told f g o p old new (outcome_of e)
+refused_as stored told f g ask o p old new (load.FeedRead uri) r w = (r, w)
+refused_as stored told f g ask o p old new load.NoRootFeed r w = (r, w)
+refused_as stored told f g ask o p old new (load.BadFeed uri fault) r w = (r, w)
+refused_as stored told f g ask o p old new (load.FeedTooLong uri limit) r w = (r, w)
+refused_as stored told f g ask o p old new (load.TooManyFeeds limit) r w = (r, w)
+refused_as stored told f g ask o p old new (load.TooManyInterfaces limit) r w = (r, w)
+refused_as stored told f g ask o p old new (load.TooManyCandidates limit) r w = (r, w)
+refused_as stored told f g ask o p old new load.Memory r w = inl w
 
 -- the loading was refused
-pub refused_load : (told : Option Holding) (f g : ℕ) (ask : Ask) (req : Requirement) (policy : Policy) (o p : ℕ) (old new : Option (List ℕ)) (e : LoadFault) (outcome : Outcome)
-    → req ≡ requirement_of ask → policy ≡ ask.policy → Refuses told f g req policy (names_of []) e → new ≡ old → outcome ≡ outcome_of e
-    → Selects ask told f g o p old new outcome
-refused_load told f g ask req policy o p old new e outcome at_req at_policy r w at_outcome =
-    subst (λ x. Selects ask told f g o p old new x) (sym at_outcome)
-    (refused_as told f g ask o p old new e
-    (subst (λ q. Refuses told f g (requirement_of ask) q (names_of []) e) at_policy (subst (λ s. Refuses told f g s policy (names_of []) e) at_req r)) w)
+pub refused_load : (stored : List DigestName) (told : Option Holding) (f g : ℕ) (ask : Ask) (req : Requirement) (policy : Policy) (o p : ℕ) (old new : Option (List ℕ)) (e : LoadFault) (outcome : Outcome)
+    → req ≡ requirement_of ask → policy ≡ ask.policy → Refuses told f g req policy (names_of stored) e → new ≡ old → outcome ≡ outcome_of e
+    → SelectsOver stored ask told f g o p old new outcome
+refused_load stored told f g ask req policy o p old new e outcome at_req at_policy r w at_outcome =
+    subst (λ x. SelectsOver stored ask told f g o p old new x) (sym at_outcome)
+    (refused_as stored told f g ask o p old new e
+    (subst (λ q. Refuses told f g (requirement_of ask) q (names_of stored) e) at_policy (subst (λ s. Refuses told f g s policy (names_of stored) e) at_req r)) w)
 
 pub ruleset loading = (selected, refused_load)
+
+-- the names that are stored, and what is done over them
+pub selected_stored : (ask : Ask) (told : Option Holding) (f g : ℕ) (k : Shelving) (stored : List DigestName) (o p : ℕ) (old new : Option (List ℕ)) (outcome : Outcome)
+    → AreStored k stored → SelectsOver stored ask told f g o p old new outcome → Selects ask told f g k o p old new outcome
+selected_stored ask told f g k stored o p old new outcome are over = inr (stored, are, over)
+
+pub ruleset selecting = (selected_stored)

@@ -6,9 +6,11 @@ use Rattle.zi_outside.specs.Outside.{gained, GainsFront}
 use Rattle.zi_outside.specs.declared.sink.SinkFault.{SinkFault as Refusal}
 use Rattle.zi_outside.specs.declared.sink.SinkFault.TheVariants as fault
 use Rattle.zi_app.specs.declared.outcome.Outcome.{Outcome}
-use Rattle.zi_app.specs.declared.outcome.Outcome.TheVariants.{Done, Usage, FeedRead, NoRootFeed, BadFeed, FeedTooLong, TooManyFeeds, TooManyInterfaces, TooManyCandidates, Unwritable, SinkFault, Memory, Unbuilt}
+use Rattle.zi_app.specs.declared.outcome.Outcome.TheVariants.{Done, Usage, FeedRead, NoRootFeed, BadFeed, FeedTooLong, TooManyFeeds, TooManyInterfaces, TooManyCandidates, NoFile, Overlap, Mismatch, MissingTree, DamagedTree, BadName, TreeTooLarge, StoreFault, Crowded, Unwritable, SinkFault, Memory, Unbuilt}
 use Rattle.zi_universe.specs.declared.fault.BadFeed.{BadFeed as Fault}
 use Rattle.zi_universe.specs.declared.fault.BadFeed.TheVariants as bad
+use Rattle.zi_tree.specs.declared.change.TreeLimit.{TreeLimit}
+use Rattle.zi_tree.specs.declared.change.TreeLimit.TheVariants as limit
 use Rattle.zi_doc.specs.Kinds as documents
 use Rattle.zi_feed.specs.Faults as feeds
 
@@ -16,6 +18,12 @@ use Rattle.zi_feed.specs.Faults as feeds
 abbrev pub blamed : Fault → List ℕ
 blamed (bad.Doc kind place) = codes "document " ++ decimal (documents.number_of kind) ++ codes " at " ++ decimal place
 blamed (bad.Feed kind place) = codes "feed " ++ decimal (feeds.number kind) ++ codes " at " ++ decimal place
+
+-- what a tree has too much of
+abbrev pub measure_of : TreeLimit → List ℕ
+measure_of limit.Size = codes "size"
+measure_of limit.Nodes = codes "nodes"
+measure_of limit.Depth = codes "depth"
 
 abbrev pub text_of : Outcome → List ℕ
 text_of Done = []
@@ -27,6 +35,15 @@ text_of (FeedTooLong uri limit) = uri ++ codes " is longer than " ++ decimal lim
 text_of (TooManyFeeds limit) = codes "more than " ++ decimal limit ++ codes " feeds"
 text_of (TooManyInterfaces limit) = codes "more than " ++ decimal limit ++ codes " interfaces"
 text_of (TooManyCandidates limit) = codes "more than " ++ decimal limit ++ codes " candidates"
+text_of (NoFile name) = codes "no file " ++ name
+text_of (Overlap path) = path ++ codes " is already there"
+text_of (Mismatch name found) = codes "expected " ++ name ++ codes ", found " ++ found
+text_of (MissingTree name) = name ++ codes " is not stored"
+text_of (DamagedTree name found) = name ++ codes " is damaged: " ++ found
+text_of (BadName path) = codes "bad name " ++ path
+text_of (TreeTooLarge what limit) = codes "tree too large: " ++ measure_of what ++ codes " past " ++ decimal limit
+text_of (StoreFault name) = codes "store fault at " ++ name
+text_of (Crowded tried) = decimal tried ++ codes " temporary names taken"
 text_of (Unwritable place) = codes "cannot write element " ++ decimal place
 text_of SinkFault = codes "cannot write"
 text_of Memory = codes "out of memory"
@@ -46,6 +63,15 @@ code_of (FeedTooLong uri limit) = 68
 code_of (TooManyFeeds limit) = 69
 code_of (TooManyInterfaces limit) = 70
 code_of (TooManyCandidates limit) = 71
+code_of (NoFile name) = 75
+code_of (Overlap path) = 83
+code_of (Mismatch name found) = 85
+code_of (MissingTree name) = 86
+code_of (DamagedTree name found) = 87
+code_of (BadName path) = 88
+code_of (TreeTooLarge what limit) = 89
+code_of (StoreFault name) = 90
+code_of (Crowded tried) = 91
 code_of (Unwritable place) = 96
 code_of SinkFault = 93
 code_of Memory = 94

@@ -22,17 +22,26 @@ use Rattle.zi_app.specs.declared.outcome.Outcome.TheVariants.{Done, Usage, FeedR
 use Rattle.zi_app.specs.declared.help.TheConstants.{HELP, VERSION}
 use Rattle.zi_app.specs.Wanted.{requirement_of}
 use Rattle.zi_app.specs.Document.{document, IsAmiss}
+use Rattle.zi_digest.specs.declared.DigestName.{DigestName}
 use Rattle.zi_app.specs.Line.{line_of}
+use Rattle.zi_app.specs.Writing.{Writes}
+use Rattle.zi_app.specs.Shelves.{Shelving, FailsAt}
+use Rattle.zi_app.specs.StoreCommands.{AreStored, Lists, Manifests, Verifying}
+use Rattle.zi_app.specs.Adding.{Adds, KeepsStored}
+use Rattle.zi_shelf.specs.Names.{Name}
+use Rattle.zi_shelf.specs.Told.{Told}
+use Rattle.zi_store.specs.Keeping.{Keeps, is_reading}
+use Rattle.zi_words.specs.Store.{is_file}
 
 -- The choice.
 
--- the loading that the words ask for, over no store, gives these interfaces, the root first
-abbrev pub IsLoaded : Option Holding → Ask → List Interface → Type 0
-IsLoaded told ask universe = Loads told (requirement_of ask) ask.policy (names_of []) universe
+-- the loading that the words ask for, over a store with these names, gives these interfaces, the root first
+abbrev pub IsLoaded : List DigestName → Option Holding → Ask → List Interface → Type 0
+IsLoaded stored told ask universe = Loads told (requirement_of ask) ask.policy (names_of stored) universe
 
 -- the loading that the words ask for is refused with this fault; f and g are the feeds' counts of faults before and after
-abbrev pub IsRefused : Option Holding → ℕ → ℕ → Ask → LoadFault → Type 0
-IsRefused told f g ask fault = Refuses told f g (requirement_of ask) ask.policy (names_of []) fault
+abbrev pub IsRefused : List DigestName → Option Holding → ℕ → ℕ → Ask → LoadFault → Type 0
+IsRefused stored told f g ask fault = Refuses told f g (requirement_of ask) ask.policy (names_of stored) fault
 
 -- nothing stands in the list
 abbrev pub is_empty : {X : Type 0} → List X → Bool
@@ -61,77 +70,91 @@ IsFirst universe c = slice_get (root_candidates universe) 0 ≡ Some c
 
 -- c is the first candidate of the root, in the universe that the words ask for, which this program chooses from; and the choice
 -- of it, and of nothing else, is the best choice
-pub record Chooses (told : Option Holding) (ask : Ask) (c : Candidate) : Type 0 where
+pub record Chooses (stored : List DigestName) (told : Option Holding) (ask : Ask) (c : Candidate) : Type 0 where
   pub universe : List Interface
-  pub loaded : IsLoaded told ask universe
+  pub loaded : IsLoaded stored told ask universe
   pub built : is_built universe ≡ true
   pub first : IsFirst universe c
   pub best : IsBest universe (requirement_of ask) (first_alone universe)
 
 -- the universe that the words ask for is there, and this program can't choose from it
-pub record IsUnbuilt (told : Option Holding) (ask : Ask) : Type 0 where
+pub record IsUnbuilt (stored : List DigestName) (told : Option Holding) (ask : Ask) : Type 0 where
   pub universe : List Interface
-  pub loaded : IsLoaded told ask universe
+  pub loaded : IsLoaded stored told ask universe
   pub built : is_built universe ≡ false
 
 -- The outcomes. f and g are the feeds' counts of faults before and after, o and p those of the output, and old and new what was
 -- written to it.
 
 -- the loading was refused, and nothing was written
-abbrev pub Refused : Ask → Option Holding → ℕ → ℕ → Option (List ℕ) → Option (List ℕ) → LoadFault → Type 0
-Refused ask told f g old new fault = IsRefused told f g ask fault × (new ≡ old)
+abbrev pub Refused : List DigestName → Ask → Option Holding → ℕ → ℕ → Option (List ℕ) → Option (List ℕ) → LoadFault → Type 0
+Refused stored ask told f g old new fault = IsRefused stored told f g ask fault × (new ≡ old)
 
--- `select`
-abbrev pub Selects : Ask → Option Holding → ℕ → ℕ → ℕ → ℕ → Option (List ℕ) → Option (List ℕ) → Outcome → Type 0
+-- `select` over a store with these names
+abbrev pub SelectsOver : List DigestName → Ask → Option Holding → ℕ → ℕ → ℕ → ℕ → Option (List ℕ) → Option (List ℕ) → Outcome → Type 0
 -- c is chosen, and out gained its document
-Selects ask told f g o p old new Done = (c : Candidate) × Chooses told ask c × (new ≡ gained old (document ask.root c))
-Selects ask told f g o p old new (Usage index) = ⊥
-Selects ask told f g o p old new (FeedRead uri) = Refused ask told f g old new (load.FeedRead uri)
-Selects ask told f g o p old new NoRootFeed = Refused ask told f g old new load.NoRootFeed
-Selects ask told f g o p old new (BadFeed uri fault) = Refused ask told f g old new (load.BadFeed uri fault)
-Selects ask told f g o p old new (FeedTooLong uri limit) = Refused ask told f g old new (load.FeedTooLong uri limit)
-Selects ask told f g o p old new (TooManyFeeds limit) = Refused ask told f g old new (load.TooManyFeeds limit)
-Selects ask told f g o p old new (TooManyInterfaces limit) = Refused ask told f g old new (load.TooManyInterfaces limit)
-Selects ask told f g o p old new (TooManyCandidates limit) = Refused ask told f g old new (load.TooManyCandidates limit)
--- the document of the chosen can't be written: it holds a character that XML can't carry
-Selects ask told f g o p old new (Unwritable place) = (c : Candidate) × Chooses told ask c × IsAmiss ask.root c place × (new ≡ old)
-Selects ask told f g o p old new SinkFault = (c : Candidate) × Chooses told ask c × Rose o p × GainsFront old (document ask.root c) new
-Selects ask told f g o p old new Memory = (new ≡ old) ⊎ ((c : Candidate) × Chooses told ask c × GainsFront old (document ask.root c) new)
-Selects ask told f g o p old new Unbuilt = IsUnbuilt told ask × (new ≡ old)
+SelectsOver stored ask told f g o p old new Done = (c : Candidate) × Chooses stored told ask c × (new ≡ gained old (document ask.root c))
+SelectsOver stored ask told f g o p old new (FeedRead uri) = Refused stored ask told f g old new (load.FeedRead uri)
+SelectsOver stored ask told f g o p old new NoRootFeed = Refused stored ask told f g old new load.NoRootFeed
+SelectsOver stored ask told f g o p old new (BadFeed uri fault) = Refused stored ask told f g old new (load.BadFeed uri fault)
+SelectsOver stored ask told f g o p old new (FeedTooLong uri limit) = Refused stored ask told f g old new (load.FeedTooLong uri limit)
+SelectsOver stored ask told f g o p old new (TooManyFeeds limit) = Refused stored ask told f g old new (load.TooManyFeeds limit)
+SelectsOver stored ask told f g o p old new (TooManyInterfaces limit) = Refused stored ask told f g old new (load.TooManyInterfaces limit)
+SelectsOver stored ask told f g o p old new (TooManyCandidates limit) = Refused stored ask told f g old new (load.TooManyCandidates limit)
+-- c is chosen, and its document can't be written
+SelectsOver stored ask told f g o p old new (Unwritable place) = (c : Candidate) × Chooses stored told ask c × IsAmiss ask.root c place × (new ≡ old)
+-- the output failed: a front of the document is there
+SelectsOver stored ask told f g o p old new SinkFault = (c : Candidate) × Chooses stored told ask c × Rose o p × GainsFront old (document ask.root c) new
+-- memory was refused: nothing is there, or a front of the document
+SelectsOver stored ask told f g o p old new Memory = (new ≡ old) ⊎ ((c : Candidate) × Chooses stored told ask c × GainsFront old (document ask.root c) new)
+-- this program can't choose from that universe
+SelectsOver stored ask told f g o p old new Unbuilt = IsUnbuilt stored told ask × (new ≡ old)
+SelectsOver stored ask told f g o p old new other = ⊥
 
--- a text is written
-abbrev pub Writes : List ℕ → ℕ → ℕ → Option (List ℕ) → Option (List ℕ) → Outcome → Type 0
-Writes text o p old new Done = new ≡ gained old text
-Writes text o p old new SinkFault = Rose o p × GainsFront old text new
-Writes text o p old new Memory = GainsFront old text new
-Writes text o p old new other = ⊥
+-- `select`: the names in the store are found out, which call no tree's name, and then it is done over these
+abbrev pub Selects : Ask → Option Holding → ℕ → ℕ → Shelving → ℕ → ℕ → Option (List ℕ) → Option (List ℕ) → Outcome → Type 0
+Selects ask told f g k o p old new outcome =
+    FailsAt [] k old new outcome ⊎ ((stored : List DigestName) × AreStored k stored × SelectsOver stored ask told f g o p old new outcome)
 
 -- what can't be done yet: nothing is written
 abbrev pub Waits : Option (List ℕ) → Option (List ℕ) → Outcome → Type 0
 Waits old new Unbuilt = new ≡ old
 Waits old new other = ⊥
 
--- What comes of a request. Proofs and the commands on the store aren't built yet.
-abbrev pub Answers : Request → Option Holding → ℕ → ℕ → ℕ → ℕ → Option (List ℕ) → Option (List ℕ) → Outcome → Type 0
-Answers (request.Select ask false) told f g o p old new outcome = Selects ask told f g o p old new outcome
-Answers (request.Select ask true) told f g o p old new outcome = Waits old new outcome
-Answers (request.Manifest algorithm name) told f g o p old new outcome = Waits old new outcome
-Answers (request.Add name files) told f g o p old new outcome = Waits old new outcome
-Answers (request.Verify name) told f g o p old new outcome = Waits old new outcome
-Answers request.Names told f g o p old new outcome = Waits old new outcome
-Answers request.Help told f g o p old new outcome = Writes HELP.now o p old new outcome
-Answers request.Version told f g o p old new outcome = Writes VERSION.now o p old new outcome
+-- What comes of a request. Proofs aren't built yet.
+abbrev pub Answers : Request → Option Holding → ℕ → ℕ → Shelving → ℕ → ℕ → Option (List ℕ) → Option (List ℕ) → Outcome → Type 0
+Answers (request.Select ask false) told f g k o p old new outcome = Selects ask told f g k o p old new outcome
+Answers (request.Select ask true) told f g k o p old new outcome = Waits old new outcome
+Answers (request.Manifest algorithm name) told f g k o p old new outcome = Manifests algorithm name k o p old new outcome
+Answers (request.Add name files) told f g k o p old new outcome =
+    Adds name files told f g k.honest k.told k.then_told k.faults k.then_faults o p old new outcome
+Answers (request.Verify name) told f g k o p old new outcome = Verifying name k o p old new outcome
+Answers request.Names told f g k o p old new outcome = Lists k o p old new outcome
+Answers request.Help told f g k o p old new outcome = Writes HELP.now o p old new outcome
+Answers request.Version told f g k o p old new outcome = Writes VERSION.now o p old new outcome
 
 -- What comes of any words: those that aren't right are refused, and nothing is written.
-abbrev pub Runs : List (List ℕ) → Option Holding → ℕ → ℕ → ℕ → ℕ → Option (List ℕ) → Option (List ℕ) → Outcome → Type 0
-Runs words told f g o p old new (Usage index) = (¬ AreRight words) × StopsAt AreRight words index × (new ≡ old)
-Runs words told f g o p old new Memory = (new ≡ old) ⊎ ((r : Request) × Right words r × Answers r told f g o p old new Memory)
-Runs words told f g o p old new outcome = (r : Request) × Right words r × Answers r told f g o p old new outcome
+abbrev pub Runs : List (List ℕ) → Option Holding → ℕ → ℕ → Shelving → ℕ → ℕ → Option (List ℕ) → Option (List ℕ) → Outcome → Type 0
+Runs words told f g k o p old new (Usage index) = (¬ AreRight words) × StopsAt AreRight words index × (new ≡ old)
+Runs words told f g k o p old new Memory = (new ≡ old) ⊎ ((r : Request) × Right words r × Answers r told f g k o p old new Memory)
+Runs words told f g k o p old new outcome = (r : Request) × Right words r × Answers r told f g k o p old new outcome
 
--- the program needs no command of the root
-abbrev pub NeedsNoCommand : Request → Type 0
-NeedsNoCommand (request.Select ask proof) = ask.command ≡ None
-NeedsNoCommand other = Unit {0}
+-- What a request leaves of the shelf: an adding keeps what stands under the digest names, but for that of its own, which it may add;
+-- every other call reads alone.
+abbrev pub Leaves : Request → (old_honest new_honest : Type 0) → (old_told new_told : Option Told) → (old_faults new_faults : ℕ) → (old_sure new_sure : Type 0) → (old_place new_place : Name) → (old_plan new_plan : List ℕ) → Type 0
+Leaves (request.Add name files) h i s t f g c d p q l m = KeepsStored h name s t
+Leaves other h i s t f g c d p q l m = Keeps is_reading h i s t f g c d p q l m
+
+-- The same of any words: those that ask for an adding name what it may add.
+abbrev pub LeavesShelf : List (List ℕ) → (old_honest new_honest : Type 0) → (old_told new_told : Option Told) → (old_faults new_faults : ℕ) → (old_sure new_sure : Type 0) → (old_place new_place : Name) → (old_plan new_plan : List ℕ) → Type 0
+LeavesShelf words h i s t f g c d p q l m =
+    Keeps is_reading h i s t f g c d p q l m ⊎ ((name : DigestName) × (files : List (List ℕ)) × Right words (request.Add name files) × KeepsStored h name s t)
+
+-- the program needs no command of the root, and each file goes into a tree under a name
+abbrev pub IsInForm : Request → Type 0
+IsInForm (request.Select ask proof) = ask.command ≡ None
+IsInForm (request.Add name files) = list_all is_file files ≡ true
+IsInForm other = Unit {0}
 
 -- What comes of words that stand before one that isn't text: as many of them as right words may begin with are counted.
 abbrev pub Stops : List (List ℕ) → Outcome → Type 0

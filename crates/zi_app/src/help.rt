@@ -6,6 +6,17 @@ pub const HELP: &str = "zi reads Zero Install feeds and selects the implementati
 zi select [options] ROOT
     Writes the selections document of the program whose interface has the address ROOT:
     a web address, or a path that begins with /. --no-command must stand.
+zi manifest ALGORITHM NAME
+    Writes the manifest and the digest of the tree that the store has under NAME.
+    ALGORITHM is sha1new, sha256 or sha256new.
+zi store add DIGEST FILE..
+    Adds a tree of these files, each under the last part of its path, if DIGEST is its
+    digest. Writes stored, or present where the store has it already.
+zi store verify DIGEST
+    Writes sound where the tree of that digest in the store has it, and otherwise how the
+    manifest that stands in it differs: in which line, not at all, or that none stands there.
+zi store list
+    Writes the digests that the store has.
 zi --help
     Writes this text.
 zi --version

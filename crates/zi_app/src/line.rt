@@ -1,11 +1,13 @@
 ghost use Rattle.std.specs.Prelude.{◌≡◌, ◌≤◌, ◌<◌, ◌+◌, [], ◌∷◌, ◌++◌, codes};
 ghost use Rattle.std.specs.Fmt.{decimal};
 ghost use Rattle.zi_feed.specs.Faults.{number};
-ghost use Rattle.zi_app.specs.Line.{PutsAll, FailsWhereRose, line_of, blamed};
+ghost use Rattle.zi_app.specs.Line.{PutsAll, FailsWhereRose, line_of, blamed, measure_of};
 
 use crate::Outcome;
 use zi_feed::FeedKind;
 use zi_outside::{Sink, SinkFault};
+use zi_text::Text;
+use zi_tree::TreeLimit;
 use zi_universe::BadFeed;
 
 // Two pieces, one behind the other.
@@ -76,9 +78,9 @@ fn put_behind<E: Sink>(a: &[u8], n: u64, err: &mut E) -> Result<(), SinkFault>
     }
 }
 
-// A number between two pieces.
+/// A number between two pieces.
 #[tactic(auto, using(crate::proofs::LineLemmas::pieces))]
-fn put_around<E: Sink>(a: &[u8], n: u64, b: &[u8], err: &mut E) -> Result<(), SinkFault>
+pub fn put_around<E: Sink>(a: &[u8], n: u64, b: &[u8], err: &mut E) -> Result<(), SinkFault>
     ensures puts { PutsAll (E.written err.old) (a.now ++ decimal n ++ b.now) result (E.written err.new) }
     ensures count { E.faults err.old ≤ E.faults err.new }
     ensures failed { FailsWhereRose (E.faults err.old) result (E.faults err.new) }
@@ -187,6 +189,38 @@ fn put_limit<E: Sink>(limit: u64, what: &[u8], err: &mut E) -> Result<(), SinkFa
     put_around(b"zi: more than ", limit, what, err)
 }
 
+// Two pieces with a name behind each, and the end of the line.
+#[tactic(auto, using(crate::proofs::LineLemmas::pieces))]
+fn put_names<E: Sink>(
+    a: &[u8],
+    name: &Text,
+    b: &[u8],
+    found: &Text,
+    err: &mut E,
+) -> Result<(), SinkFault>
+    ensures puts { PutsAll (E.written err.old) ((a.now ++ name.now) ++ (b.now ++ found.now ++ codes "\n")) result (E.written err.new) }
+    ensures count { E.faults err.old ≤ E.faults err.new }
+    ensures failed { FailsWhereRose (E.faults err.old) result (E.faults err.new) }
+{
+    match put_two(a, name.as_str().as_bytes(), err) {
+        Ok(()) => put_three(b, found.as_str().as_bytes(), b"\n", err),
+        Err(e) => Err(e),
+    }
+}
+
+// The line of a tree that is too large.
+fn put_measure<E: Sink>(what: TreeLimit, limit: u64, err: &mut E) -> Result<(), SinkFault>
+    ensures puts { PutsAll (E.written err.old) ((codes "zi: tree too large: " ++ measure_of what) ++ (codes " past " ++ decimal limit ++ codes "\n")) result (E.written err.new) }
+    ensures count { E.faults err.old ≤ E.faults err.new }
+    ensures failed { FailsWhereRose (E.faults err.old) result (E.faults err.new) }
+{
+    match what {
+        TreeLimit::Size => put_around(b"zi: tree too large: size past ", limit, b"\n", err),
+        TreeLimit::Nodes => put_around(b"zi: tree too large: nodes past ", limit, b"\n", err),
+        TreeLimit::Depth => put_around(b"zi: tree too large: depth past ", limit, b"\n", err),
+    }
+}
+
 /// Writes the line of an outcome.
 pub fn tell<E: Sink>(outcome: &Outcome, err: &mut E) -> Result<(), SinkFault>
     ensures puts { PutsAll (E.written err.old) (line_of outcome.now) result (E.written err.new) }
@@ -211,6 +245,33 @@ pub fn tell<E: Sink>(outcome: &Outcome, err: &mut E) -> Result<(), SinkFault>
         Outcome::TooManyFeeds { limit } => put_limit(*limit, b" feeds\n", err),
         Outcome::TooManyInterfaces { limit } => put_limit(*limit, b" interfaces\n", err),
         Outcome::TooManyCandidates { limit } => put_limit(*limit, b" candidates\n", err),
+        Outcome::NoFile { name } => {
+            put_three(b"zi: no file ", name.as_str().as_bytes(), b"\n", err)
+        }
+        Outcome::Overlap { path } => {
+            let path = path.as_str().as_bytes();
+            put_three(b"zi: ", path, b" is already there\n", err)
+        }
+        Outcome::Mismatch { name, found } => {
+            put_names(b"zi: expected ", name, b", found ", found, err)
+        }
+        Outcome::MissingTree { name } => {
+            let name = name.as_str().as_bytes();
+            put_three(b"zi: ", name, b" is not stored\n", err)
+        }
+        Outcome::DamagedTree { name, found } => {
+            put_names(b"zi: ", name, b" is damaged: ", found, err)
+        }
+        Outcome::BadName { path } => {
+            put_three(b"zi: bad name ", path.as_str().as_bytes(), b"\n", err)
+        }
+        Outcome::TreeTooLarge { what, limit } => { put_measure(*what, *limit, err) }
+        Outcome::StoreFault { name } => {
+            put_three(b"zi: store fault at ", name.as_str().as_bytes(), b"\n", err)
+        }
+        Outcome::Crowded { tried } => {
+            put_around(b"zi: ", u64::from(*tried), b" temporary names taken\n", err)
+        }
         Outcome::Unwritable { place } => {
             put_around(b"zi: cannot write element ", *place, b"\n", err)
         }

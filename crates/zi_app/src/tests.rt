@@ -3,7 +3,9 @@ use std::alloc::Global;
 use std::process::Abort;
 use std::test::Fail;
 use zi_outside::{MemoryFeeds, MemorySink, Vars};
-use zi_text::{List, Text};
+use zi_shelf::MemoryShelf;
+use zi_text::{Bytes, List, Text};
+use zi_tree::{RelPath, Tree, TreeNode};
 
 const ROOT: &str = "/feeds/hello.xml";
 
@@ -32,11 +34,12 @@ fn fed(alloc: Global, content: &str, fail: &[u32]) -> Result<MemoryFeeds, Fail> 
     Ok(feeds)
 }
 
-// The status, the output and the errors of a call.
-fn called(
+// The status, the output and the errors of a call over this store.
+fn called_over(
     alloc: Global,
     all: &[&str],
     feeds: &mut MemoryFeeds,
+    shelf: &mut MemoryShelf,
     fail_out: &[u32],
 ) -> Result<(u8, MemorySink, MemorySink), Fail> {
     let words = texts(alloc, all)?;
@@ -44,8 +47,27 @@ fn called(
     let mut out = MemorySink::new(alloc);
     out.fail_at(fail_out)?;
     let mut err = MemorySink::new(alloc);
-    let outcome = run(alloc, words.as_slice(), &vars, feeds, &mut out, &mut err);
+    let outcome = run(
+        alloc,
+        words.as_slice(),
+        &vars,
+        feeds,
+        shelf,
+        &mut out,
+        &mut err,
+    );
     Ok((outcome.code(), out, err))
+}
+
+// The same over an empty store.
+fn called(
+    alloc: Global,
+    all: &[&str],
+    feeds: &mut MemoryFeeds,
+    fail_out: &[u32],
+) -> Result<(u8, MemorySink, MemorySink), Fail> {
+    let mut shelf = MemoryShelf::new(alloc);
+    called_over(alloc, all, feeds, &mut shelf, fail_out)
 }
 
 // What is written for a feed of this content: the attributes of the chosen behind the interface, as they stand in the document.
@@ -185,13 +207,6 @@ fn words_have_their_answers(rt: HostRuntime) -> Result<(), Fail> {
     let (code, _out, err) = called(rt.alloc(), ["select"].as_slice(), &mut feeds, [].as_slice())?;
     assert_eq!(rt; code, 64);
     assert_eq!(rt; err.bytes().as_slice(), b"zi: usage at word 1\n".as_slice());
-    let (code, _out, _err) = called(
-        rt.alloc(),
-        ["store", "list"].as_slice(),
-        &mut feeds,
-        [].as_slice(),
-    )?;
-    assert_eq!(rt; code, 95);
     let front = texts(rt.alloc(), ["select", "--rate", "/a"].as_slice())?;
     let mut err = MemorySink::new(rt.alloc());
     let outcome = refuse(rt.alloc(), front.as_slice(), &mut err);
@@ -205,4 +220,204 @@ fn addresses_name_files(rt: HostRuntime) -> Result<(), Fail> {
     let name = feed_file(rt.alloc(), "http://example.com/hello.xml")?;
     assert_eq!(rt; name.as_str(), "http%3A%2F%2Fexample.com%2Fhello.xml");
     Ok(())
+}
+
+const EMPTY: &str = "sha256new_4OYMIQUY7QOBJGX36TEJS35ZEQT24QPEMSNZGTFESWMRW6CSXBKQ";
+
+const FOLDERS: &str = "sha256new_PE3A7RXTVPRB6WRMULIOWLOGHJMINTL3JIPJPYLH4H3HXEB3UN3A";
+
+const OTHER: &str = "sha256new_AAAAAAAAAAAAAAAAAAAAAAAAAAAAAAAAAAAAAAAAAAAAAAAAAAAA";
+
+// Puts a file with these bytes at a path of a tree, or a folder where there are none.
+fn put_node(alloc: Global, tree: &mut Tree, path: &str, bytes: Option<&str>) -> Result<(), Fail> {
+    let path = RelPath::parse(alloc, path)?.ok_or("no path")?;
+    let node = match bytes {
+        None => TreeNode::Folder(Tree::new(alloc)),
+        Some(bytes) => TreeNode::File {
+            bytes: Bytes::from_vec(Vec::from_slice(alloc, bytes.as_bytes())?),
+            exec: false,
+            mtime: 0,
+        },
+    };
+    tree.insert(alloc, &path, node)?;
+    Ok(())
+}
+
+// The status, the output and the errors of a call over a store that holds one tree, whose calls of these numbers fail.
+fn told_of(
+    alloc: Global,
+    all: &[&str],
+    name: &str,
+    nodes: &[(&str, Option<&str>)],
+    fail: &[u32],
+) -> Result<(u8, MemorySink, MemorySink), Fail> {
+    let mut tree = Tree::new(alloc);
+    for (path, bytes) in nodes {
+        put_node(alloc, &mut tree, path, *bytes)?;
+    }
+    let mut shelf = MemoryShelf::new(alloc);
+    shelf.place(name, tree)?;
+    shelf.fail_at(fail)?;
+    let mut feeds = MemoryFeeds::new(alloc);
+    called_over(alloc, all, &mut feeds, &mut shelf, [].as_slice())
+}
+
+#[test]
+fn a_manifest_is_written(rt: HostRuntime) -> Result<(), Fail> {
+    let rows = [
+        (
+            "sha1new",
+            "sha1new=da39a3ee5e6b4b0d3255bfef95601890afd80709\n",
+        ),
+        (
+            "sha256",
+            "sha256=e3b0c44298fc1c149afbf4c8996fb92427ae41e4649b934ca495991b7852b855\n",
+        ),
+        (
+            "sha256new",
+            "sha256new_4OYMIQUY7QOBJGX36TEJS35ZEQT24QPEMSNZGTFESWMRW6CSXBKQ\n",
+        ),
+    ];
+    for (algorithm, text) in rows {
+        let all = ["manifest", algorithm, "t"];
+        let (code, out, _err) = told_of(
+            rt.alloc(),
+            all.as_slice(),
+            "t",
+            [].as_slice(),
+            [].as_slice(),
+        )?;
+        assert_eq!(rt; code, 0);
+        assert_eq!(rt; out.bytes().as_slice(), text.as_bytes());
+    }
+    Ok(())
+}
+
+#[test]
+fn a_manifest_is_refused(rt: HostRuntime) -> Result<(), Fail> {
+    let deep =
+        "d/d/d/d/d/d/d/d/d/d/d/d/d/d/d/d/d/d/d/d/d/d/d/d/d/d/d/d/d/d/d/d/d/d/d/d/d/d/d/d/d/d/d/d/d/d/d/d/d/d/d/d/d/d/d/d/d/d/d/d/d/d/d/d/d";
+    let rows = [
+        ("u", "b", 1, 90, "zi: store fault at u\n"),
+        ("u", "b", 0, 86, "zi: u is not stored\n"),
+        ("t", "d/.manifest", 0, 88, "zi: bad name d/.manifest\n"),
+        ("t", deep, 0, 89, "zi: tree too large: depth past 64\n"),
+    ];
+    for (name, path, fail, code, line) in rows {
+        let all = ["manifest", "sha256", name];
+        let nodes = [("a", Some("")), (path, None)];
+        let (status, out, err) = told_of(
+            rt.alloc(),
+            all.as_slice(),
+            "t",
+            nodes.as_slice(),
+            [fail].as_slice(),
+        )?;
+        assert_eq!(rt; status, code);
+        assert_eq!(rt; out.bytes().len(), 0);
+        assert_eq!(rt; err.bytes().as_slice(), line.as_bytes());
+    }
+    Ok(())
+}
+
+// What is said of a damaged tree of two folders with this file `.manifest`, or none.
+fn is_damaged(
+    rt: &impl Abort,
+    alloc: Global,
+    own: Option<&str>,
+    text: &str,
+    line: &str,
+) -> Result<(), Fail> {
+    let mut tree = Tree::new(alloc);
+    put_node(alloc, &mut tree, "a", None)?;
+    put_node(alloc, &mut tree, "b", None)?;
+    if own.is_some() {
+        put_node(alloc, &mut tree, ".manifest", own)?;
+    }
+    let mut shelf = MemoryShelf::new(alloc);
+    shelf.place(OTHER, tree)?;
+    let mut feeds = MemoryFeeds::new(alloc);
+    let all = ["store", "verify", OTHER];
+    let (code, out, err) = called_over(
+        alloc,
+        all.as_slice(),
+        &mut feeds,
+        &mut shelf,
+        [].as_slice(),
+    )?;
+    assert_eq!(rt; code, 87);
+    assert_eq!(rt; out.bytes().as_slice(), text.as_bytes());
+    assert_eq!(rt; err.bytes().as_slice(), line.as_bytes());
+    Ok(())
+}
+
+#[test]
+fn trees_are_verified(rt: HostRuntime) -> Result<(), Fail> {
+    let (code, out, _err) = told_of(
+        rt.alloc(),
+        ["store", "verify", EMPTY].as_slice(),
+        EMPTY,
+        [].as_slice(),
+        [].as_slice(),
+    )?;
+    assert_eq!(rt; code, 0);
+    assert_eq!(rt; out.bytes().as_slice(), b"sound\n".as_slice());
+    let damaged = format!(in rt.alloc(); "zi: {OTHER} is damaged: {FOLDERS}\n")?;
+    let damaged = damaged.as_str();
+    is_damaged(&rt, rt.alloc(), None, "no manifest\n", damaged)?;
+    is_damaged(
+        &rt,
+        rt.alloc(),
+        Some("D /a\nD /c\n"),
+        "manifest line 2\n",
+        damaged,
+    )?;
+    is_damaged(
+        &rt,
+        rt.alloc(),
+        Some("D /a\nD /b\n"),
+        "manifest agrees\n",
+        damaged,
+    )
+}
+
+#[test]
+fn names_are_listed(rt: HostRuntime) -> Result<(), Fail> {
+    let mut shelf = MemoryShelf::new(rt.alloc());
+    for name in [FOLDERS, "tmp-0", OTHER, EMPTY] {
+        shelf.place(name, Tree::new(rt.alloc()))?;
+    }
+    let mut feeds = MemoryFeeds::new(rt.alloc());
+    let all = ["store", "list"];
+    let (code, out, _err) = called_over(
+        rt.alloc(),
+        all.as_slice(),
+        &mut feeds,
+        &mut shelf,
+        [].as_slice(),
+    )?;
+    assert_eq!(rt; code, 0);
+    let text = format!(in rt.alloc(); "{EMPTY}\n{OTHER}\n{FOLDERS}\n")?;
+    assert_eq!(rt; out.bytes().as_slice(), text.as_bytes());
+    Ok(())
+}
+
+// The line of these words over a store that fails at its first call.
+fn fails(rt: &impl Abort, alloc: Global, all: &[&str], line: &str) -> Result<(), Fail> {
+    let (code, out, err) = told_of(alloc, all, EMPTY, [].as_slice(), [1].as_slice())?;
+    assert_eq!(rt; code, 90);
+    assert_eq!(rt; out.bytes().len(), 0);
+    assert_eq!(rt; err.bytes().as_slice(), line.as_bytes());
+    Ok(())
+}
+
+#[test]
+fn a_store_that_fails_is_told(rt: HostRuntime) -> Result<(), Fail> {
+    let all = "zi: store fault at \n";
+    fails(&rt, rt.alloc(), ["store", "list"].as_slice(), all)?;
+    let select = ["select", "--no-command", ROOT];
+    fails(&rt, rt.alloc(), select.as_slice(), all)?;
+    let line = format!(in rt.alloc(); "zi: store fault at {EMPTY}\n")?;
+    let verify = ["store", "verify", EMPTY];
+    fails(&rt, rt.alloc(), verify.as_slice(), line.as_str())
 }

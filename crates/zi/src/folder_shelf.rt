@@ -1,0 +1,249 @@
+//! A shelf in a folder: each top entry is a folder in it.
+ghost use Rattle.std.specs.Prelude.{◌≡◌, ◌≤◌, List, [], None, IfErr, IfOk, Ok, vec_len};
+ghost use Rattle.zi_shelf.specs.Told.{HasCause, Rose, plain_reply, Told};
+ghost use Rattle.zi_shelf.specs.declared.shelf.ShelfFault.TheVariants.{Failed as HasFailed, Memory as NoMemory};
+
+use crate::folder_calls::{
+    append, finish_file, is_folder, is_there, link_target, list_entries, list_names, make_folder,
+    make_link, make_top, read_piece, remove, rename, settle, sync_folder,
+};
+use crate::trouble::Trouble;
+use zi_shelf::{Listed, Moved, Shelf, ShelfFault, TopMade};
+use zi_text::{List, Memory, Text};
+use zi_tree::RelPath;
+
+/// A shelf in a folder, which doesn't tell what it holds. The folder is made when the first top entry is.
+///
+/// A top entry that is made or renamed is under a lock on the folder, so that no other launcher's new entry is written over.
+/// Times of change are whole seconds since 1970, rounded down; a file is executable where one of its three bits says so.
+#[derive(Drop)]
+pub struct FolderShelf {
+    rt: HostRuntime,
+    root: Text,
+    faults: u64,
+}
+
+impl FolderShelf {
+    /// The shelf in this folder, without a fault.
+    pub fn new(rt: HostRuntime, root: Text) -> FolderShelf {
+        FolderShelf {
+            rt,
+            root,
+            faults: 0,
+        }
+    }
+
+    // The path of a top entry.
+    fn top_path(&self, top: &str) -> Result<String, Memory> {
+        let mut path = String::from_str(self.rt.alloc(), self.root.as_str())?;
+        path.push('/')?;
+        path.push_str(top)?;
+        Ok(path)
+    }
+
+    // The path of an entry in a top entry. All on the way is folders, and no links to such.
+    fn way_to(&self, top: &str, inside: &RelPath) -> Result<String, Trouble> {
+        let mut path = self.top_path(top)?;
+        for part in inside.parts().as_slice() {
+            if !is_folder(&self.rt, path.as_str())? {
+                return Err(Trouble::Failed);
+            }
+            path.push('/')?;
+            path.push_str(part.as_str())?;
+        }
+        Ok(path)
+    }
+
+    // The entries of a folder in a top entry.
+    fn listed(&self, top: &str, inside: &RelPath) -> Result<Listed, Trouble> {
+        let top_path = self.top_path(top)?;
+        if !is_there(&self.rt, top_path.as_str())? {
+            return Ok(Listed::Absent);
+        }
+        let path = self.way_to(top, inside)?;
+        Ok(Listed::Entries(list_entries(&self.rt, path.as_str())?))
+    }
+
+    // Bytes of a file in a top entry.
+    fn piece(&self, top: &str, inside: &RelPath, offset: u64, max: u32) -> Result<Vec<u8>, Trouble>
+        ensures { IfOk result (λ piece. vec_len piece ≤ max) }
+    {
+        let path = self.way_to(top, inside)?;
+        read_piece(&self.rt, path.as_str(), offset, max)
+    }
+
+    // The text of a link in a top entry.
+    fn link(&self, top: &str, inside: &RelPath) -> Result<Text, Trouble> {
+        let path = self.way_to(top, inside)?;
+        link_target(&self.rt, path.as_str())
+    }
+
+    // A new top entry.
+    fn new_top(&self, name: &str) -> Result<TopMade, Trouble> {
+        let path = self.top_path(name)?;
+        make_top(&self.rt, self.root.as_str(), path.as_str())
+    }
+
+    // A new folder in a top entry.
+    fn new_folder(&self, top: &str, inside: &RelPath) -> Result<(), Trouble> {
+        let path = self.way_to(top, inside)?;
+        make_folder(&self.rt, path.as_str())
+    }
+
+    // More bytes of a file in a top entry.
+    fn more(&self, top: &str, inside: &RelPath, bytes: &[u8]) -> Result<(), Trouble> {
+        let path = self.way_to(top, inside)?;
+        append(&self.rt, path.as_str(), bytes)
+    }
+
+    // The end of a file in a top entry.
+    fn finished(&self, top: &str, inside: &RelPath, exec: bool, mtime: i64) -> Result<(), Trouble> {
+        let path = self.way_to(top, inside)?;
+        finish_file(&self.rt, path.as_str(), exec, mtime)
+    }
+
+    // A new link in a top entry.
+    fn new_link(&self, top: &str, inside: &RelPath, target: &str) -> Result<(), Trouble> {
+        let path = self.way_to(top, inside)?;
+        make_link(&self.rt, target, path.as_str())
+    }
+
+    // A top entry made to last.
+    fn settled(&self, top: &str) -> Result<(), Trouble> {
+        let path = self.top_path(top)?;
+        settle(&self.rt, path.as_str())
+    }
+
+    // A top entry under another name.
+    fn renamed(&self, from: &str, to: &str) -> Result<Moved, Trouble> {
+        let from = self.top_path(from)?;
+        let to = self.top_path(to)?;
+        rename(&self.rt, self.root.as_str(), from.as_str(), to.as_str())
+    }
+
+    // No top entry of this name.
+    fn removed(&self, name: &str) -> Result<(), Trouble> {
+        let path = self.top_path(name)?;
+        remove(&self.rt, path.as_str())
+    }
+
+    // Counts a failure.
+    fn answer<T>(&mut self, outcome: Result<T, Trouble>) -> Result<T, ShelfFault>
+        ensures cause { HasCause self.old.faults self.new.faults (plain_reply result) }
+        ensures same { IfOk result (λ value. (outcome ≡ Ok value) × (self.new.faults ≡ self.old.faults)) }
+        ensures root { self.new.root ≡ self.old.root }
+    {
+        match outcome {
+            Ok(value) => Ok(value),
+            Err(Trouble::Memory) => Err(ShelfFault::Memory),
+            Err(Trouble::Failed) => {
+                self.faults = self.faults.saturating_add(1);
+                Err(ShelfFault::Failed)
+            }
+        }
+    }
+}
+
+impl Shelf for FolderShelf {
+    ghost told = { λ s. None };
+
+    ghost honest = { λ s. ⊥ };
+
+    ghost faults = { λ s. s.faults };
+
+    ghost sure = { λ s. ⊥ };
+
+    ghost place = { λ s. s.root };
+
+    ghost plan = { λ s. [] };
+
+    ghost sure_is = { λ s no. absurd no };
+
+    ghost holds_trees = { λ s no. absurd no };
+
+    fn root(&self) -> &str {
+        self.root.as_str()
+    }
+
+    fn names(&mut self) -> Result<List<Text>, ShelfFault> {
+        let found = list_names(&self.rt, self.root.as_str());
+        self.answer(found)
+    }
+
+    fn entries(&mut self, top: &str, path: &RelPath) -> Result<Listed, ShelfFault> {
+        let found = self.listed(top, path);
+        self.answer(found)
+    }
+
+    fn read(
+        &mut self,
+        top: &str,
+        path: &RelPath,
+        offset: u64,
+        max: u32,
+        into: &mut Vec<u8>,
+    ) -> Result<(), ShelfFault> {
+        let found = self.piece(top, path, offset, max);
+        let piece = self.answer(found)?;
+        match into.extend_from_slice(piece.as_slice()) {
+            Ok(()) => Ok(()),
+            Err(_) => Err(ShelfFault::Memory),
+        }
+    }
+
+    fn target(&mut self, top: &str, path: &RelPath) -> Result<Text, ShelfFault> {
+        let found = self.link(top, path);
+        self.answer(found)
+    }
+
+    fn make_top(&mut self, name: &str) -> Result<TopMade, ShelfFault> {
+        let made = self.new_top(name);
+        self.answer(made)
+    }
+
+    fn make_folder(&mut self, top: &str, path: &RelPath) -> Result<(), ShelfFault> {
+        let made = self.new_folder(top, path);
+        self.answer(made)
+    }
+
+    fn append(&mut self, top: &str, path: &RelPath, bytes: &[u8]) -> Result<(), ShelfFault> {
+        let done = self.more(top, path, bytes);
+        self.answer(done)
+    }
+
+    fn finish_file(
+        &mut self,
+        top: &str,
+        path: &RelPath,
+        exec: bool,
+        mtime: i64,
+    ) -> Result<(), ShelfFault> {
+        let done = self.finished(top, path, exec, mtime);
+        self.answer(done)
+    }
+
+    fn make_link(&mut self, top: &str, path: &RelPath, target: &str) -> Result<(), ShelfFault> {
+        let made = self.new_link(top, path, target);
+        self.answer(made)
+    }
+
+    fn settle(&mut self, top: &str) -> Result<(), ShelfFault> {
+        let done = self.settled(top);
+        self.answer(done)
+    }
+
+    fn rename(&mut self, from: &str, to: &str) -> Result<Moved, ShelfFault> {
+        let done = self.renamed(from, to);
+        self.answer(done)
+    }
+
+    fn settle_top(&mut self) -> Result<(), ShelfFault> {
+        let done = sync_folder(&self.rt, self.root.as_str());
+        self.answer(done)
+    }
+
+    fn remove_top(&mut self, name: &str) -> Result<(), ShelfFault> {
+        let done = self.removed(name);
+        self.answer(done)
+    }
+}

@@ -1,0 +1,259 @@
+-- The tree of the parts, as it grows.
+use Rattle.std.proofs.Common.{◌≡◌, ℕ, Bool, true, false, ◌&&◌, List, [], ◌∷◌, ◌++◌, take, length, map, get_or, Option, Some, None, refl, sym, ◌∙◌, ap, subst, bytes_eq, if◌then◌else◌, ◌<◌, arith}
+use Rattle.std.specs.Prelude.{not, slice_get, IsSome, is_some, Result, Ok, Err, IfSome, IsSomeAnd, ◌≤◌, ◌+◌, sum, nat_lt, ◌⊎◌}
+use Rattle.std.proofs.Common.{zero, suc, inl, inr, ◌||◌}
+use Rattle.std.proofs.lemmas.List.Sums.{sum_by_more_le, sum-map}
+use Rattle.std.specs.List.{sum_by}
+use Rattle.std.specs.Option.{option_or}
+use Rattle.std.specs.List.{list_any, list_all}
+use Rattle.std.proofs.lemmas.Option.{slice_get_read}
+use Rattle.std.proofs.lemmas.Bool.Decides.{nat_tests}
+use Rattle.std.proofs.lemmas.Slice.Eq.{bytes_eq-Decides}
+use Rattle.std.proofs.lemmas.List.{map-append, take_more, take-map}
+use Rattle.zi_outside.specs.Count.{Rose}
+use Rattle.zi_outside.specs.Outside.{Holding}
+use Rattle.zi_tree.specs.Dir.{Dir}
+use Rattle.zi_tree.specs.Order.{is_tree, is_plain}
+use Rattle.zi_tree.specs.Paths.{items, node_in, placed, placed_new, inserted}
+use Rattle.zi_tree.specs.Views.{dir, Item}
+use Rattle.zi_tree.specs.declared.tree.TreeNode.{TreeNode}
+use Rattle.zi_tree.proofs.Items.{items_of_dir}
+use Rattle.zi_session.proofs.Placed.{node_placed, node_placed_other, differ_flip, and_parts, and_whole}
+use Rattle.zi_words.specs.Forms.{Word}
+use Rattle.zi_words.specs.Store.{last_part, is_name, is_file}
+use Rattle.zi_app.specs.declared.gathering.Part.{Part}
+use Rattle.zi_app.specs.declared.gathering.GatherFault.{GatherFault}
+use Rattle.zi_app.specs.declared.gathering.GatherFault.TheVariants.{Read, Absent, TooLong, Twice, TooLarge, Memory}
+use Rattle.zi_app.specs.Gathering.{AreParts, IsPart, part_name, names_of, is_among, are_apart, IsFirstTwice, plain, file_named, IsTreeOf, PutsPart, MakesTree, part_size, size_limit, file_limit, Gathers, Refuses, GetsPart, Reaches}
+use Rattle.zi_tree.specs.declared.change.TreeLimit.TheVariants.{Size, Nodes}
+
+-- one more got
+pub parts_more : (told : Option Holding) (fs : List Word) (ps : List Part) (f : Word) (p : Part) → AreParts told fs ps → IsPart told f p → AreParts told (fs ++ f ∷ []) (ps ++ p ∷ [])
+parts_more told [] [] f p h i = (i, tt)
+parts_more told [] (q ∷ ps) f p h i = absurd h
+parts_more told (g ∷ fs) [] f p h i = absurd h
+parts_more told (g ∷ fs) (q ∷ ps) f p h i = (h.0, parts_more told fs ps f p h.1 i)
+
+-- the names are the last parts
+pub names_are : (told : Option Holding) (fs : List Word) (ps : List Part) → AreParts told fs ps → names_of ps ≡ map last_part fs
+names_are told [] [] h = refl
+names_are told [] (q ∷ ps) h = absurd h
+names_are told (g ∷ fs) [] h = absurd h
+names_are told (g ∷ fs) (q ∷ ps) h = let e = h.0.named in let r = names_are told fs ps h.1 in cc (e, r)
+
+-- a name among more
+among_more : (n m : List ℕ) (ns : List (List ℕ)) → is_among n ns ≡ false → bytes_eq m n ≡ false → is_among n (ns ++ m ∷ []) ≡ false
+among_more n m [] h e = rw e refl
+among_more n m (k ∷ ns) h0 e =
+    elim (bytes_eq k n) as (λ b. (b || is_among n ns) ≡ false → (b || is_among n (ns ++ m ∷ [])) ≡ false) [
+      | true ↦ λ h. h
+      | false ↦ λ h. among_more n m ns h e
+    ] h0
+
+among_split : (k n : List ℕ) (ns : List (List ℕ)) → is_among n (k ∷ ns) ≡ false → (bytes_eq k n ≡ false) × (is_among n ns ≡ false)
+among_split k n ns h0 = elim (bytes_eq k n) as (λ b. (b || is_among n ns) ≡ false → (b ≡ false) × (is_among n ns ≡ false)) [
+  | true ↦ λ h. absurd (cc h)
+  | false ↦ λ h. (refl, h)
+] h0
+
+and_split : (a b : Bool) → (not a && b) ≡ true → (a ≡ false) × (b ≡ true)
+and_split true b h = absurd (cc h)
+and_split false b h = (refl, h)
+
+pub apart_more : (ns : List (List ℕ)) (n : List ℕ) → are_apart ns ≡ true → is_among n ns ≡ false → are_apart (ns ++ n ∷ []) ≡ true
+apart_more [] n h i = refl
+apart_more (k ∷ ns) n h i =
+    let p = and_split (is_among k ns) (are_apart ns) h in
+    let q = among_split k n ns i in
+    rw (among_more k n ns p.0 (differ_flip k n q.0), apart_more ns n p.1 q.1) refl
+
+-- a name is among the names exactly where a file of it is among the parts
+pub named_among : (n : List ℕ) (ps : List Part) → is_some (file_named n ps) ≡ is_among n (names_of ps)
+named_among n [] = refl
+named_among n (p ∷ ps) =
+    elim (bytes_eq p.name n) as (λ b. is_some (if b then Some (plain p.bytes) else file_named n ps) ≡ (b || is_among n (names_of ps))) [
+      | true ↦ refl
+      | false ↦ named_among n ps
+    ]
+
+-- one part more
+named_more : (n : List ℕ) (ps : List Part) (p : Part) → file_named n (ps ++ p ∷ []) ≡ option_or (file_named n ps) (if bytes_eq p.name n then Some (plain p.bytes) else None)
+named_more n [] p = refl
+named_more n (q ∷ ps) p =
+    elim (bytes_eq q.name n) as (λ b. (if b then Some (plain q.bytes) else file_named n (ps ++ p ∷ [])) ≡ option_or (if b then Some (plain q.bytes) else file_named n ps) (if bytes_eq p.name n then Some (plain p.bytes) else None)) [
+      | true ↦ refl
+      | false ↦ named_more n ps p
+    ]
+
+-- what a loop over the parts keeps: those so far stand in the tree
+pub record Stands (ps : List Part) (d : Dir) : Type 0 where
+  pub apart : are_apart (names_of ps) ≡ true
+  pub holds : (n : List ℕ) → node_in n (items d) ≡ file_named n ps
+
+or_none : (o p : Option TreeNode) → o ≡ None → option_or o p ≡ p
+or_none o p e = rw e refl
+
+or_nothing : (o : Option TreeNode) → o ≡ option_or o None
+or_nothing None = refl
+or_nothing (Some x) = refl
+
+placed_holds : (n : List ℕ) (ps : List Part) (p : Part) (is : List Item) → node_in p.name is ≡ None → ((m : List ℕ) → node_in m is ≡ file_named m ps)
+    → node_in n (placed p.name (plain p.bytes) is) ≡ file_named n (ps ++ p ∷ [])
+placed_holds n ps p is free holds =
+    elim (bytes_eq p.name n) as (λ b. bytes_eq p.name n ≡ b → node_in n (placed p.name (plain p.bytes) is) ≡ option_or (file_named n ps) (if b then Some (plain p.bytes) else None)) [
+      | true ↦ λ e.
+          let same : p.name ≡ n = (bytes_eq-Decides p.name n).0 e in
+          let none : file_named n ps ≡ None = sym (holds n) ∙ ap (λ m. node_in m is) (sym same) ∙ free in
+          ap (λ m. node_in m (placed p.name (plain p.bytes) is)) (sym same) ∙ node_placed p.name (plain p.bytes) is free ∙ sym (or_none (file_named n ps) (Some (plain p.bytes)) none)
+      | false ↦ λ e. node_placed_other n p.name (plain p.bytes) is e ∙ holds n ∙ or_nothing (file_named n ps)
+    ] refl ∙ sym (named_more n ps p)
+
+some_none : (o : Option TreeNode) → o ≡ None → is_some o ≡ false
+some_none o e = rw e refl
+
+pub stands_none : (d : Dir) → items d ≡ [] → Stands [] d
+stands_none d e = record { apart = refl; holds = λ n. rw e refl }
+
+pub stands_more : (ps : List Part) (p : Part) (d e : Dir) (x : Unit {0}) → Stands ps d → PutsPart p d (Ok x) e → Stands (ps ++ p ∷ []) e
+stands_more ps p d e x s (free, is) = record {
+  apart =
+      ap are_apart (map-append part_name ps (p ∷ []))
+      ∙ apart_more (names_of ps) p.name s.apart (sym (named_among p.name ps) ∙ some_none (file_named p.name ps) (sym (s.holds p.name) ∙ free));
+  holds = λ n. ap (λ (x : Dir). node_in n (items x)) is ∙ ap (node_in n) (items_of_dir (placed p.name (plain p.bytes) (items d))) ∙ placed_holds n ps p (items d) free s.holds;
+}
+
+-- The files, as they are got.
+pub parts_next : (told now : Option Holding) (files : List Word) (i : ℕ) (ps qs : List Part) (f : Word) (p : Part) → now ≡ told → i < length files → f ≡ get_or files i f
+    → AreParts told (take i files) ps → IsPart now f p → qs ≡ ps ++ p ∷ [] → AreParts told (take (i + 1) files) qs
+parts_next told now files i ps qs f p same lt at got is e =
+    let fs : take (i + 1) files ≡ take i files ++ f ∷ [] = take_more files i f lt ∙ ap (λ x. take i files ++ x ∷ []) (sym at) in
+    subst (λ xs. AreParts told xs qs) (sym fs) (subst (λ ys. AreParts told (take i files ++ f ∷ []) ys) (sym e)
+    (parts_more told (take i files) ps f p got (subst (λ h. IsPart h f p) same is)))
+
+rose_since : (f m g : ℕ) → f ≤ m → Rose m g → Rose f g
+rose_since f m g le (inl h) = (let l : f < g = omega arith in inl l)
+rose_since f m g le (inr h) = inr h
+
+pub parts_stop : (told now : Option Holding) (f m g : ℕ) (files : List Word) (i : ℕ) (ps : List Part) (file : Word) (fault : GatherFault) → now ≡ told → f ≤ m → i < length files → file ≡ get_or files i file
+    → AreParts told (take i files) ps → GetsPart now m g file (Err fault) → Refuses told f g files fault
+parts_stop told now f m g files i ps file (Read name) same le lt at got (e, rose) =
+    (record { place = i; here = slice_get_read files (length files) i file refl lt at ∙ ap Some (sym e); parts = ps; got = got }, rose_since f m g le rose)
+parts_stop told now f m g files i ps file (Absent name) same le lt at got (e, none) = (
+  record { place = i; here = slice_get_read files (length files) i file refl lt at ∙ ap Some (sym e); parts = ps; got = got },
+  subst (λ n. IfSome told (λ holds. holds n ≡ None)) (sym e) (subst (λ h. IfSome h (λ holds. holds file ≡ None)) same none),
+)
+parts_stop told now f m g files i ps file (TooLong name limit) same le lt at got (e, l, long) = (
+  record { place = i; here = slice_get_read files (length files) i file refl lt at ∙ ap Some (sym e); parts = ps; got = got },
+  l,
+  subst (λ n. IfSome told (λ holds. IsSomeAnd (holds n) (λ bytes. file_limit < length bytes))) (sym e)
+      (subst (λ h. IfSome h (λ holds. IsSomeAnd (holds file) (λ bytes. file_limit < length bytes))) same long),
+)
+parts_stop told now f m g files i ps file (Twice name) same le lt at got x = absurd x
+parts_stop told now f m g files i ps file (TooLarge what limit) same le lt at got x = absurd x
+parts_stop told now f m g files i ps file Memory same le lt at got x = tt
+
+-- Their sizes.
+pub large : (ps : List Part) (i left size : ℕ) (p : Part) → i < length ps → p ≡ get_or ps i p → left + sum (map part_size (take i ps)) ≡ size_limit → size ≡ length p.bytes → left < size
+    → true ≡ nat_lt size_limit (sum (map part_size ps))
+large ps i left size p lt at all is more =
+    let m : sum_by part_size (take i ps) + part_size (get_or ps i p) ≤ sum_by part_size ps = sum_by_more_le part_size ps i p lt in
+    let a : sum (map part_size ps) ≡ sum_by part_size ps = sum-map part_size ps in
+    let b : sum (map part_size (take i ps)) ≡ sum_by part_size (take i ps) = sum-map part_size (take i ps) in
+    let e : size ≡ part_size (get_or ps i p) = is ∙ ap part_size at in
+    past (sum (map part_size ps)) (sum_by part_size ps) (sum (map part_size (take i ps))) (sum_by part_size (take i ps)) left size (part_size (get_or ps i p)) all more m a b e
+  where
+    past : (whole w front f left size s : ℕ) → left + front ≡ size_limit → left < size → f + s ≤ w → whole ≡ w → front ≡ f → size ≡ s → true ≡ nat_lt size_limit whole
+    past whole w front f left size s all more m a b e =
+        let l : size_limit < whole = omega arith in
+        grind (arith, nat_tests)
+
+-- A part that goes into the tree.
+pub plain_of : (n : List ℕ) → is_name n ≡ true → is_plain n ≡ true
+unfolding is_name
+plain_of n h = h
+
+new_there : (n : List ℕ) (x : TreeNode) (d : Dir) (o : Option TreeNode) (e : Dir) → placed_new n x d o ≡ Some e → (o ≡ None) × (e ≡ dir (placed n x (items d)))
+new_there n x d None e h = (refl, (cc h))
+new_there n x d (Some y) e h = absurd (cc h)
+
+none_free : (n : List ℕ) (x : TreeNode) (d : Dir) (o : Option TreeNode) → placed_new n x d o ≡ None → IsSome o
+none_free n x d None h = absurd (cc h)
+none_free n x d (Some y) h = refl
+
+pub put_there : (p : Part) (path : List (List ℕ)) (x : TreeNode) (d e : Dir) → path ≡ p.name ∷ [] → x ≡ plain p.bytes → inserted path x d ≡ Some e → PutsPart p d (Ok tt) e
+put_there p path x d e at is h =
+    new_there p.name (plain p.bytes) d (node_in p.name (items d)) e
+    (subst (λ y. inserted (p.name ∷ []) y d ≡ Some e) is (subst (λ q. inserted q x d ≡ Some e) at h))
+
+pub put_twice : (p : Part) (name : List ℕ) (path : List (List ℕ)) (x : TreeNode) (d e : Dir) → path ≡ p.name ∷ [] → name ≡ p.name → inserted path x d ≡ None → PutsPart p d (Err (Twice name)) e
+put_twice p name path x d e at same h =
+    (same, subst (λ n. IsSome (node_in n (items d))) (sym same) (none_free p.name x d (node_in p.name (items d)) (subst (λ q. inserted q x d ≡ None) at h)))
+
+-- The tree of all.
+name_at : (ps : List Part) (i : ℕ) (p : Part) → list_all is_name (names_of ps) ≡ true → i < length ps → p ≡ get_or ps i p → is_name p.name ≡ true
+name_at [] i p h lt at = absurd (omega arith)
+name_at (q ∷ ps) zero p h lt at = ap (λ (x : Part). is_name x.name) at ∙ (and_parts (is_name q.name) (list_all is_name (names_of ps)) h).0
+name_at (q ∷ ps) (suc i) p h lt at = name_at ps i p (and_parts (is_name q.name) (list_all is_name (names_of ps)) h).1 (omega arith) at
+
+pub right_name : (ps : List Part) (i : ℕ) (p : Part) → list_all is_name (names_of ps) ≡ true → (i < length ps) × (p ≡ get_or ps i p) → is_name p.name ≡ true
+right_name ps i p h t = name_at ps i p h t.0 t.1
+
+name_here : (ps : List Part) (i : ℕ) (p : Part) → i < length ps → p ≡ get_or ps i p → slice_get (names_of ps) i ≡ Some p.name
+name_here [] i p lt at = absurd (omega arith)
+name_here (q ∷ ps) zero p lt at = ap (λ (x : Part). Some x.name) (sym at)
+name_here (q ∷ ps) (suc i) p lt at = name_here ps i p (omega arith) at
+
+pub tree_stops : (all done : List Part) (p : Part) (d e : Dir) (fault : GatherFault) → Stands done d → done ≡ take (length done) all → (length done < length all) × (p ≡ get_or all (length done) p)
+    → PutsPart p d (Err fault) e → MakesTree all (Err fault)
+tree_stops all done p d e (Twice name) s front at (same, there) =
+    let names : take (length done) (names_of all) ≡ names_of done = take-map part_name (length done) all ∙ ap names_of (sym front) in
+    record {
+      place = length done;
+      here = name_here all (length done) p at.0 at.1 ∙ ap Some (sym same);
+      before = ap (is_among name) names ∙ (sym (named_among name done) ∙ (ap is_some (sym (s.holds name)) ∙ there));
+      first = ap are_apart names ∙ s.apart;
+    }
+tree_stops all done p d e Memory s front at x = tt
+tree_stops all done p d e (Read file) s front at x = absurd x
+tree_stops all done p d e (Absent file) s front at x = absurd x
+tree_stops all done p d e (TooLong file limit) s front at x = absurd x
+tree_stops all done p d e (TooLarge what limit) s front at x = absurd x
+
+pub tree_done : (all done : List Part) (d : Dir) → Stands done d → done ≡ all → is_tree d ≡ true → MakesTree all (Ok d)
+tree_done all done d s e whole = subst (λ ps. MakesTree ps (Ok d)) e (s.apart, record { whole = whole; holds = s.holds })
+
+-- All together.
+pub names_right : (told : Option Holding) (fs : List Word) (ps : List Part) → AreParts told fs ps → list_all is_file fs ≡ true → list_all is_name (names_of ps) ≡ true
+names_right told [] [] h r = refl
+names_right told [] (q ∷ ps) h r = absurd h
+names_right told (g ∷ fs) [] h r = absurd h
+names_right told (g ∷ fs) (q ∷ ps) h r =
+    let p = and_parts (is_file g) (list_all is_file fs) r in
+    and_whole (is_name q.name) (list_all is_name (names_of ps)) (ap is_name h.0.named ∙ p.0) (names_right told fs ps h.1 p.1)
+
+pub tree_refused : (told : Option Holding) (f g : ℕ) (fs : List Word) (ps : List Part) (fault : GatherFault) → AreParts told fs ps → MakesTree ps (Err fault) → Refuses told f g fs fault
+tree_refused told f g fs ps (Twice name) got x = (ps, got, x)
+tree_refused told f g fs ps Memory got x = tt
+tree_refused told f g fs ps (Read file) got x = absurd x
+tree_refused told f g fs ps (Absent file) got x = absurd x
+tree_refused told f g fs ps (TooLong file limit) got x = absurd x
+tree_refused told f g fs ps (TooLarge what limit) got x = absurd x
+
+pub too_large : (told : Option Holding) (f g : ℕ) (fs : List Word) (ps : List Part) (d : Dir) (b : Bool) → AreParts told fs ps → MakesTree ps (Ok d) → b ≡ nat_lt size_limit (sum (map part_size ps)) → b ≡ true
+    → Refuses told f g fs (TooLarge Size 268435456)
+too_large told f g fs ps d b got m e is =
+    let t : nat_lt size_limit (sum (map part_size ps)) ≡ true = sym e ∙ is in
+    let lt : size_limit < sum (map part_size ps) = grind (arith, nat_tests) in
+    (ps, got, m.0, refl, lt)
+
+small_of : (b : Bool) (n m : ℕ) → b ≡ nat_lt n m → b ≡ false → m ≤ n
+small_of b n m e is = let t : nat_lt n m ≡ false = sym e ∙ is in grind (arith, nat_tests)
+
+pub too_many : (told : Option Holding) (f g : ℕ) (fs : List Word) (ps : List Part) (d : Dir) (b : Bool) → AreParts told fs ps → MakesTree ps (Ok d) → b ≡ nat_lt size_limit (sum (map part_size ps)) → b ≡ false → 100000 < length fs
+    → Refuses told f g fs (TooLarge Nodes 100000)
+too_many told f g fs ps d b got m e is lt = (ps, got, m.0, small_of b size_limit (sum (map part_size ps)) e is, refl, lt)
+
+pub gathered : (told : Option Holding) (fs : List Word) (ps : List Part) (d : Dir) (b : Bool) → AreParts told fs ps → MakesTree ps (Ok d) → b ≡ nat_lt size_limit (sum (map part_size ps)) → b ≡ false → length fs ≤ 100000 → Gathers told fs d
+gathered told fs ps d b got m e is le = record { parts = ps; got = got; apart = m.0; small = small_of b size_limit (sum (map part_size ps)) e is; few = le; tree = m.1 }
+
+pub ruleset gathering = (tree_refused, too_large, too_many, gathered, names_right)

@@ -1,8 +1,0 @@
-use Rattle.std.proofs.Common.{refl}
-use Rattle.zi_app.proofs.SelectLemmas.{refused_load}
-use Rattle.zi_app.proofs.select.select.Goals as goal
-
-pub returns-clause-selects : goal.returns-clause-selects
-returns-clause-selects g c =
-    refused_load _ _ _ c.args.ask c.in-Ok.job.req c.in-Ok.job.policy _ _ _ _ c.in-Err.fault c.refused.result c.in-Ok.ensures.req c.in-Ok.ensures.policy
-    (rw c.as_slice.ensures at c.in-Err.ensures.refuses) refl c.refused.ensures

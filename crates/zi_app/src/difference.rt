@@ -1,0 +1,161 @@
+//! How the manifest that stands in a stored tree differs from the computed one.
+ghost use Rattle.std.specs.Prelude.{◌≡◌, ◌≤◌, ◌∷◌, [], List, ℕ, Err, Some, None, IfOk, MatchOption};
+ghost use Rattle.zi_manifest.specs.Manifest.{own_name, first_bad, as_read, manifest};
+ghost use Rattle.zi_manifest.specs.Listing.{IsManifest};
+ghost use Rattle.zi_shelf.specs.Told.{Told, Rose};
+ghost use Rattle.zi_store.specs.Keeping.{Keeps, is_reading};
+ghost use Rattle.zi_app.specs.StoreCommands.{HasOwnManifest, HasDigest, HasComputed, Compares, DiffersBy};
+
+use std::alloc::Global;
+use zi_digest::Algorithm;
+use zi_manifest::{ManifestFault, ManifestOutFault, read, write};
+use zi_shelf::{Shelf, ShelfFault};
+use zi_store::{FileRead, TreeRead, first_difference, read_file, read_tree};
+use zi_text::{Bytes, Memory};
+use zi_tree::{RelPath, Tree};
+
+// The most bytes of a file `.manifest` that is read: 64 MiB.
+const MANIFEST_LIMIT: u64 = 64 * 1024 * 1024;
+
+/// How the manifest that stands in a stored tree differs from the computed one.
+#[derive(Clone, Copy, Debug, PartialEq, Eq)]
+pub enum Difference {
+    /// No manifest stands there.
+    NoManifest,
+    /// They are the same.
+    Agrees,
+    /// This line, from 1, is the first that isn't the same.
+    FirstIn(u64),
+}
+
+// The path of the file in which a stored tree's manifest stands.
+fn own_path(alloc: Global) -> Result<RelPath, Memory>
+    ensures { IfOk result (λ path. path ≡ own_name ∷ []) }
+{
+    match RelPath::root(alloc).child(alloc, ".manifest") {
+        Ok(Some(path)) => Ok(path),
+        Ok(None) => Err(Memory),
+        Err(fault) => Err(fault),
+    }
+}
+
+// The bytes, where they are a manifest.
+fn where_manifest(alloc: Global, a: Algorithm, bytes: Bytes) -> Result<Option<Bytes>, ShelfFault>
+    ensures own { IfOk result (λ own. MatchOption own (IsManifest a bytes → ⊥) (λ kept. (kept ≡ bytes) × IsManifest a bytes)) }
+    ensures memory { result ≡ Err ShelfFault.Failed → ⊥ }
+{
+    match read(alloc, bytes.as_slice(), a) {
+        Ok(_) => Ok(Some(bytes)),
+        Err(ManifestFault::Bad { .. }) => Ok(None),
+        Err(ManifestFault::Memory) => Err(ShelfFault::Memory),
+    }
+}
+
+// The manifest that stands in a tree of the store, where one stands there.
+fn own_manifest<K: Shelf>(
+    alloc: Global,
+    a: Algorithm,
+    top: &str,
+    k: &mut K,
+) -> Result<Option<Bytes>, ShelfFault>
+    ensures own { (s : Told) → K.honest k.old → K.told k.old ≡ Some s → IfOk result (λ own. MatchOption own ((bytes : List ℕ) → HasOwnManifest a top.now s.shelf bytes → ⊥) (λ bytes. HasOwnManifest a top.now s.shelf bytes)) }
+    ensures keeps { Keeps is_reading (K.honest k.old) (K.honest k.new) (K.told k.old) (K.told k.new) (K.faults k.old) (K.faults k.new) (K.sure k.old) (K.sure k.new) (K.place k.old) (K.place k.new) (K.plan k.old) (K.plan k.new) }
+    ensures cause { result ≡ Err ShelfFault.Failed → Rose (K.faults k.old) (K.faults k.new) }
+    ensures sure { K.sure k.old → result ≡ Err ShelfFault.Failed → ⊥ }
+{
+    let Ok(path) = own_path(alloc) else {
+        return Err(ShelfFault::Memory);
+    };
+    match read_file(alloc, top, &path, MANIFEST_LIMIT, k) {
+        Ok(FileRead::Read(bytes)) => where_manifest(alloc, a, bytes),
+        Ok(FileRead::Missing) => Ok(None),
+        Ok(FileRead::TooLong) => Ok(None),
+        Err(fault) => Err(fault),
+    }
+}
+
+// The manifest of a tree. None where it has a name that no manifest has.
+fn manifest_of(alloc: Global, a: Algorithm, tree: &Tree) -> Result<Option<Bytes>, ShelfFault>
+    ensures text { IfOk result (λ text. MatchOption text ((path : List ℕ) × (first_bad (as_read tree.now) ≡ Some path)) (λ text. text ≡ manifest a tree.now)) }
+    ensures memory { result ≡ Err ShelfFault.Failed → ⊥ }
+{
+    match write(alloc, tree, a) {
+        Ok(text) => Ok(Some(Bytes::from_vec(text))),
+        Err(ManifestOutFault::BadName { .. }) => Ok(None),
+        Err(ManifestOutFault::Memory) => Err(ShelfFault::Memory),
+    }
+}
+
+// The manifest of a stored tree, which is read for it. None where there is no such tree, it passes a limit, or it has a name that
+// no manifest has.
+fn computed<K: Shelf>(
+    alloc: Global,
+    a: Algorithm,
+    top: &str,
+    k: &mut K,
+) -> Result<Option<Bytes>, ShelfFault>
+    ensures text { (s : Told) → K.honest k.old → K.told k.old ≡ Some s → HasDigest top.now s.shelf → IfOk result (λ text. MatchOption text ⊥ (λ text. HasComputed a top.now s.shelf text)) }
+    ensures keeps { Keeps is_reading (K.honest k.old) (K.honest k.new) (K.told k.old) (K.told k.new) (K.faults k.old) (K.faults k.new) (K.sure k.old) (K.sure k.new) (K.place k.old) (K.place k.new) (K.plan k.old) (K.plan k.new) }
+    ensures cause { result ≡ Err ShelfFault.Failed → Rose (K.faults k.old) (K.faults k.new) }
+    ensures sure { K.sure k.old → result ≡ Err ShelfFault.Failed → ⊥ }
+{
+    match read_tree(alloc, top, k) {
+        Ok(TreeRead::Read(tree)) => manifest_of(alloc, a, &tree),
+        Ok(TreeRead::Missing) => Ok(None),
+        Ok(TreeRead::TooLarge { .. }) => Ok(None),
+        Err(fault) => Err(fault),
+    }
+}
+
+// How two texts differ.
+fn compared(own: &[u8], text: &[u8]) -> Difference
+    ensures { Compares own.now text.now result }
+{
+    match first_difference(own, text) {
+        None => Difference::Agrees,
+        Some(line) => Difference::FirstIn(line),
+    }
+}
+
+// How the manifest that stands in a tree differs from the computed one.
+fn against<K: Shelf>(
+    alloc: Global,
+    a: Algorithm,
+    top: &str,
+    own: &[u8],
+    k: &mut K,
+) -> Result<Difference, ShelfFault>
+    ensures differs { (s : Told) → K.honest k.old → K.told k.old ≡ Some s → HasDigest top.now s.shelf → HasOwnManifest a top.now s.shelf own.now → IfOk result (λ d. DiffersBy a top.now d s.shelf) }
+    ensures keeps { Keeps is_reading (K.honest k.old) (K.honest k.new) (K.told k.old) (K.told k.new) (K.faults k.old) (K.faults k.new) (K.sure k.old) (K.sure k.new) (K.place k.old) (K.place k.new) (K.plan k.old) (K.plan k.new) }
+    ensures cause { result ≡ Err ShelfFault.Failed → Rose (K.faults k.old) (K.faults k.new) }
+    ensures sure { K.sure k.old → result ≡ Err ShelfFault.Failed → ⊥ }
+{
+    match computed(alloc, a, top, k) {
+        Ok(Some(text)) => Ok(compared(own, text.as_slice())),
+        Ok(None) => Ok(Difference::NoManifest),
+        Err(fault) => Err(fault),
+    }
+}
+
+/// How the manifest that stands in a stored tree differs from the computed one, where one stands there that is no longer than
+/// 64 MiB. The tree is read for it, by calls that read alone. Where nothing can be computed, which comes only where the tree is
+/// another than one that has a digest, it is as if none stood there.
+///
+/// Failed comes only where the shelf's count of faults rose, Memory where memory is refused.
+pub fn difference_of<K: Shelf>(
+    alloc: Global,
+    a: Algorithm,
+    top: &str,
+    k: &mut K,
+) -> Result<Difference, ShelfFault>
+    ensures differs { (s : Told) → K.honest k.old → K.told k.old ≡ Some s → HasDigest top.now s.shelf → IfOk result (λ d. DiffersBy a top.now d s.shelf) }
+    ensures keeps { Keeps is_reading (K.honest k.old) (K.honest k.new) (K.told k.old) (K.told k.new) (K.faults k.old) (K.faults k.new) (K.sure k.old) (K.sure k.new) (K.place k.old) (K.place k.new) (K.plan k.old) (K.plan k.new) }
+    ensures cause { result ≡ Err ShelfFault.Failed → Rose (K.faults k.old) (K.faults k.new) }
+    ensures sure { K.sure k.old → result ≡ Err ShelfFault.Failed → ⊥ }
+{
+    match own_manifest(alloc, a, top, k) {
+        Ok(Some(own)) => against(alloc, a, top, own.as_slice(), k),
+        Ok(None) => Ok(Difference::NoManifest),
+        Err(fault) => Err(fault),
+    }
+}

@@ -1,0 +1,203 @@
+//! The files of `store add`: they are got in order, and a tree is made of them.
+ghost use Rattle.std.specs.Prelude.{◌≡◌, ◌≤◌, ◌<◌, true, nat_lt, sum, map, length, MatchResult};
+ghost use Rattle.std.specs.List.{list_all};
+ghost use Rattle.zi_words.specs.Store.{last_part, is_name, is_file};
+ghost use Rattle.zi_app.specs.Gathering.{GetsPart, GetsParts, PutsPart, MakesTree, Gathers, Refuses, part_name, part_size, size_limit};
+
+use std::alloc::Global;
+use zi_outside::{Feeds, FeedsFault, Got};
+use zi_text::{Bytes, List, Memory, Text};
+use zi_tree::{InsertFault, RelPath, Tree, TreeLimit, TreeNode};
+use zi_words::last_part;
+
+/// How many bytes a file may have: 64 MiB.
+pub(crate) const FILE_LIMIT: u64 = 67_108_864;
+
+/// How many bytes all files may have together: 256 MiB.
+pub(crate) const SIZE_LIMIT: u64 = 268_435_456;
+
+/// How many nodes the tree may have.
+pub(crate) const NODES_LIMIT: u64 = 100_000;
+
+/// A file as it goes into the tree: its name there, and its bytes.
+#[derive(Debug, Drop)]
+pub(crate) struct Part {
+    pub(crate) name: Text,
+    pub(crate) bytes: Bytes,
+}
+
+/// Why there is no tree of the files.
+#[derive(Debug, Drop)]
+pub(crate) enum GatherFault {
+    /// The feeds failed at this file.
+    Read { file: Text },
+    /// This file isn't there.
+    Absent { file: Text },
+    /// This file has more bytes than its limit.
+    TooLong { file: Text, limit: u64 },
+    /// Two files have this last part.
+    Twice { name: Text },
+    /// The tree passes this limit.
+    TooLarge { what: TreeLimit, limit: u64 },
+    /// Memory was refused.
+    Memory,
+}
+
+impl From<Memory> for GatherFault {
+    ghost use Rattle.std.specs.Prelude.{◌≡◌};
+    ghost use Rattle.zi_app.specs.declared.gathering.GatherFault.TheVariants.{Memory as NoMemory};
+
+    ghost from_gives = { λ _ e. e ≡ NoMemory };
+
+    fn from(_: Memory) -> GatherFault {
+        GatherFault::Memory
+    }
+}
+
+/// The part of a file with these bytes.
+fn part_of(alloc: Global, file: &Text, bytes: Vec<u8>) -> Result<Part, GatherFault>
+    ensures { MatchResult result (λ p. (p.name ≡ last_part file.now) × (p.bytes ≡ bytes.items)) (λ e. e ≡ GatherFault.Memory) }
+{
+    let name = Text::from_str(alloc, last_part(file.as_str()))?;
+    let bytes = Bytes::from_vec(bytes);
+    Ok(Part { name, bytes })
+}
+
+/// Gets a file.
+fn get_part<F: Feeds>(alloc: Global, file: &Text, feeds: &mut F) -> Result<Part, GatherFault>
+    ensures gets { GetsPart (F.holds feeds.old) (F.faults feeds.old) (F.faults feeds.new) file.now result }
+    ensures holds { F.holds feeds.new ≡ F.holds feeds.old }
+    ensures count { F.faults feeds.old ≤ F.faults feeds.new }
+{
+    let mut bytes = Vec::new(alloc);
+    match feeds.get(file.as_str(), FILE_LIMIT, &mut bytes) {
+        Ok(Got::Held) => part_of(alloc, file, bytes),
+        Ok(Got::Absent) => match file.copy(alloc) {
+            Ok(file) => Err(GatherFault::Absent { file }),
+            Err(_) => Err(GatherFault::Memory),
+        },
+        Ok(Got::TooLong) => match file.copy(alloc) {
+            Ok(file) => Err(GatherFault::TooLong {
+                file,
+                limit: FILE_LIMIT,
+            }),
+            Err(_) => Err(GatherFault::Memory),
+        },
+        Err(FeedsFault::Failed) => match file.copy(alloc) {
+            Ok(file) => Err(GatherFault::Read { file }),
+            Err(_) => Err(GatherFault::Memory),
+        },
+        Err(FeedsFault::Memory) => Err(GatherFault::Memory),
+    }
+}
+
+/// Gets the files in their order.
+#[tactic(auto, using(crate::proofs::GatheringLemmas::parts_stop))]
+fn get_parts<F: Feeds>(
+    alloc: Global,
+    files: &[Text],
+    feeds: &mut F,
+) -> Result<List<Part>, GatherFault>
+    ensures gets { GetsParts (F.holds feeds.old) (F.faults feeds.old) (F.faults feeds.new) files.now result }
+    ensures holds { F.holds feeds.new ≡ F.holds feeds.old }
+    ensures count { F.faults feeds.old ≤ F.faults feeds.new }
+{
+    let mut parts = List::new(alloc);
+    for file in files {
+        match get_part(alloc, file, feeds) {
+            Ok(part) => parts.push(part)?,
+            Err(fault) => return Err(fault),
+        }
+    }
+    Ok(parts)
+}
+
+/// Whether the files have more bytes together than their limit.
+fn is_large(parts: &[Part]) -> bool
+    ensures { result ≡ nat_lt size_limit (sum (map part_size parts.now)) }
+{
+    let mut left = SIZE_LIMIT;
+    for part in parts {
+        let size = part.bytes.len() as u64;
+        if size > left {
+            return true;
+        }
+        left -= size;
+    }
+    false
+}
+
+/// Puts a file into a tree.
+#[tactic(auto, using(crate::proofs::GatheringLemmas::put_there, crate::proofs::GatheringLemmas::put_twice))]
+fn put_part(alloc: Global, tree: &mut Tree, part: Part) -> Result<(), GatherFault>
+    requires { is_name part.name ≡ true }
+    ensures { PutsPart part tree.old result tree.new }
+{
+    let Part { name, bytes } = part;
+    let root = RelPath::root(alloc);
+    let Some(path) = root.child(alloc, name.as_str())? else {
+        unreachable!()
+    };
+    let node = TreeNode::File {
+        bytes,
+        exec: false,
+        mtime: 0,
+    };
+    match tree.insert(alloc, &path, node) {
+        Ok(()) => Ok(()),
+        Err(InsertFault::Overlap) => Err(GatherFault::Twice { name }),
+        Err(InsertFault::Memory) => Err(GatherFault::Memory),
+    }
+}
+
+/// The tree of the parts.
+fn tree_of(alloc: Global, parts: List<Part>) -> Result<Tree, GatherFault>
+    requires { list_all is_name (map part_name parts) ≡ true }
+    ensures { MakesTree parts result }
+{
+    let mut tree = Tree::new(alloc);
+    for part in parts.into_vec() {
+        match put_part(alloc, &mut tree, part) {
+            Ok(()) => {}
+            Err(fault) => return Err(fault),
+        }
+    }
+    tree.is_whole();
+    Ok(tree)
+}
+
+/// Gets the files and makes the tree of them.
+#[tactic(auto, using(crate::proofs::GatheringLemmas::gathering))]
+pub(crate) fn gather<F: Feeds>(
+    alloc: Global,
+    files: &[Text],
+    feeds: &mut F,
+) -> Result<Tree, GatherFault>
+    requires { list_all is_file files.now ≡ true }
+    ensures gathers { MatchResult result (Gathers (F.holds feeds.old) files.now) (Refuses (F.holds feeds.old) (F.faults feeds.old) (F.faults feeds.new) files.now) }
+    ensures holds { F.holds feeds.new ≡ F.holds feeds.old }
+    ensures count { F.faults feeds.old ≤ F.faults feeds.new }
+{
+    let parts = match get_parts(alloc, files, feeds) {
+        Ok(parts) => parts,
+        Err(fault) => return Err(fault),
+    };
+    let large = is_large(parts.as_slice());
+    let tree = match tree_of(alloc, parts) {
+        Ok(tree) => tree,
+        Err(fault) => return Err(fault),
+    };
+    if large {
+        return Err(GatherFault::TooLarge {
+            what: TreeLimit::Size,
+            limit: SIZE_LIMIT,
+        });
+    }
+    if files.len() as u64 > NODES_LIMIT {
+        return Err(GatherFault::TooLarge {
+            what: TreeLimit::Nodes,
+            limit: NODES_LIMIT,
+        });
+    }
+    Ok(tree)
+}
