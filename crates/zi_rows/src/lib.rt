@@ -7,3 +7,7 @@
 mod feeds;
 #[cfg(test)]
 mod loading;
+#[cfg(test)]
+mod session;
+#[cfg(test)]
+mod store;

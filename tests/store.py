@@ -1,0 +1,296 @@
+#!/usr/bin/env python3
+"""Runs the proved program's commands on the store over real folders, and compares all that it prints to the byte.
+
+The program is crates/zi/out/zi; the gate leaves it there. Each row is a function with a folder of its own; one that fails
+is named, and the status is then 1. Digests are computed here, by Python's own hashes.
+"""
+import base64
+import hashlib
+import os
+import random
+import shutil
+import signal
+import subprocess
+import sys
+import tempfile
+import time
+
+TOP = os.path.dirname(os.path.dirname(os.path.abspath(__file__)))
+PROGRAM = os.path.join(TOP, "crates", "zi", "out", "zi")
+EMPTY = "sha256new_4OYMIQUY7QOBJGX36TEJS35ZEQT24QPEMSNZGTFESWMRW6CSXBKQ"
+OTHER = "sha256new_" + "A" * 52
+
+
+class Wrong(Exception):
+    pass
+
+
+def begin(words, folder):
+    env = dict(os.environ, ZI_STORE=os.path.join(folder, "store"))
+    return subprocess.Popen([PROGRAM] + words, cwd=folder, env=env, stdout=subprocess.PIPE, stderr=subprocess.PIPE)
+
+
+def run(words, folder):
+    process = begin(words, folder)
+    out, err = process.communicate()
+    return process.returncode, out, err
+
+
+def expect(got, status, out, err):
+    for what, is_, wanted in (("status", got[0], status), ("output", got[1], out), ("errors", got[2], err)):
+        if is_ != wanted:
+            raise Wrong(f"{what}: {is_!r}, not {wanted!r}")
+
+
+def holds(what, is_):
+    if not is_:
+        raise Wrong(what)
+
+
+def write(folder, name, data):
+    path = os.path.join(folder, name)
+    with open(path, "wb") as file:
+        file.write(data)
+    return path
+
+
+def manifest(files):
+    """The text of a flat tree of files that aren't executable and have the time 0."""
+    lines = [f"F {hashlib.sha256(data).hexdigest()} 0 {len(data)} ".encode() + name.encode() + b"\n" for name, data in files.items()]
+    return b"".join(sorted(lines, key=lambda line: line.split(b" ", 4)[4][:-1]))
+
+
+def name_of(files):
+    digest = hashlib.sha256(manifest(files)).digest()
+    return "sha256new_" + base64.b32encode(digest).decode().rstrip("=")
+
+
+def tree(folder, files):
+    """These files in the folder, and the words that add them."""
+    paths = [write(folder, name, data) for name, data in files.items()]
+    return ["store", "add", name_of(files)] + paths
+
+
+def store(folder):
+    return os.path.join(folder, "store")
+
+
+def whole(folder, files):
+    """The stored tree is there, whole."""
+    top = os.path.join(store(folder), name_of(files))
+    names = sorted(os.listdir(top))
+    holds(f"names {names}", names == sorted(list(files) + [".manifest"]))
+    for name, data in files.items():
+        holds(name, open(os.path.join(top, name), "rb").read() == data)
+    holds("manifest", open(os.path.join(top, ".manifest"), "rb").read() == manifest(files))
+
+
+def residues(folder):
+    return [name for name in os.listdir(store(folder)) if name.startswith("tmp-")]
+
+
+FILES = {"b": b"abc", "a": b"", "c.d": b"x" * 200_000}
+
+
+def added_listed_verified(folder):
+    words = tree(folder, FILES)
+    expect(run(["store", "list"], folder), 0, b"", b"")
+    expect(run(words, folder), 0, b"stored\n", b"")
+    whole(folder, FILES)
+    expect(run(words, folder), 0, b"present\n", b"")
+    whole(folder, FILES)
+    holds("residues", residues(folder) == [])
+    name = name_of(FILES).encode()
+    expect(run(["store", "list"], folder), 0, name + b"\n", b"")
+    expect(run(["store", "verify", name_of(FILES)], folder), 0, b"sound\n", b"")
+    expect(run(["manifest", "sha256new", name_of(FILES)], folder), 0, manifest(FILES) + name + b"\n", b"")
+
+
+def no_files_are_the_empty_tree(folder):
+    expect(run(["store", "add", EMPTY], folder), 0, b"stored\n", b"")
+    holds("manifest", os.listdir(os.path.join(store(folder), EMPTY)) == [".manifest"])
+    expect(run(["store", "verify", EMPTY], folder), 0, b"sound\n", b"")
+
+
+def the_worked_tree(folder):
+    top = os.path.join(store(folder), "t")
+    os.makedirs(os.path.join(top, "0"))
+    write(top, "a", b"abc")
+    write(top, "b", b"")
+    os.chmod(os.path.join(top, "b"), 0o755)
+    os.symlink("abc", os.path.join(top, "l"))
+    write(os.path.join(top, "0"), "z", b"")
+    for name in ("a", "b", "0/z"):
+        os.utime(os.path.join(top, name), (0, 0))
+    abc, nothing = hashlib.sha256(b"abc").hexdigest(), hashlib.sha256(b"").hexdigest()
+    text = f"F {abc} 0 3 a\nX {nothing} 0 0 b\nS {abc} 3 l\nD /0\nF {nothing} 0 0 z\n".encode()
+    digest = b"sha256=" + hashlib.sha256(text).hexdigest().encode()
+    expect(run(["manifest", "sha256", "t"], folder), 0, text + digest + b"\n", b"")
+    os.mkdir(os.path.join(store(folder), "e"))
+    for algorithm, name in (
+        ("sha1new", b"sha1new=da39a3ee5e6b4b0d3255bfef95601890afd80709"),
+        ("sha256", b"sha256=e3b0c44298fc1c149afbf4c8996fb92427ae41e4649b934ca495991b7852b855"),
+        ("sha256new", EMPTY.encode()),
+    ):
+        expect(run(["manifest", algorithm, "e"], folder), 0, name + b"\n", b"")
+    expect(run(["manifest", "sha256", "u"], folder), 86, b"", b"zi: u is not stored\n")
+
+
+def damaged(folder):
+    top = os.path.join(store(folder), OTHER)
+    os.makedirs(top)
+    line = f"zi: {OTHER} is damaged: {EMPTY}\n".encode()
+    expect(run(["store", "verify", OTHER], folder), 87, b"no manifest\n", line)
+    write(top, ".manifest", b"")
+    expect(run(["store", "verify", OTHER], folder), 87, b"manifest agrees\n", line)
+    write(top, ".manifest", b"F " + b"0" * 64 + b" 0 0 a\n")
+    expect(run(["store", "verify", OTHER], folder), 87, b"manifest line 1\n", line)
+    write(top, ".manifest", b"no manifest")
+    expect(run(["store", "verify", OTHER], folder), 87, b"no manifest\n", line)
+    holds("listing", sorted(os.listdir(top)) == [".manifest"])
+    expect(run(["store", "verify", EMPTY], folder), 86, b"", f"zi: {EMPTY} is not stored\n".encode())
+
+
+def refused(folder):
+    words = tree(folder, FILES)
+    expect(run(words[:2] + [OTHER] + words[3:], folder), 85, b"", f"zi: expected {OTHER}, found {name_of(FILES)}\n".encode())
+    expect(run(words + ["no"], folder), 75, b"", b"zi: no file no\n")
+    expect(run(words + ["./b"], folder), 83, b"", b"zi: b is already there\n")
+    expect(run(words + [folder], folder), 65, b"", f"zi: cannot read {folder}\n".encode())
+    expect(run(["store", "add", name_of(FILES), "a/.."], folder), 64, b"", b"zi: usage at word 3\n")
+    expect(run(["store", "verify", EMPTY[:-1] + "R"], folder), 64, b"", b"zi: usage at word 2\n")
+    manifest_file = write(folder, ".manifest", b"")
+    expect(run(["store", "add", EMPTY, manifest_file], folder), 88, b"", b"zi: bad name .manifest\n")
+    holds("store", not os.path.exists(store(folder)))
+
+
+def deep_and_strange(folder):
+    top = os.path.join(store(folder), "t")
+    os.makedirs(os.path.join(top, *["d"] * 64))
+    holds("64", run(["manifest", "sha256", "t"], folder)[0] == 0)
+    os.mkdir(os.path.join(top, *["d"] * 64, "d"))
+    expect(run(["manifest", "sha256", "t"], folder), 89, b"", b"zi: tree too large: depth past 64\n")
+    os.makedirs(os.path.join(store(folder), "u"))
+    os.mkfifo(os.path.join(store(folder), "u", "pipe"))
+    expect(run(["manifest", "sha256", "u"], folder), 90, b"", b"zi: store fault at u\n")
+    os.mkdir(os.path.join(store(folder), "v"))
+    os.mkdir(os.path.join(os.fsencode(store(folder)), b"v", b"\xff"))
+    expect(run(["manifest", "sha256", "v"], folder), 90, b"", b"zi: store fault at v\n")
+    os.symlink("t", os.path.join(store(folder), "w"))
+    expect(run(["manifest", "sha256", "w"], folder), 90, b"", b"zi: store fault at w\n")
+    with open(os.path.join(store(folder), "x"), "wb"):
+        pass
+    expect(run(["manifest", "sha256", "x"], folder), 90, b"", b"zi: store fault at x\n")
+    os.mkdir(os.path.join(store(folder), "y"))
+    os.mkdir(os.path.join(store(folder), "y", "n"))
+    write(os.path.join(store(folder), "y", "n"), ".manifest", b"")
+    expect(run(["manifest", "sha256", "y"], folder), 88, b"", b"zi: bad name n/.manifest\n")
+
+
+def large(folder):
+    top = os.path.join(store(folder), "t")
+    os.makedirs(top)
+    with open(os.path.join(top, "a"), "wb") as file:
+        file.truncate(268_435_457)
+    expect(run(["manifest", "sha256", "t"], folder), 89, b"", b"zi: tree too large: size past 268435456\n")
+    files = [write(folder, name, b"") for name in ("l", "m", "n", "o", "p")]
+    for path in files:
+        os.truncate(path, 67_108_864)
+    expect(run(["store", "add", OTHER] + files, folder), 89, b"", b"zi: tree too large: size past 268435456\n")
+    os.truncate(files[0], 67_108_865)
+    expect(run(["store", "add", OTHER] + files, folder), 68, b"", f"zi: {files[0]} is longer than 67108864 bytes\n".encode())
+
+
+def what_is_stored_counts_in_rank(folder):
+    """A tree that only the store has may be used where the network is off: then the program can't choose yet."""
+    feed = f"""<interface xmlns="http://zero-install.sourceforge.net/2004/injector/interface"><name>a</name><summary>a</summary>
+<implementation id="a" version="1" local-path="."/><implementation id="b" version="2"><manifest-digest sha256new="{OTHER[10:]}"/></implementation>
+</interface>""".encode()
+    words = ["select", "--no-command", "--level", "testing", "--network", "off", write(folder, "feed.xml", feed)]
+    got = run(words, folder)
+    holds(f"not stored: {got}", got[0] == 0 and b'id="a"' in got[1])
+    os.makedirs(os.path.join(store(folder), OTHER))
+    expect(run(words, folder), 95, b"", b"zi: not built yet\n")
+
+
+def an_empty_folder_under_the_name_is_present(folder):
+    words = tree(folder, FILES)
+    os.makedirs(os.path.join(store(folder), name_of(FILES)))
+    expect(run(words, folder), 0, b"present\n", b"")
+    holds("untouched", os.listdir(os.path.join(store(folder), name_of(FILES))) == [])
+    holds("residues", residues(folder) == [])
+
+
+def taken_temporary_names(folder):
+    words = tree(folder, FILES)
+    for number in range(3):
+        os.makedirs(os.path.join(store(folder), f"tmp-{number}"))
+    expect(run(words, folder), 0, b"stored\n", b"")
+    holds("residues", sorted(residues(folder)) == ["tmp-0", "tmp-1", "tmp-2"])
+
+
+def two_at_once(folder):
+    words = tree(folder, FILES)
+    for _ in range(100):
+        both = [begin(words, folder) for _ in range(2)]
+        ends = sorted((process.communicate()[0], process.returncode) for process in both)
+        holds(f"answers {ends}", ends in ([(b"present\n", 0), (b"stored\n", 0)],))
+        whole(folder, FILES)
+        holds("residues", residues(folder) == [])
+        shutil.rmtree(store(folder))
+
+
+def killed(folder):
+    files = dict(FILES, **{f"n{i}": b"y" * 3_000 for i in range(200)})
+    words = tree(folder, files)
+    start = time.perf_counter()
+    expect(run(words, folder), 0, b"stored\n", b"")
+    took = time.perf_counter() - start
+    chance = random.Random(1)
+    for _ in range(50):
+        shutil.rmtree(store(folder), ignore_errors=True)
+        process = begin(words, folder)
+        time.sleep(chance.uniform(0, took * 1.1))
+        process.send_signal(signal.SIGKILL)
+        process.communicate()
+        if os.path.exists(os.path.join(store(folder), name_of(files))):
+            whole(folder, files)
+        got = run(words, folder)
+        holds(f"after a kill: {got}", got[0] == 0 and got[1] in (b"stored\n", b"present\n"))
+        whole(folder, files)
+
+
+ROWS = [
+    added_listed_verified,
+    no_files_are_the_empty_tree,
+    the_worked_tree,
+    damaged,
+    refused,
+    deep_and_strange,
+    large,
+    what_is_stored_counts_in_rank,
+    an_empty_folder_under_the_name_is_present,
+    taken_temporary_names,
+    two_at_once,
+    killed,
+]
+
+
+def main():
+    if not os.path.exists(PROGRAM):
+        sys.exit(f"{PROGRAM} isn't built: run `rt ci` first")
+    failed = 0
+    for row in ROWS:
+        with tempfile.TemporaryDirectory() as folder:
+            try:
+                row(folder)
+            except Wrong as wrong:
+                failed += 1
+                print(f"{row.__name__}: {wrong}")
+            subprocess.run(["chmod", "-R", "u+w", folder], check=False)
+    print(f"{len(ROWS) - failed} passed, {failed} failed")
+    sys.exit(failed > 0)
+
+
+if __name__ == "__main__":
+    main()
