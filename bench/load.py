@@ -6,13 +6,15 @@ ratio to 0install on the same feeds in the same run, where that ends within a mi
 """
 import sys
 
-sys.path.pop(0)  # a file beside this one has the name of a module that subprocess needs
+sys.path.append(sys.path.pop(0))  # last: select.py beside this file has the name of a module that subprocess needs
 
 import os
 import shutil
 import subprocess
 import tempfile
 import time
+
+from measure import timed_with_peak
 
 TOP = os.path.dirname(os.path.dirname(os.path.abspath(__file__)))
 PROGRAM = os.environ.get("ZI_PROGRAM", os.path.join(TOP, "crates", "zi", "out", "zi"))
@@ -72,21 +74,6 @@ SHAPES = (
 )
 
 
-def timed(command, wanted, env=None):
-    best, peak = None, 0
-    for _ in range(RUNS):
-        start = time.perf_counter()
-        child = subprocess.Popen(command, stdout=subprocess.DEVNULL, stderr=subprocess.DEVNULL, env=env)
-        _, status, usage = os.wait4(child.pid, 0)
-        child.returncode = os.waitstatus_to_exitcode(status)
-        taken = time.perf_counter() - start
-        if child.returncode != wanted:
-            sys.exit(f"{command[0]}: status {child.returncode}")
-        best = taken if best is None else min(best, taken)
-        peak = max(peak, usage.ru_maxrss * 1024)
-    return best, peak
-
-
 def theirs(other, folder, root):
     """The time of one run of 0install, or None where it fails or takes too long."""
     env = dict(os.environ, HOME=folder, XDG_CONFIG_HOME=folder, XDG_CACHE_HOME=folder)
@@ -113,7 +100,7 @@ def main():
             folder = tempfile.mkdtemp(prefix="zi-bench-")
             os.mkdir(os.path.join(folder, "here"))  # 0install wants the path of an implementation to be there
             root = make(folder, count)
-            taken, peak = timed([PROGRAM, "select", "--no-command", root], wanted)
+            taken, peak = timed_with_peak([PROGRAM, "select", "--no-command", root], RUNS, wanted)
             each = taken / count
             first = first or each
             line = f"{count:6d}: {taken * 1000:9.1f} ms, {each / first:5.2f} of the first for each, peak {peak / 2**20:7.1f} MiB"

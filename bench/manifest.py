@@ -8,14 +8,15 @@ memory first, which counts as its time, and 0install reads files that the system
 """
 import sys
 
-sys.path.pop(0)  # select.py beside this file has the name of a module that subprocess needs
+sys.path.append(sys.path.pop(0))  # last: select.py beside this file has the name of a module that subprocess needs
 
-import os
 import pathlib
 import shutil
 import subprocess
 import tempfile
 import time
+
+from measure import fill
 
 RUNS = 5
 TOP = pathlib.Path(__file__).resolve().parent.parent
@@ -31,18 +32,6 @@ def timed(words):
         done = subprocess.run(words, capture_output=True, check=True)
         best = min(best, time.perf_counter() - start)
     return best, done.stdout.decode().split()[0]
-
-
-def fill(top, folders, files, size):
-    """The tree in a folder."""
-    for folder in range(folders):
-        inside = top / str(folder)
-        inside.mkdir()
-        for file in range(files):
-            path = inside / str(file)
-            path.write_bytes(b"a" * size)
-            path.chmod(0o644)
-            os.utime(path, (0, 0))
 
 
 def main():

@@ -6,13 +6,13 @@ peak memory of the largest run in feed sizes, and for flat feeds the ratio to 0i
 """
 import sys
 
-sys.path.pop(0)  # this file has the name of a module that subprocess needs
+sys.path.append(sys.path.pop(0))  # last: this file has the name of a module that subprocess needs
 
 import os
 import shutil
-import subprocess
 import tempfile
-import time
+
+from measure import timed_with_peak
 
 TOP = os.path.dirname(os.path.dirname(os.path.abspath(__file__)))
 PROGRAM = os.path.join(TOP, "crates", "zi", "out", "zi")
@@ -56,22 +56,6 @@ def make(folder, name, inside, head=""):
     return path
 
 
-def timed(command, env=None, wanted=0):
-    best, peak = None, 0
-    for _ in range(RUNS):
-        start = time.perf_counter()
-        child = subprocess.Popen(command, stdout=subprocess.DEVNULL, stderr=subprocess.PIPE, env=env)
-        error = child.stderr.read()
-        _, status, usage = os.wait4(child.pid, 0)
-        child.returncode = os.waitstatus_to_exitcode(status)
-        taken = time.perf_counter() - start
-        if child.returncode != wanted:
-            sys.exit(f"{command[0]}: status {child.returncode}: {error.decode(errors='replace').strip()}")
-        best = taken if best is None else min(best, taken)
-        peak = max(peak, usage.ru_maxrss * 1024)
-    return best, peak
-
-
 def main():
     if not os.path.exists(PROGRAM):
         sys.exit("crates/zi/out/zi isn't there: run the gate first")
@@ -85,7 +69,7 @@ def main():
             content = inside(count)
             path = make(folder, f"f{count}", content)
             size = os.path.getsize(path)
-            taken, peak = timed([PROGRAM, "select", "--no-command", path], wanted=wanted)
+            taken, peak = timed_with_peak([PROGRAM, "select", "--no-command", path], RUNS, wanted)
             each = taken / count
             first = first or each
             line = f"{count:6d} implementations, {size:8d} bytes: {taken * 1000:8.1f} ms, {each / first:5.2f} of the first per implementation, peak {peak / size:5.1f} times the bytes"
@@ -93,7 +77,7 @@ def main():
                 env = dict(os.environ, HOME=folder, XDG_CONFIG_HOME=folder, XDG_CACHE_HOME=folder)
                 # the same feed, with the name and summary that 0install asks for
                 named = make(folder, f"named{count}", content, "  <name>n</name>\n  <summary>s</summary>\n")
-                theirs, _ = timed([other, "select", "--offline", "--command=", "--xml", named], env)
+                theirs, _ = timed_with_peak([other, "select", "--offline", "--command=", "--xml", named], RUNS, env=env)
                 line += f", {taken / theirs:.3f} of 0install's time"
             print(line, flush=True)
     if not other:

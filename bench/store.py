@@ -9,7 +9,7 @@ over the same files stand for it.
 """
 import sys
 
-sys.path.pop(0)  # select.py beside this file has the name of a module that subprocess needs
+sys.path.append(sys.path.pop(0))  # last: select.py beside this file has the name of a module that subprocess needs
 
 import base64
 import hashlib
@@ -20,22 +20,12 @@ import subprocess
 import tempfile
 import time
 
+from measure import fill, put
+
 RUNS = 5
 TOP = pathlib.Path(__file__).resolve().parent.parent
 PROGRAM = TOP / "crates/zi/out/zi"
 SHAPES = {"one file of 100 MB": (1, 1, 100_000_000), "20,000 files": (200, 100, 1_000)}
-
-
-def fill(top, folders, files, size):
-    """The tree in a folder."""
-    for folder in range(folders):
-        inside = top / str(folder)
-        inside.mkdir()
-        for file in range(files):
-            path = inside / str(file)
-            path.write_bytes(b"a" * size)
-            path.chmod(0o644)
-            os.utime(path, (0, 0))
 
 
 def timed(words, env=None, between=None):
@@ -92,9 +82,7 @@ def add(work):
     source = work / "source"
     source.mkdir()
     for name, data in files.items():
-        (source / name).write_bytes(data)
-        (source / name).chmod(0o644)
-        os.utime(source / name, (0, 0))
+        put(source / name, data)
     lines = [f"F {hashlib.sha256(data).hexdigest()} 0 {len(data)} {name}\n" for name, data in sorted(files.items())]
     digest = hashlib.sha256("".join(lines).encode()).digest()
     name = "sha256new_" + base64.b32encode(digest).decode().rstrip("=")

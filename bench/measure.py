@@ -1,0 +1,42 @@
+"""What several of these scripts do: they fill folders with trees, and time programs.
+
+A script that imports it puts its own folder last on the path before, since select.py has the name of a module of Python's
+that subprocess needs.
+"""
+import os
+import subprocess
+import sys
+import time
+
+
+def put(path, data):
+    """A file with these bytes that isn't executable and has the time 0."""
+    path.write_bytes(data)
+    path.chmod(0o644)
+    os.utime(path, (0, 0))
+
+
+def fill(top, folders, files, size):
+    """So many folders in a folder, each with so many files of one size."""
+    for folder in range(folders):
+        inside = top / str(folder)
+        inside.mkdir()
+        for file in range(files):
+            put(inside / str(file), b"a" * size)
+
+
+def timed_with_peak(command, runs, wanted=0, env=None):
+    """The least time and the most memory of some runs, in seconds and bytes; each is to end with the status that is wanted."""
+    best, peak = float("inf"), 0
+    for _ in range(runs):
+        start = time.perf_counter()
+        child = subprocess.Popen(command, stdout=subprocess.DEVNULL, stderr=subprocess.PIPE, env=env)
+        with child.stderr:
+            error = child.stderr.read()
+        _, status, usage = os.wait4(child.pid, 0)
+        child.returncode = os.waitstatus_to_exitcode(status)
+        best = min(best, time.perf_counter() - start)
+        if child.returncode != wanted:
+            sys.exit(f"{command[0]}: status {child.returncode}: {error.decode(errors='replace').strip()}")
+        peak = max(peak, usage.ru_maxrss * 1024)
+    return best, peak
