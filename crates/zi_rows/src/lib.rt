@@ -4,6 +4,8 @@
 #![tactic(auto)]
 
 #[cfg(test)]
+mod adding;
+#[cfg(test)]
 mod feeds;
 #[cfg(test)]
 mod loading;
