@@ -1,15 +1,14 @@
 -- A session that runs alone.
-use Rattle.std.proofs.Common.{◌≡◌, ◌≢◌, ℕ, zero, suc, ◌+◌, ◌<◌, ◌≤◌, Bool, true, false, nat_eq, nat_lt, List, [], ◌∷◌, ◌++◌, length, Option, Some, None, ◌⊎◌, inl, inr, refl, sym, ◌∙◌, ap, subst, IsSome, slice_get, option_and_then, if◌then◌else◌, add-one, arith, below_more}
+use Rattle.std.proofs.Common.{◌≡◌, ◌≢◌, ℕ, zero, suc, ◌+◌, ◌<◌, ◌≤◌, Bool, true, false, nat_lt, List, [], ◌∷◌, ◌++◌, length, Option, Some, None, ◌⊎◌, inl, inr, refl, sym, ◌∙◌, ap, subst, IsSome, slice_get, if◌then◌else◌, add-one, arith, below_more}
 use Rattle.std.proofs.lemmas.Bool.{lt-ltb, ltb-true}
 use Rattle.std.proofs.lemmas.Option.{slice_get_within}
 use Rattle.std.proofs.lemmas.List.{append-nil, append_assoc}
 use Rattle.zi_digest.specs.declared.DigestName.{DigestName}
-use Rattle.zi_digest.specs.declared.DigestName.TheVariants.{Sha1new, Sha256, Sha256new}
 use Rattle.zi_digest.specs.Name.{spelling}
 use Rattle.zi_tree.specs.Dir.{Dir}
 use Rattle.zi_manifest.specs.Manifest.{as_read, manifest}
 use Rattle.zi_shelf.specs.Names.{Name, put, IsIn}
-use Rattle.zi_shelf.specs.Shelved.{Top, Pending, Shelved, Call, MakeTop, Fill, Settle, Rename, SettleTop, RemoveTop, Reply, Did, Exists, Failed, Memory, Answers, Makes, Moves, Unknown}
+use Rattle.zi_shelf.specs.Shelved.{Top, Pending, Shelved, Call, MakeTop, Fill, Settle, Rename, SettleTop, RemoveTop, Reply, Did, Exists, Failed, Memory, Answers, Moves, Unknown}
 use Rattle.zi_shelf.specs.Filling.{Work, trees}
 use Rattle.zi_shelf.specs.Told.{Told, change_call, recorded}
 use Rattle.zi_shelf.specs.declared.call.ShelfCall.{ShelfCall}
@@ -18,16 +17,17 @@ use Rattle.zi_session.specs.Made.{made}
 use Rattle.zi_session.specs.Places.{tmp_name, phase_of, is_over}
 use Rattle.zi_session.specs.StoreWorks.{algorithm_in, store_works}
 use Rattle.zi_session.specs.Standing.{works, phase}
-use Rattle.zi_session.specs.Stepping.{Calls, Lead, IsRun, Says, SaysOn}
+use Rattle.zi_session.specs.Stepping.{Calls, Lead, IsAsLeft, IsRun, SureRun, Says, SaysOn}
 use Rattle.zi_session.specs.Begun.{IsBegun}
-use Rattle.zi_session.specs.Alone.{Tops, added, AreSame, Adds, Finds, FindsTaken, Stops, Ending, IsOwn, Grows, EndsAlone, AloneLaw}
+use Rattle.zi_session.specs.Alone.{Tops, added, AreSame, Adds, Finds, FindsTaken, Stops, Ending, IsOwn, Grows, EndsAlone, AloneLaw, AsLeftLaw}
 use Rattle.zi_session.specs.declared.place.Place.{Place}
 use Rattle.zi_session.specs.declared.place.Place.TheVariants as place
 use Rattle.zi_session.specs.declared.session.Session.{Session}
 use Rattle.zi_session.specs.declared.step.Step.{Step}
 use Rattle.zi_session.specs.declared.step.Step.TheVariants.{More, Stored as SaysStored, Present as SaysPresent, Crowded as SaysCrowded, Fault as SaysFault, Memory as SaysMemory}
 use Rattle.zi_session.proofs.MapsLemmas.{put-same, put-other, same_or_not, some_none}
-use Rattle.zi_session.proofs.CallsLemmas.{fill_is}
+use Rattle.zi_session.proofs.CallsLemmas.{fill_is, made_none, made_more, not_lt}
+use Rattle.zi_session.proofs.TiedLemmas.{no_tmp}
 use Rattle.zi_session.proofs.Remade.{rebuilds}
 
 -- a temporary name that was free holds what so many of the calls make, with the mark or without it, and all else is as it was
@@ -66,44 +66,6 @@ top_after new tops pending is x = ap (λ (s : Shelved Dir). s.tops x) is
 
 same_after : (new old : Shelved Dir) → new ≡ old → (x : Name) → new.tops x ≡ old.tops x
 same_after new old is x = ap (λ (s : Shelved Dir). s.tops x) is
-
-nothing_made : (ws : List Work) (x : Dir) → made trees ws zero x ≡ Some x
-nothing_made [] x = refl
-nothing_made (w ∷ ws) x = refl
-
--- one call more that fills
-one_more : (ws : List Work) (k : ℕ) (w : Work) (x y z : Dir) → slice_get ws k ≡ Some w → made trees ws k x ≡ Some y → trees.filled w y ≡ Some z → made trees ws (suc k) x ≡ Some z
-one_more [] k w x y z h m f = absurd (cc h)
-one_more (v ∷ ws) zero w x y z h m f =
-    let e : v ≡ w = cc h in
-    let e' : x ≡ y = cc m in
-    rw (e, e', f) (nothing_made ws z)
-one_more (v ∷ ws) (suc k) w x y z h m f =
-    elim (trees.filled v x) as (λ o. option_and_then (made trees ws k) o ≡ Some y → option_and_then (made trees ws (suc k)) o ≡ Some z) [
-      | None ↦ λ e. absurd (cc e)
-      | Some u ↦ λ e. one_more ws k w u y z h e f
-    ] m
-
-not_below : (k n : ℕ) → (k < n → ⊥) → n ≤ k
-not_below k n h = grind (arith, h)
-
--- the text begins with the letter `s`, as every digest name does
-has_s : List ℕ → Bool
-has_s [] = false
-has_s (x ∷ xs) = nat_eq x 115
-
-spelled_s : (d : DigestName) → has_s (spelling d) ≡ true
-unfolding has_s
-spelled_s (Sha1new bytes) = refl
-spelled_s (Sha256 bytes) = refl
-spelled_s (Sha256new bytes) = refl
-
-tmp_s : (n : ℕ) → has_s (tmp_name n) ≡ false
-unfolding tmp_name has_s
-tmp_s n = refl
-
-no_tmp : (d : DigestName) (n : ℕ) → spelling d ≢ tmp_name n
-no_tmp d n e = cc (spelled_s d, ap has_s e, tmp_s n)
 
 module _ (name : Name) (tree : Dir) (before : Tops) (apart : (n : ℕ) → name ≢ tmp_name n)
     (makes : made trees (store_works name tree) (length (store_works name tree)) trees.empty ≡ Some (added name tree).tree) where
@@ -158,7 +120,7 @@ module _ (name : Name) (tree : Dir) (before : Tops) (apart : (n : ℕ) → name 
       elim (nat_lt k (length (store_works name tree))) as (λ t. (k < length (store_works name tree) → t ≡ true) → Alone name tree before (if t then Filling n k else Settling n) now) [
         | true ↦ λ h. record { few = few; free = free; part = part; is = is; there = there; others = others }
         | false ↦ λ h.
-            let ge : length (store_works name tree) ≤ k = not_below k (length (store_works name tree)) (λ lt. cc (h lt)) in
+            let ge : length (store_works name tree) ≤ k = not_lt k (length (store_works name tree)) (λ lt. cc (h lt)) in
             let e : k ≡ length (store_works name tree) = omega arith in
             record { few = few; free = free; part = part; is = rw (← e) is; there = there; others = others }
       ] (λ lt. lt-ltb k (length (store_works name tree)) lt)
@@ -180,7 +142,7 @@ module _ (name : Name) (tree : Dir) (before : Tops) (apart : (n : ℕ) → name 
   making : (s t : Shelved Dir) (n : ℕ) (reply : Reply) → Trying before n s.tops → Answers trees s (MakeTop (tmp_name n)) reply t
       → Alone name tree before (next_phase 10000 (length (store_works name tree)) (Making n) reply) t.tops
   making s t n Did h (free, is) =
-      in_filling n 0 trees.empty t.tops h.few (sym (h.same (tmp_name n)) ∙ free) (nothing_made (store_works name tree) trees.empty)
+      in_filling n 0 trees.empty t.tops h.few (sym (h.same (tmp_name n)) ∙ free) (made_none trees (store_works name tree) trees.empty)
       (at_tmp s t n (Some (record { tree = trees.empty; settled = false })) s.pending is)
       (off_tmp s t n (Some (record { tree = trees.empty; settled = false })) s.pending is (λ x ne. h.same x)) (omega arith)
   making s t n Exists h (there, is) =
@@ -189,7 +151,7 @@ module _ (name : Name) (tree : Dir) (before : Tops) (apart : (n : ℕ) → name 
       elim (nat_lt (n + 1) 10000) as (λ b. nat_lt (n + 1) 10000 ≡ b → Alone name tree before (if b then Making (n + 1) else Ended Crowded) t.tops) [
         | true ↦ λ e. record { few = ltb-true (n + 1) 10000 e; taken = taken; same = same }
         | false ↦ λ e.
-            let all : 10000 ≤ n + 1 = not_below (n + 1) 10000 (λ lt. let f : nat_lt (n + 1) 10000 ≡ true = lt-ltb (n + 1) 10000 lt in cc (e, f)) in
+            let all : 10000 ≤ n + 1 = not_lt (n + 1) 10000 (λ lt. let f : nat_lt (n + 1) 10000 ≡ true = lt-ltb (n + 1) 10000 lt in cc (e, f)) in
             record { taken = λ k less. taken k (let l : k < n + 1 = omega arith in l); same = same }
       ] refl
   making s t n Failed h (inl is) = stops_still (Making n) s t is h
@@ -203,7 +165,7 @@ module _ (name : Name) (tree : Dir) (before : Tops) (apart : (n : ℕ) → name 
       let there' = h.there in
       let same : h.part ≡ e.tree = cc (there', there) in
       let inside : k < length (store_works name tree) = slice_get_within (store_works name tree) k w at in
-      in_filling n (k + 1) after t.tops h.few h.free (rw add-one (one_more (store_works name tree) k w trees.empty h.part after at h.is (rw same does)))
+      in_filling n (k + 1) after t.tops h.few h.free (rw add-one (made_more trees (store_works name tree) k w trees.empty h.part after at h.is (rw same does)))
       (at_tmp s t n (Some (record { tree = after; settled = false })) s.pending is)
       (off_tmp s t n (Some (record { tree = after; settled = false })) s.pending is h.others) (omega arith)
   fills s t n k w Exists h at a = absurd a
@@ -308,6 +270,18 @@ module _ (name : Name) (tree : Dir) (before : Tops) (apart : (n : ℕ) → name 
   steps : (n : ℕ) (p q : Phase) (s t : Told) → Alone name tree before p s.shelf.tops → Lead name (store_works name tree) n p s q t → Alone name tree before q t.shelf.tops
   steps zero p q s t h (e, f) = subst (λ x. Alone name tree before x t.shelf.tops) (sym e) (subst (λ (u : Told). Alone name tree before p u.shelf.tops) (sym f) h)
   steps (suc n) p q s t h (m, u, l, c) = one_step m q u t More (steps n p m s u h l) c
+
+  -- the temporary entry is as the session left it
+  as_left : (p : Phase) (s : Shelved Dir) → Alone name tree before p s.tops → IsAsLeft (store_works name tree) s p
+  as_left (Making n) s h = tt
+  as_left (Filling n k) s h = (h.part, h.is, h.there)
+  as_left (Settling n) s h = (h.part, h.is, h.there)
+  as_left (Renaming n) s h = (h.part, h.is, h.there)
+  as_left Storing s h = tt
+  as_left (Removing n) s h = (h.1.part, h.1.is, h.1.there)
+  as_left Leaving s h = tt
+  as_left (Ended a) s h = tt
+  as_left Stopped s h = tt
 
   -- the ending that an answer stands for
   ending_at : (step other : Step) (now : Tops) → step ≡ other → Ending name tree before other now → Ending name tree before step now
@@ -446,3 +420,29 @@ pub ends_alone : (honest : Type 0) (name : DigestName) (tree : Dir) (x : Session
 ends_alone honest name tree x before after s t q step b h told tells ne run =
     let over : IsRun honest x.name (works x) (phase x) before q (Some t) step = subst (λ o. IsRun honest x.name (works x) (phase x) before q o step) tells run in
     alone_law name tree x s t q step b ne (record { run = λ v one is. over.run v h (told ∙ is) })
+
+-- where the steps of a session led that began and that runs alone
+left_after : (name : Name) (tree : Dir) (n : ℕ) (s t : Told) (q : Phase) → ((k : ℕ) → name ≢ tmp_name k)
+    → made trees (store_works name tree) (length (store_works name tree)) trees.empty ≡ Some (added name tree).tree
+    → Lead name (store_works name tree) n (Making 0) s q t → IsAsLeft (store_works name tree) t.shelf q
+left_after name tree n s t q apart makes lead =
+    let start : Alone name tree s.shelf.tops (Making 0) s.shelf.tops = record { few = omega arith; taken = λ k less. absurd (omega arith); same = λ x. refl } in
+    as_left name tree s.shelf.tops apart makes q t.shelf (steps name tree s.shelf.tops apart makes n (Making 0) q s t start lead)
+
+pub as_left_law : AsLeftLaw
+as_left_law name tree x n s t q b lead =
+    let world : World Dir = record { shelf = s.shelf; adders = [] } in
+    let begins = (b.leads world).1 in
+    let r = rebuilds tree (manifest (algorithm_in (spelling name)) tree) begins.0 begins.1 in
+    let named : x.name ≡ spelling name = sym b.stands.named in
+    let its : works x ≡ store_works (spelling name) tree = sym b.stands.makes in
+    let at : phase x ≡ Making 0 = sym b.stands.phase in
+    let lead1 = subst (λ m. Lead m (works x) n (phase x) s q t) named lead in
+    let lead2 = subst (λ ws. Lead (spelling name) ws n (phase x) s q t) its lead1 in
+    let lead3 = subst (λ p. Lead (spelling name) (store_works (spelling name) tree) n p s q t) at lead2 in
+    subst (λ ws. IsAsLeft ws t.shelf q) (sym its) (left_after (spelling name) tree n s t q (no_tmp name) r.makes lead3)
+
+-- so over a sure shelf the count doesn't rise in a run
+pub run_calm : (name : DigestName) (tree : Dir) (x : Session) (before : Option Told) (s : Told) (f f' : ℕ) → IsBegun name tree x → before ≡ Some s
+    → SureRun x.name (works x) (phase x) before f f' → f' ≡ f
+run_calm name tree x before s f f' b is run = run.no_rise s is (λ n q t lead. as_left_law name tree x n s t q b lead)

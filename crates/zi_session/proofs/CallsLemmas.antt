@@ -16,12 +16,12 @@ use Rattle.zi_session.proofs.MovingLemmas.{Frame, Moved}
 abbrev pub with_top : {T : Type 0} → Shelved T → Name → Option (Top T) → Shelved T
 with_top s n v = record { tops = put s.tops n v; pending = s.pending }
 
-made_none : {T W : Type 0} (t : Trees T W) (ws : List W) (x : T) → made t ws zero x ≡ Some x
+pub made_none : {T W : Type 0} (t : Trees T W) (ws : List W) (x : T) → made t ws zero x ≡ Some x
 made_none t [] x = refl
 made_none t (w ∷ ws) x = refl
 
 -- one call more that fills
-made_more : {T W : Type 0} (t : Trees T W) (ws : List W) (k : ℕ) (w : W) (x y z : T) → slice_get ws k ≡ Some w → made t ws k x ≡ Some y → t.filled w y ≡ Some z → made t ws (suc k) x ≡ Some z
+pub made_more : {T W : Type 0} (t : Trees T W) (ws : List W) (k : ℕ) (w : W) (x y z : T) → slice_get ws k ≡ Some w → made t ws k x ≡ Some y → t.filled w y ≡ Some z → made t ws (suc k) x ≡ Some z
 made_more t [] k w x y z h m f = absurd (cc h)
 made_more t (v ∷ ws) zero w x y z h m f =
     let e : v ≡ w = cc h in
@@ -36,6 +36,9 @@ made_more {T} t (v ∷ ws) (suc k) w x y z h m f =
 pub fill_is : {W : Type 0} (n : Name) (o : Option W) (call : Call W) → fill_call n o ≡ Some call → (w : W) × (o ≡ Some w) × (Fill n w ≡ call)
 fill_is n None call h = absurd (cc h)
 fill_is n (Some w) call h = (w, refl, cc h)
+
+pub not_lt : (k n : ℕ) → (k < n → ⊥) → n ≤ k
+not_lt k n h = grind (arith, h)
 
 owned_filling : (n all k m : ℕ) → owned (filling n all k) ≡ Some m → m ≡ n
 owned_filling n all k m = elim (nat_lt k all) as (λ t. owned (if t then Filling n k else Settling n) ≡ Some m → m ≡ n) [ true ↦ λ o. cc o | false ↦ λ o. cc o ]
@@ -180,9 +183,6 @@ module _ {T W : Type 0} (r : Rules T W) (lawful : IsLawful r) where
         free = λ m less same. inl (rw (lawful.tmp_apart m n less few same) mine);
         owns = λ m o. absurd (cc (o, over));
       }
-
-  not_lt : (k n : ℕ) → (k < n → ⊥) → n ≤ k
-  not_lt k n h = grind (arith, h)
 
   lt_true : (k n : ℕ) → k < n → nat_lt k n ≡ true
   lt_true k n h = lt-ltb k n h

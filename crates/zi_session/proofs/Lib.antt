@@ -17,3 +17,4 @@ pub mod FittingLemmas
 pub mod StoreLemmas
 pub mod KeepingLemmas
 pub mod AloneLemmas
+pub mod CountingLemmas

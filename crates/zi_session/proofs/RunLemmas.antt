@@ -5,7 +5,7 @@ use Rattle.zi_shelf.specs.Names.{Name}
 use Rattle.zi_shelf.specs.Filling.{Work}
 use Rattle.zi_shelf.specs.Told.{Told, Rose}
 use Rattle.zi_session.specs.Machine.{Phase}
-use Rattle.zi_session.specs.Stepping.{IsEvent, Waits, Lead, IsRun, Go, Goes, HasGone, OnFault, Spends}
+use Rattle.zi_session.specs.Stepping.{IsEvent, Waits, Lead, IsRun, Go, Goes, HasGone, OnFault, Spends, SureStep, SureRun}
 use Rattle.zi_session.specs.Works.{work_of}
 use Rattle.zi_session.specs.declared.work.Work.{Work as KeptWork}
 use Rattle.zi_session.specs.Standing.{works, phase, residue}
@@ -110,6 +110,19 @@ pub ran_gone : (honest : Type 0) (first old : Session) (before now : Option Told
     → Goes (works old) (phase old) (residue old) q after step → HasGone (works first) (phase first) (residue first) q after step
 ran_gone honest first old before now q after step r g =
     gone_last (works first) (phase first) (residue first) (phase old) (residue old) q after step r.gone (goes_of first old q after step r.same g)
+
+-- over a sure shelf the count hasn't risen
+pub calm_start : (name : Name) (works : List Work) (p : Phase) (before : Option Told) (f : ℕ) → SureRun name works p before f f
+calm_start name works p before f = record { no_rise = λ s is left. refl }
+
+pub calm_on : (honest : Type 0) (first old : Session) (before now : Option Told) (f f' f'' : ℕ) → honest → Ran honest first before old now
+    → SureRun first.name (works first) (phase first) before f f' → SureStep (works old) (phase old) now f' f'' → SureRun first.name (works first) (phase first) before f f''
+calm_on honest first old before now f f' f'' h r run step = record {
+  no_rise = λ s is left.
+      let l = r.led.led s h is in
+      let here = subst (λ (v : Vec KeptWork). SureStep (map work_of v.items) (phase old) now f' f'') r.same step in
+      here.no_rise l.0 l.1 (left l.2 (phase old) l.0 l.3) ∙ run.no_rise s is left;
+}
 
 -- counts that don't fall
 pub later_self : (a : ℕ) → a ≤ a

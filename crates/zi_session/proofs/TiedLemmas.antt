@@ -37,7 +37,7 @@ unfolding tmp_name is_s
 tmp_first n = refl
 
 -- no digest name is a temporary one
-no_tmp : (d : DigestName) (n : ℕ) → spelling d ≡ tmp_name n → ⊥
+pub no_tmp : (d : DigestName) (n : ℕ) → spelling d ≡ tmp_name n → ⊥
 no_tmp d n e = cc (digest_first d, ap is_s e, tmp_first n)
 
 names_differ : (m n : ℕ) → m < 10000 → n < 10000 → tmp_name m ≡ tmp_name n → m ≡ n

@@ -14,7 +14,7 @@ use Rattle.zi_session.specs.Places.{tmp_name}
 use Rattle.zi_session.specs.Rebuilding.{with_manifest}
 use Rattle.zi_session.specs.StoreWorks.{algorithm_in, store_works}
 use Rattle.zi_session.specs.Standing.{works, phase}
-use Rattle.zi_session.specs.Stepping.{IsRun}
+use Rattle.zi_session.specs.Stepping.{Lead, IsAsLeft, IsRun}
 use Rattle.zi_session.specs.Begun.{IsBegun}
 use Rattle.zi_session.specs.declared.session.Session.{Session}
 use Rattle.zi_session.specs.declared.step.Step.{Step}
@@ -90,3 +90,8 @@ abbrev pub AloneLaw : Type 0
 AloneLaw = (name : DigestName) (tree : Dir) (x : Session) (s t : Told) (q : Phase) (step : Step)
     → IsBegun name tree x → step ≢ More → IsRun (Unit {0}) x.name (works x) (phase x) (Some s) q (Some t) step
     → EndsAlone (spelling name) tree s step t
+
+-- Each step of a session that runs alone finds its temporary entry as the session left it.
+abbrev pub AsLeftLaw : Type 0
+AsLeftLaw = (name : DigestName) (tree : Dir) (x : Session) (n : ℕ) (s t : Told) (q : Phase)
+    → IsBegun name tree x → Lead x.name (works x) n (phase x) s q t → IsAsLeft (works x) t.shelf q

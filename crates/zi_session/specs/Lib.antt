@@ -14,3 +14,4 @@ pub mod Walk
 pub mod Begun
 pub mod Keeping
 pub mod Alone
+pub mod Counting

@@ -118,3 +118,7 @@ IsAsLeft works s p = Unit {0}
 -- over a sure shelf with that entry as it was left the count doesn't rise
 pub record SureStep (works : List Work) (p : Phase) (before : Option Told) (old_faults new_faults : ℕ) : Type 0 where
   pub no_rise : (s : Told) → before ≡ Some s → IsAsLeft works s.shelf p → new_faults ≡ old_faults
+
+-- Over a sure shelf on which each step finds the temporary entry as the session left it, the count doesn't rise in a whole run.
+pub record SureRun (name : Name) (works : List Work) (p : Phase) (before : Option Told) (old_faults new_faults : ℕ) : Type 0 where
+  pub no_rise : (s : Told) → before ≡ Some s → ((n : ℕ) (q : Phase) (t : Told) → Lead name works n p s q t → IsAsLeft works t.shelf q) → new_faults ≡ old_faults

@@ -7,7 +7,7 @@ ghost use Rattle.zi_shelf.specs.Told.{Rose};
 ghost use Rattle.zi_session.specs.Places.{tmp_name, is_over};
 ghost use Rattle.zi_session.specs.Standing.{works, phase, residue, left};
 ghost use Rattle.zi_session.specs.Keeping.{KeepsInvariant};
-ghost use Rattle.zi_session.specs.Stepping.{IsEvent, Goes, Spends, OnFault, SureStep, IsRun, HasGone};
+ghost use Rattle.zi_session.specs.Stepping.{IsEvent, Goes, Spends, OnFault, SureStep, IsRun, HasGone, SureRun};
 ghost use Rattle.zi_session.specs.declared.place.Place.TheVariants.{Makes, Fills, Settles, Renames, Stores, Removes, Leaves};
 
 use crate::place::Place;
@@ -66,6 +66,7 @@ impl Session {
         ensures plan { K.plan k.new ≡ K.plan k.old }
         ensures place { K.place k.new ≡ K.place k.old }
         ensures sure { K.sure k.old → K.sure k.new }
+        ensures no_rise { K.sure k.old → SureRun self.old.name (works self.old) (phase self.old) (K.told k.old) (K.faults k.old) (K.faults k.new) }
     {
         if is_over(self.place) {
             return Step::Over;

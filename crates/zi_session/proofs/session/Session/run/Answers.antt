@@ -1,7 +1,7 @@
 use Rattle.std.proofs.Common.{◌∙◌, refl, sym}
 use Rattle.zi_session.specs.Standing.{phase, residue, left}
 use Rattle.zi_session.proofs.KeepingLemmas.{run_keeps, still_keeps}
-use Rattle.zi_session.proofs.RunLemmas.{ran_start, ran_on, ran_run, ran_gone, later_self, later_on, fault_on, spent}
+use Rattle.zi_session.proofs.RunLemmas.{ran_start, ran_on, ran_run, ran_gone, later_self, later_on, fault_on, spent, calm_start, calm_on}
 use Rattle.zi_session.proofs.session.Session.run.Goals as goal
 
 pub loop-step-init : goal.loop-step-init
@@ -13,6 +13,7 @@ loop-step-init g c = record {
   plan = refl;
   place = refl;
   later = later_self _;
+  calm = λ h. calm_start _ _ _ _ _;
 }
 
 pub loop-step-preserved : goal.loop-step-preserved
@@ -30,6 +31,9 @@ loop-step-preserved g c =
       plan = e.plan ∙ i.plan;
       place = e.place ∙ i.place;
       later = later_on _ _ _ i.later e.later;
+      calm = λ h.
+          calm_on (g.K.Shelf.honest c.args.k.now) c.args.self.now l.self (g.K.Shelf.told c.args.k.now) (g.K.Shelf.told l.k) _ _ _ (g.met.K.Shelf.sure_is c.args.k.now h).keeps
+          i.ran (i.calm h) (e.no_rise (i.sure h));
     }
 
 pub loop-step-smaller : goal.loop-step-smaller
@@ -40,6 +44,9 @@ loop-step-smaller g c =
 
 pub returns-then-is_over-clause-sound : goal.returns-then-is_over-clause-sound
 returns-then-is_over-clause-sound g c = still_keeps _ _ _ _ _ _ _ refl refl
+
+pub returns-then-is_over-clause-no_rise : goal.returns-then-is_over-clause-no_rise
+returns-then-is_over-clause-no_rise g c h = calm_start _ _ _ _ _
 
 pub returns-in_default : goal.returns-in_default
 returns-in_default g c =
@@ -63,4 +70,7 @@ returns-in_default g c =
       plan = e.plan ∙ i.plan;
       place = e.place ∙ i.place;
       sure = λ h. e.sure (i.sure h);
+      no_rise = λ h.
+          calm_on (g.K.Shelf.honest c.args.k.now) c.args.self.now l.self (g.K.Shelf.told c.args.k.now) (g.K.Shelf.told l.k) _ _ _ (g.met.K.Shelf.sure_is c.args.k.now h).keeps
+          i.ran (i.calm h) (e.no_rise (i.sure h));
     }

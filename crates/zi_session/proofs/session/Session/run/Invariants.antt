@@ -1,6 +1,7 @@
 use Rattle.std.proofs.Common.{◌≡◌, ◌≤◌, ◌+◌, ◌-◌, false}
 use Rattle.zi_session.specs.Places.{is_over}
-use Rattle.zi_session.specs.Standing.{left}
+use Rattle.zi_session.specs.Standing.{works, phase, left}
+use Rattle.zi_session.specs.Stepping.{SureRun}
 use Rattle.zi_session.proofs.RunLemmas.{Ran}
 use Rattle.zi_session.proofs.session.Session.run.Given as goal
 
@@ -13,6 +14,8 @@ invariant-loop-step g l = record {
   plan : g.K.Shelf.plan l.k ≡ g.K.Shelf.plan l.initial.k;
   place : g.K.Shelf.place l.k ≡ g.K.Shelf.place l.initial.k;
   later : g.K.Shelf.faults l.initial.k ≤ g.K.Shelf.faults l.k;
+  calm : g.K.Shelf.sure l.initial.k
+      → SureRun l.initial.self.name (works l.initial.self) (phase l.initial.self) (g.K.Shelf.told l.initial.k) (g.K.Shelf.faults l.initial.k) (g.K.Shelf.faults l.k);
 }
 
 abbrev pub decreases-loop-step : goal.decreases-loop-step
