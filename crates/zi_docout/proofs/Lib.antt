@@ -5,6 +5,5 @@ pub mod ParsedLemmas
 pub mod NamesLemmas
 pub mod ToldLemmas
 pub mod BackLaws
-pub mod TwiceLemmas
 pub mod WalkLemmas
 pub mod TextLemmas

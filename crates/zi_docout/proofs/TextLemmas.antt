@@ -6,7 +6,7 @@ use Rattle.zi_elements.specs.declared.element.Node.{Node}
 use Rattle.zi_forest.specs.Forest.{Forest, joined, node_view, nodes_view}
 use Rattle.zi_docout.specs.Amiss.{is_amiss_text, texts}
 use Rattle.zi_docout.proofs.ForestLemmas.{nodes_append, texts_joined}
-use Rattle.zi_docout.proofs.TwiceLemmas.{or_none}
+use Rattle.std.proofs.Math.Bool.{or-false}
 
 abbrev pub HasAmiss : ℕ → Forest → Bool
 HasAmiss n f = list_any (is_amiss_text n) (texts f)
@@ -25,7 +25,7 @@ or_second false b c h = ap (λ v. v || c) h
 
 or_both : (a b : Bool) → a ≡ false → b ≡ false → (a || (b || false)) ≡ false
 or_both true b h k = cc
-or_both false b h k = or_none b ∙ k
+or_both false b h k = or-false b ∙ k
 
 -- a child that is amiss
 pub amiss_found : (n : ℕ) (all xs : List Node) (x : Node) (ys : List Node) → all ≡ xs ++ x ∷ ys → HasAmiss n (node_view x) ≡ true → HasAmiss n (nodes_view all) ≡ true

@@ -9,7 +9,7 @@ use Rattle.std.proofs.lemmas.Map.Text.{is_eq-slice_cmp}
 use Rattle.zi_elements.specs.declared.element.Attr.{Attr}
 use Rattle.zi_names.specs.Names.{has_twice}
 use Rattle.zi_docout.specs.Amiss.{same_name}
-use Rattle.zi_docout.proofs.TwiceLemmas.{any_push, twice_push, twice_found, cond_or, not_false, not_true}
+use Rattle.zi_names.proofs.Twice.{any_push, twice_push, twice_found, cond_or, not_false, not_true}
 use Rattle.zi_docout.proofs.amiss.has_name_twice.Goals as goal
 
 pub returns-then-not-branch : goal.returns-then-not-branch
