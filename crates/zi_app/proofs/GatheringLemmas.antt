@@ -1,11 +1,11 @@
 -- The tree of the parts, as it grows.
 use Rattle.std.proofs.Common.{◌≡◌, ℕ, Bool, true, false, ◌&&◌, List, [], ◌∷◌, ◌++◌, take, length, map, get_or, Option, Some, None, refl, sym, ◌∙◌, ap, subst, bytes_eq, if◌then◌else◌, ◌<◌, arith}
-use Rattle.std.specs.Prelude.{not, slice_get, IsSome, is_some, Result, Ok, Err, IfSome, IsSomeAnd, ◌≤◌, ◌+◌, sum, nat_lt, ◌⊎◌}
+use Rattle.std.specs.Prelude.{not, slice_get, IsSome, is_some, Ok, Err, IfSome, IsSomeAnd, ◌≤◌, ◌+◌, sum, nat_lt}
 use Rattle.std.proofs.Common.{zero, suc, inl, inr, ◌||◌}
 use Rattle.std.proofs.lemmas.List.Sums.{sum_by_more_le, sum-map}
 use Rattle.std.specs.List.{sum_by}
 use Rattle.std.specs.Option.{option_or}
-use Rattle.std.specs.List.{list_any, list_all}
+use Rattle.std.specs.List.{list_all}
 use Rattle.std.proofs.lemmas.Option.{slice_get_read}
 use Rattle.std.proofs.lemmas.Bool.Decides.{nat_tests}
 use Rattle.std.proofs.lemmas.Slice.Eq.{bytes_eq-Decides}
@@ -24,7 +24,7 @@ use Rattle.zi_words.specs.Store.{last_part, is_name, is_file}
 use Rattle.zi_app.specs.declared.gathering.Part.{Part}
 use Rattle.zi_app.specs.declared.gathering.GatherFault.{GatherFault}
 use Rattle.zi_app.specs.declared.gathering.GatherFault.TheVariants.{Read, Absent, TooLong, Twice, TooLarge, Memory}
-use Rattle.zi_app.specs.Gathering.{AreParts, IsPart, part_name, names_of, is_among, are_apart, IsFirstTwice, plain, file_named, IsTreeOf, PutsPart, MakesTree, part_size, size_limit, file_limit, Gathers, Refuses, GetsPart, Reaches}
+use Rattle.zi_app.specs.Gathering.{AreParts, IsPart, part_name, names_of, is_among, are_apart, plain, file_named, PutsPart, MakesTree, part_size, size_limit, file_limit, Gathers, Refuses, GetsPart}
 use Rattle.zi_tree.specs.declared.change.TreeLimit.TheVariants.{Size, Nodes}
 
 -- one more got

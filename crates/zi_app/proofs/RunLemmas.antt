@@ -1,6 +1,6 @@
 -- The outcome of the words, and the outcome after its line was told.
-use Rattle.std.proofs.Common.{◌≡◌, ℕ, inl, inr, ◌⊎◌, true, false, List, [], ◌∷◌, length, refl, sym, ap, subst, ◌∙◌, arith, Option, None}
-use Rattle.std.proofs.lemmas.List.{take_all, append-nil}
+use Rattle.std.proofs.Common.{◌≡◌, ℕ, inl, inr, ◌⊎◌, true, false, List, [], ◌∷◌, length, refl, sym, subst, Option, None}
+use Rattle.std.proofs.lemmas.List.{append-nil}
 use Rattle.zi_text.specs.Front.{StopsAt, stops_at_end}
 use Rattle.zi_outside.specs.Count.{Rose}
 use Rattle.zi_outside.specs.Outside.{Holding, gained, GainsFront}
@@ -14,7 +14,6 @@ use Rattle.zi_words.specs.Store.{AsksStore}
 use Rattle.zi_app.specs.declared.outcome.Outcome.{Outcome}
 use Rattle.zi_app.specs.declared.outcome.Outcome.TheVariants.{Done, Usage, FeedRead, NoRootFeed, BadFeed, FeedTooLong, TooManyFeeds, TooManyInterfaces, TooManyCandidates, NoFile, Overlap, Mismatch, MissingTree, DamagedTree, BadName, TreeTooLarge, StoreFault, Crowded, Unwritable, SinkFault, Memory, Unbuilt}
 use Rattle.zi_digest.specs.declared.DigestName.{DigestName}
-use Rattle.zi_app.specs.Writing.{Writes}
 use Rattle.zi_app.specs.Shelves.{Shelving}
 use Rattle.zi_app.proofs.StoreLemmas.{names_read, whole_front, writes_memory, fails_memory, lists_memory, manifests_memory, manifests_usage, verifying_memory, verifying_usage}
 use Rattle.zi_app.proofs.AddingLemmas.{adds_memory, adds_usage}
@@ -141,7 +140,7 @@ answers_memory : (r : Request) (told : Option Holding) (f g : ℕ) (k : Shelving
 answers_memory (request.Select ask false) told f g k o p old new outcome a = inr (selects_memory ask told f g k o p old new outcome a)
 answers_memory (request.Select ask true) told f g k o p old new outcome a = inl (waits_memory old new outcome a)
 answers_memory (request.Manifest algorithm name) told f g k o p old new outcome a = inr (manifests_memory algorithm name k o p old new outcome a)
-answers_memory (request.Add name files) told f g k o p old new outcome a = inr (adds_memory name files told f g k.honest k.told k.then_told k.faults k.then_faults o p old new outcome a)
+answers_memory (request.Add name files) told f g k o p old new outcome a = inr (adds_memory name files told f g k.honest k.sure k.told k.then_told k.faults k.then_faults o p old new outcome a)
 answers_memory (request.Verify name) told f g k o p old new outcome a = inr (verifying_memory name k o p old new outcome a)
 answers_memory request.Names told f g k o p old new outcome a = inr (lists_memory k o p old new outcome a)
 answers_memory request.Help told f g k o p old new outcome a = inr (writes_memory _ o p old new outcome a)
@@ -191,7 +190,7 @@ no_usage (request.Select ask false) told f g k o p old new index (inl a) = a
 no_usage (request.Select ask false) told f g k o p old new index (inr (stored, are, a)) = a
 no_usage (request.Select ask true) told f g k o p old new index a = a
 no_usage (request.Manifest algorithm name) told f g k o p old new index a = manifests_usage algorithm name k o p old new index a
-no_usage (request.Add name files) told f g k o p old new index a = adds_usage name files told f g k.honest k.told k.then_told k.faults k.then_faults o p old new index a
+no_usage (request.Add name files) told f g k o p old new index a = adds_usage name files told f g k.honest k.sure k.told k.then_told k.faults k.then_faults o p old new index a
 no_usage (request.Verify name) told f g k o p old new index a = verifying_usage name k o p old new index a
 no_usage request.Names told f g k o p old new index (inl a) = a
 no_usage request.Names told f g k o p old new index (inr (names, are, a)) = a

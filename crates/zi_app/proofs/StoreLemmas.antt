@@ -1,16 +1,15 @@
 -- What the commands on the store say, put together.
-use Rattle.std.proofs.Common.{◌≡◌, ℕ, ◌⊎◌, inl, inr, Bool, true, false, List, [], ◌∷◌, ◌++◌, length, take, refl, sym, ap, subst, ◌∙◌, Option, Some, None, Result, Ok, Err, arith}
+use Rattle.std.proofs.Common.{◌≡◌, ℕ, inl, inr, Bool, true, false, List, [], ◌∷◌, ◌++◌, length, refl, sym, ap, subst, ◌∙◌, Option, Some, None, Result, Ok, Err, arith}
 use Rattle.std.specs.Prelude.{ℤ, ◌≤◌, ◌<◌, codes, bytes_eq, MatchOption, IfOk}
 use Rattle.std.specs.List.{list_all}
 use Rattle.std.proofs.lemmas.Bool.{and_parts}
 use Rattle.std.proofs.lemmas.List.{append-nil, take_all}
-use Rattle.zi_outside.specs.Count.{Rose}
 use Rattle.zi_outside.specs.Outside.{gained, GainsFront}
 use Rattle.zi_tree.specs.Dir.{Dir, Nothing, AFile, ALink, AFolder}
 use Rattle.zi_digest.specs.declared.Algorithm.{Algorithm}
 use Rattle.zi_digest.specs.declared.DigestName.{DigestName}
-use Rattle.zi_digest.specs.Name.{spelling, algorithm_of, name_of}
-use Rattle.zi_manifest.specs.Manifest.{own_name, as_read, first_bad, manifest, digest_of, HasManifest}
+use Rattle.zi_digest.specs.Name.{spelling, name_of}
+use Rattle.zi_manifest.specs.Manifest.{own_name, as_read, first_bad, manifest, HasManifest}
 use Rattle.zi_manifest.specs.Listing.{IsManifest}
 use Rattle.zi_shelf.specs.Names.{Name}
 use Rattle.zi_shelf.specs.Shelved.{Top, Shelved}
@@ -26,7 +25,7 @@ use Rattle.zi_store.specs.declared.trees.TreeRead.{TreeRead}
 use Rattle.zi_store.specs.declared.verdicts.Verdict.{Verdict}
 use Rattle.zi_store.specs.declared.trees.TreeRead.TheVariants as read
 use Rattle.zi_store.specs.declared.verdicts.Verdict.TheVariants as verdict
-use Rattle.zi_store.specs.Keeping.{Keeps, Grows, is_names, is_reading}
+use Rattle.zi_store.specs.Keeping.{Keeps, is_names, is_reading}
 use Rattle.zi_store.specs.TreeAnswers.{ReadsTree}
 use Rattle.zi_store.specs.FileAnswers.{file_at, ReadsFile}
 use Rattle.zi_store.specs.Walking.{passed}
@@ -39,7 +38,7 @@ use Rattle.zi_app.specs.declared.checked.Checked.{Checked}
 use Rattle.zi_app.specs.declared.checked.Checked.TheVariants as checked
 use Rattle.zi_app.specs.Writing.{Writes}
 use Rattle.zi_app.specs.Shelves.{Shelving, Held, FailsAt}
-use Rattle.zi_app.specs.StoreCommands.{name_line, names_text, AreStored, Lists, manifest_text, IsTreeOf, HasNoTree, Shows, Manifests, manifest_limit, HasOwnManifest, HasDigest, HasComputed, Compares, DiffersBy, difference_text, ChecksAs, Blames, TellsCheck, Verifying}
+use Rattle.zi_app.specs.StoreCommands.{name_line, names_text, AreStored, Lists, manifest_text, HasNoTree, Shows, Manifests, manifest_limit, HasOwnManifest, HasDigest, HasComputed, Compares, DiffersBy, difference_text, ChecksAs, Blames, TellsCheck, Verifying}
 
 -- nothing of a text is a front of it
 pub nothing_put : (old : Option (List ℕ)) (text : List ℕ) → GainsFront old text old
@@ -371,15 +370,6 @@ against_text a top s own text d r e is own_is c = differs d c
 pub against_none : {P : Type 0} (a : Algorithm) (top : Name) (s : Shelved Dir) {r : Result (Option (List ℕ)) ShelfFault} → r ≡ Ok None
     → IfOk r (λ text. MatchOption text ⊥ (λ text. HasComputed a top s text)) → P
 against_none a top s e is = absurd (subst (λ x. IfOk x (λ text. MatchOption text ⊥ (λ text. HasComputed a top s text))) e is)
-
--- what was damaged is within the limits and has a manifest
-digest_is : (name found : DigestName) (s : Shelved Dir) → Verifies name (Ok (verdict.Damaged found)) s → HasDigest (spelling name) s
-digest_is name found s (e, there, few, judged) = record { entry = e; there = there; few = few; good = judged.0 }
-
-pub damaged_as : (name found : DigestName) (a : Algorithm) (top : Name) (s : Shelved Dir) (d : Difference) → top ≡ spelling name → a ≡ algorithm_of name
-    → Verifies name (Ok (verdict.Damaged found)) s → (HasDigest top s → DiffersBy a top d s) → ChecksAs name (checked.Damaged found d) s
-damaged_as name found a top s d at_top at_a v f =
-    (v, subst (λ x. DiffersBy x (spelling name) d s) at_a (subst (λ x. DiffersBy a x d s) at_top (f (subst (λ x. HasDigest x s) (sym at_top) (digest_is name found s v)))))
 
 -- what a later call that reads answers of the same shelf
 pub held_later : {kinds : CallKind → Bool} {h0 h1 : Type 0} {t0 t1 : Option Told} {f0 f1 : ℕ} {s0 s1 : Type 0} {p0 p1 : Name} {q0 q1 : List ℕ} (P Q : Shelved Dir → Type 0)

@@ -18,6 +18,7 @@ use Rattle.zi_session.specs.Alone.{EndsAlone}
 use Rattle.zi_session.specs.declared.step.Step.{Step}
 use Rattle.zi_session.specs.declared.step.Step.TheVariants as step
 use Rattle.zi_words.specs.Forms.{Word}
+use Rattle.zi_app.specs.Shelves.{HasFailed}
 use Rattle.zi_app.specs.Gathering.{Gathers, IsUnread, IsAbsent, IsTooLong, IsTwice, IsTooLarge}
 use Rattle.zi_app.specs.declared.outcome.Outcome.{Outcome}
 use Rattle.zi_app.specs.declared.outcome.Outcome.TheVariants.{Done, FeedRead, FeedTooLong, NoFile, Overlap, TreeTooLarge, BadName, Mismatch, Crowded, StoreFault, SinkFault, Memory}
@@ -63,36 +64,36 @@ Gains step.Present old new = GainsFront old present_line new
 Gains other old new = new ≡ old
 
 -- The outcomes of `store add`. told is what the feeds hold, f and g are their counts of faults before and after; honest says that the
--- shelf keeps the rules, s and t are what it tells before and after, and h and k its counts; o and p are the counts of the output,
--- and old and new what was written to it.
-abbrev pub Adds : DigestName → List Word → Option Holding → (f g : ℕ) → Type 0 → (s t : Option Told) → (h k o p : ℕ) → (old new : Option (List ℕ)) → Outcome → Type 0
+-- shelf keeps the rules, and sure that it is sure; s and t are what it tells before and after, and h and k its counts; o and p are the
+-- counts of the output, and old and new what was written to it.
+abbrev pub Adds : DigestName → List Word → Option Holding → (f g : ℕ) → (honest sure : Type 0) → (s t : Option Told) → (h k o p : ℕ) → (old new : Option (List ℕ)) → Outcome → Type 0
 -- the tree was stored, or its name was there
-Adds name files told f g honest s t h k o p old new Done =
+Adds name files told f g honest sure s t h k o p old new Done =
     (Ends name files told honest s t step.Stored × (new ≡ gained old stored_line)) ⊎ (Ends name files told honest s t step.Present × (new ≡ gained old present_line))
 -- the files are got in order, and the first that can't be got is told
-Adds name files told f g honest s t h k o p old new (FeedRead uri) = IsUnread told f g files uri × IsUntouched s t h k old new
-Adds name files told f g honest s t h k o p old new (NoFile file) = IsAbsent told files file × IsUntouched s t h k old new
-Adds name files told f g honest s t h k o p old new (FeedTooLong uri limit) = IsTooLong told files uri limit × IsUntouched s t h k old new
+Adds name files told f g honest sure s t h k o p old new (FeedRead uri) = IsUnread told f g files uri × IsUntouched s t h k old new
+Adds name files told f g honest sure s t h k o p old new (NoFile file) = IsAbsent told files file × IsUntouched s t h k old new
+Adds name files told f g honest sure s t h k o p old new (FeedTooLong uri limit) = IsTooLong told files uri limit × IsUntouched s t h k old new
 -- then two with one name, the size of all, and their number
-Adds name files told f g honest s t h k o p old new (Overlap path) = IsTwice told files path × IsUntouched s t h k old new
-Adds name files told f g honest s t h k o p old new (TreeTooLarge what limit) = IsTooLarge told files what limit × IsUntouched s t h k old new
+Adds name files told f g honest sure s t h k o p old new (Overlap path) = IsTwice told files path × IsUntouched s t h k old new
+Adds name files told f g honest sure s t h k o p old new (TreeTooLarge what limit) = IsTooLarge told files what limit × IsUntouched s t h k old new
 -- then the tree of them
-Adds name files told f g honest s t h k o p old new (BadName path) = (d : Dir) × Gathers told files d × (first_bad d ≡ Some path) × IsUntouched s t h k old new
-Adds name files told f g honest s t h k o p old new (Mismatch right found) =
+Adds name files told f g honest sure s t h k o p old new (BadName path) = (d : Dir) × Gathers told files d × (first_bad d ≡ Some path) × IsUntouched s t h k old new
+Adds name files told f g honest sure s t h k o p old new (Mismatch right found) =
     (d : Dir) × Gathers told files d × (first_bad d ≡ None) × (digest_of (algorithm_of name) d ≢ name)
     × (right ≡ spelling name) × (found ≡ spelling (digest_of (algorithm_of name) d)) × IsUntouched s t h k old new
 -- every temporary name was there
-Adds name files told f g honest s t h k o p old new (Crowded tried) = (tried ≡ 10000) × Ends name files told honest s t (step.Crowded tried) × (new ≡ old)
+Adds name files told f g honest sure s t h k o p old new (Crowded tried) = (tried ≡ 10000) × Ends name files told honest s t (step.Crowded tried) × (new ≡ old)
 -- the shelf failed
-Adds name files told f g honest s t h k o p old new (StoreFault blame) =
-    Rose h k × (new ≡ old) × ((tmp : Option ℕ) × (blame ≡ blamed tmp) × Ends name files told honest s t (step.Fault tmp))
+Adds name files told f g honest sure s t h k o p old new (StoreFault blame) =
+    HasFailed sure h k × (new ≡ old) × ((tmp : Option ℕ) × (blame ≡ blamed tmp) × Ends name files told honest s t (step.Fault tmp))
 -- the tree was stored or its name was there, and the output failed
-Adds name files told f g honest s t h k o p old new SinkFault =
+Adds name files told f g honest sure s t h k o p old new SinkFault =
     Rose o p × ((Ends name files told honest s t step.Stored × GainsFront old stored_line new) ⊎ (Ends name files told honest s t step.Present × GainsFront old present_line new))
 -- memory may be refused at any place: before the tree is added, or after it was tried, with a front of what is written
-Adds name files told f g honest s t h k o p old new Memory =
+Adds name files told f g honest sure s t h k o p old new Memory =
     IsUntouched s t h k old new ⊎ ((answer : Step) × Ends name files told honest s t answer × Gains answer old new)
-Adds name files told f g honest s t h k o p old new other = ⊥
+Adds name files told f g honest sure s t h k o p old new other = ⊥
 
 -- Whatever the outcome, over an honest shelf that tells what it holds: a digest name that was there has what it had, and no digest
 -- name but this one has come.

@@ -12,6 +12,7 @@ use Rattle.zi_session.specs.declared.step.Step.{Step}
 use Rattle.zi_session.specs.declared.step.Step.TheVariants as step
 use Rattle.zi_app.specs.declared.gathering.GatherFault.{GatherFault}
 use Rattle.zi_app.specs.declared.gathering.GatherFault.TheVariants as gather
+use Rattle.zi_app.specs.Shelves.{HasFailed}
 use Rattle.zi_app.specs.Adding.{HasRun, IsUntouched, blamed, stored_line, present_line}
 use Rattle.zi_app.specs.declared.outcome.Outcome.{Outcome}
 use Rattle.zi_app.specs.declared.outcome.Outcome.TheVariants.{Done, FeedRead, FeedTooLong, NoFile, Overlap, TreeTooLarge, BadName, Mismatch, Crowded, StoreFault, SinkFault, Memory}
@@ -61,16 +62,16 @@ abbrev pub IsRight : DigestName → Dir → Type 0
 IsRight name d = (first_bad d ≡ None) × (digest_of (algorithm_of name) d ≡ name)
 
 -- a session had its steps, and then the outcome was made of its answer
-pub record Closed (name : DigestName) (d : Dir) (honest : Type 0) (s t : Option Told) (h k o p : ℕ) (old new : Option (List ℕ)) (outcome : Outcome) : Type 0 where
+pub record Closed (name : DigestName) (d : Dir) (honest sure : Type 0) (s t : Option Told) (h k o p : ℕ) (old new : Option (List ℕ)) (outcome : Outcome) : Type 0 where
   pub right : IsRight name d
   pub answer : Step
   pub run : HasRun honest name d s t answer
-  pub cause : OnFault answer (Rose h k)
+  pub cause : OnFault answer (HasFailed sure h k)
   pub closes : Closes answer o p old new outcome
 
 -- a tree is added, or why it isn't
-abbrev pub AddsTree : DigestName → Dir → Type 0 → (s t : Option Told) → (h k o p : ℕ) → (old new : Option (List ℕ)) → Outcome → Type 0
-AddsTree name d honest s t h k o p old new outcome =
+abbrev pub AddsTree : DigestName → Dir → (honest sure : Type 0) → (s t : Option Told) → (h k o p : ℕ) → (old new : Option (List ℕ)) → Outcome → Type 0
+AddsTree name d honest sure s t h k o p old new outcome =
     (((path : List ℕ) × (outcome ≡ BadName path) × (first_bad d ≡ Some path)) × IsUntouched s t h k old new)
     ⊎ (((first_bad d ≡ None) × (digest_of (algorithm_of name) d ≢ name) × Mismatches name (digest_of (algorithm_of name) d) outcome × IsUntouched s t h k old new)
-    ⊎ (((outcome ≡ Memory) × IsUntouched s t h k old new) ⊎ Closed name d honest s t h k o p old new outcome))
+    ⊎ (((outcome ≡ Memory) × IsUntouched s t h k old new) ⊎ Closed name d honest sure s t h k o p old new outcome))

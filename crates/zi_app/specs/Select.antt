@@ -127,7 +127,7 @@ Answers (request.Select ask false) told f g k o p old new outcome = Selects ask 
 Answers (request.Select ask true) told f g k o p old new outcome = Waits old new outcome
 Answers (request.Manifest algorithm name) told f g k o p old new outcome = Manifests algorithm name k o p old new outcome
 Answers (request.Add name files) told f g k o p old new outcome =
-    Adds name files told f g k.honest k.told k.then_told k.faults k.then_faults o p old new outcome
+    Adds name files told f g k.honest k.sure k.told k.then_told k.faults k.then_faults o p old new outcome
 Answers (request.Verify name) told f g k o p old new outcome = Verifying name k o p old new outcome
 Answers request.Names told f g k o p old new outcome = Lists k o p old new outcome
 Answers request.Help told f g k o p old new outcome = Writes HELP.now o p old new outcome

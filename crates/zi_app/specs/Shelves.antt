@@ -1,5 +1,5 @@
 -- What a call of the program meets of a shelf.
-use Rattle.std.specs.Prelude.{◌≡◌, ℕ, List, [], Option, Some}
+use Rattle.std.specs.Prelude.{◌≡◌, ℕ, List, Option, Some}
 use Rattle.zi_tree.specs.Dir.{Dir}
 use Rattle.zi_shelf.specs.Names.{Name}
 use Rattle.zi_shelf.specs.Shelved.{Shelved}
@@ -21,8 +21,11 @@ abbrev pub Held : Shelving → (Shelved Dir → Type 0) → Type 0
 Held k P = (s : Told) → k.honest → k.told ≡ Some s → P s.shelf
 
 -- the shelf failed: its count rose, as that of a sure one never does
+abbrev pub HasFailed : (sure : Type 0) → (faults then_faults : ℕ) → Type 0
+HasFailed sure faults then_faults = Rose faults then_faults × (sure → ⊥)
+
 abbrev pub ShelfFailed : Shelving → Type 0
-ShelfFailed k = Rose k.faults k.then_faults × (k.sure → ⊥)
+ShelfFailed k = HasFailed k.sure k.faults k.then_faults
 
 -- Nothing is written, since the shelf failed at a call on this name, or memory was refused.
 abbrev pub FailsAt : Name → Shelving → Option (List ℕ) → Option (List ℕ) → Outcome → Type 0

@@ -1,5 +1,5 @@
 -- What the commands that read the store do, by their outcome.
-use Rattle.std.specs.Prelude.{◌≡◌, ℕ, ◌+◌, ◌≤◌, ◌⊎◌, List, [], ◌∷◌, ◌++◌, length, codes, Option, Some, None, Result, Ok, Err}
+use Rattle.std.specs.Prelude.{◌≡◌, ℕ, ◌+◌, ◌≤◌, ◌⊎◌, List, [], ◌∷◌, ◌++◌, length, codes, Option, Some, None, Ok}
 use Rattle.std.specs.List.{flat_map}
 use Rattle.std.specs.Fmt.{decimal}
 use Rattle.zi_outside.specs.Count.{Rose}
@@ -21,7 +21,7 @@ use Rattle.zi_store.specs.FileAnswers.{file_at}
 use Rattle.zi_store.specs.Verdicts.{Verifies}
 use Rattle.zi_store.specs.Lines.{DifferFirstIn}
 use Rattle.zi_app.specs.declared.outcome.Outcome.{Outcome}
-use Rattle.zi_app.specs.declared.outcome.Outcome.TheVariants.{Done, MissingTree, DamagedTree, BadName, TreeTooLarge, SinkFault, Memory}
+use Rattle.zi_app.specs.declared.outcome.Outcome.TheVariants.{MissingTree, DamagedTree, BadName, TreeTooLarge, SinkFault, Memory}
 use Rattle.zi_app.specs.declared.difference.Difference.{Difference}
 use Rattle.zi_app.specs.declared.difference.Difference.TheVariants.{NoManifest, Agrees, FirstIn}
 use Rattle.zi_app.specs.declared.checked.Checked.{Checked}

@@ -8,9 +8,9 @@ ghost use Rattle.zi_tree.specs.Dir.{Dir};
 ghost use Rattle.zi_session.specs.Begun.{IsBegun};
 ghost use Rattle.zi_session.specs.Places.{tmp_name};
 ghost use Rattle.zi_session.specs.Stepping.{OnFault};
-ghost use Rattle.zi_shelf.specs.Told.{Rose as HasRisen};
 ghost use Rattle.zi_words.specs.Store.{is_file};
 ghost use Rattle.zi_app.specs.Adding.{Adds, KeepsStored, HasRun, stored_line, present_line};
+ghost use Rattle.zi_app.specs.Shelves.{HasFailed};
 ghost use Rattle.zi_app.specs.AddingParts.{files_outcome, PutsLine, IsEnd, Fails, Closes, Mismatches, AddsTree};
 
 use crate::gathering::{GatherFault, gather};
@@ -96,7 +96,8 @@ fn run_out<K: Shelf>(alloc: Global, session: Session, shelf: &mut K) -> Step
     ensures run { (name : Name) (d : Dir) → IsBegun name d session
         → HasRun (K.honest shelf.old) name d (K.told shelf.old) (K.told shelf.new) result }
     ensures end { (name : Name) (d : Dir) → IsBegun name d session → IsEnd result }
-    ensures cause { OnFault result (HasRisen (K.faults shelf.old) (K.faults shelf.new)) }
+    ensures cause { (name : Name) (d : Dir) → IsBegun name d session
+        → OnFault result (HasFailed (K.sure shelf.old) (K.faults shelf.old) (K.faults shelf.new)) }
     ensures later { K.faults shelf.old ≤ K.faults shelf.new }
     ensures honest { K.honest shelf.old → K.honest shelf.new }
     ensures plan { K.plan shelf.new ≡ K.plan shelf.old }
@@ -128,7 +129,7 @@ fn add_tree<K: Shelf, O: Sink>(
     shelf: &mut K,
     out: &mut O,
 ) -> Outcome
-    ensures adds { AddsTree name tree (K.honest shelf.old) (K.told shelf.old) (K.told shelf.new) (K.faults shelf.old) (K.faults shelf.new) (O.faults out.old) (O.faults out.new) (O.written out.old) (O.written out.new) result }
+    ensures adds { AddsTree name tree (K.honest shelf.old) (K.sure shelf.old) (K.told shelf.old) (K.told shelf.new) (K.faults shelf.old) (K.faults shelf.new) (O.faults out.old) (O.faults out.new) (O.written out.old) (O.written out.new) result }
     ensures later { K.faults shelf.old ≤ K.faults shelf.new }
     ensures count { O.faults out.old ≤ O.faults out.new }
     ensures honest { K.honest shelf.old → K.honest shelf.new }
@@ -158,7 +159,7 @@ pub fn add<F: Feeds, K: Shelf, O: Sink>(
 ) -> Outcome
     requires { list_all is_file files ≡ true }
     // What each outcome says, and what the shelf and the output gained.
-    ensures adds { Adds name files (F.holds feeds.old) (F.faults feeds.old) (F.faults feeds.new) (K.honest shelf.old) (K.told shelf.old) (K.told shelf.new) (K.faults shelf.old) (K.faults shelf.new) (O.faults out.old) (O.faults out.new) (O.written out.old) (O.written out.new) result }
+    ensures adds { Adds name files (F.holds feeds.old) (F.faults feeds.old) (F.faults feeds.new) (K.honest shelf.old) (K.sure shelf.old) (K.told shelf.old) (K.told shelf.new) (K.faults shelf.old) (K.faults shelf.new) (O.faults out.old) (O.faults out.new) (O.written out.old) (O.written out.new) result }
     // The stored trees are as before, but for one that has come under this name.
     ensures keeps { KeepsStored (K.honest shelf.old) name (K.told shelf.old) (K.told shelf.new) }
     ensures feeds { F.holds feeds.new ≡ F.holds feeds.old }

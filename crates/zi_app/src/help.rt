@@ -42,6 +42,7 @@ Options of select, before ROOT:
 
 Feeds of web addresses are files in the folder that ZI_FEEDS names (default: feeds), each
 named by its address with every byte but letters, digits, -, . and _ percent-encoded.
+Trees are stored in the folder that ZI_STORE names (default: store), each under its digest.
 ";
 
 /// The answer to `--version`.

@@ -38,6 +38,15 @@ fn put_three<E: Sink>(a: &[u8], b: &[u8], c: &[u8], err: &mut E) -> Result<(), S
     }
 }
 
+// A name between two pieces.
+fn put_name<E: Sink>(a: &[u8], name: &Text, b: &[u8], err: &mut E) -> Result<(), SinkFault>
+    ensures puts { PutsAll (E.written err.old) (a.now ++ name.now ++ b.now) result (E.written err.new) }
+    ensures count { E.faults err.old ≤ E.faults err.new }
+    ensures failed { FailsWhereRose (E.faults err.old) result (E.faults err.new) }
+{
+    put_three(a, name.as_str().as_bytes(), b, err)
+}
+
 // A digit.
 #[tactic(auto, using(crate::proofs::LineLemmas::pieces))]
 fn put_digit<E: Sink>(digit: u8, err: &mut E) -> Result<(), SinkFault>
@@ -230,9 +239,7 @@ pub fn tell<E: Sink>(outcome: &Outcome, err: &mut E) -> Result<(), SinkFault>
     match outcome {
         Outcome::Done => Ok(()),
         Outcome::Usage { index } => put_around(b"zi: usage at word ", *index, b"\n", err),
-        Outcome::FeedRead { uri } => {
-            put_three(b"zi: cannot read ", uri.as_str().as_bytes(), b"\n", err)
-        }
+        Outcome::FeedRead { uri } => put_name(b"zi: cannot read ", uri, b"\n", err),
         Outcome::NoRootFeed => err.put(b"zi: no feed for the root\n"),
         Outcome::BadFeed { uri, fault } => {
             let uri = uri.as_str().as_bytes();
@@ -245,30 +252,18 @@ pub fn tell<E: Sink>(outcome: &Outcome, err: &mut E) -> Result<(), SinkFault>
         Outcome::TooManyFeeds { limit } => put_limit(*limit, b" feeds\n", err),
         Outcome::TooManyInterfaces { limit } => put_limit(*limit, b" interfaces\n", err),
         Outcome::TooManyCandidates { limit } => put_limit(*limit, b" candidates\n", err),
-        Outcome::NoFile { name } => {
-            put_three(b"zi: no file ", name.as_str().as_bytes(), b"\n", err)
-        }
-        Outcome::Overlap { path } => {
-            let path = path.as_str().as_bytes();
-            put_three(b"zi: ", path, b" is already there\n", err)
-        }
+        Outcome::NoFile { name } => put_name(b"zi: no file ", name, b"\n", err),
+        Outcome::Overlap { path } => put_name(b"zi: ", path, b" is already there\n", err),
         Outcome::Mismatch { name, found } => {
             put_names(b"zi: expected ", name, b", found ", found, err)
         }
-        Outcome::MissingTree { name } => {
-            let name = name.as_str().as_bytes();
-            put_three(b"zi: ", name, b" is not stored\n", err)
-        }
+        Outcome::MissingTree { name } => put_name(b"zi: ", name, b" is not stored\n", err),
         Outcome::DamagedTree { name, found } => {
             put_names(b"zi: ", name, b" is damaged: ", found, err)
         }
-        Outcome::BadName { path } => {
-            put_three(b"zi: bad name ", path.as_str().as_bytes(), b"\n", err)
-        }
-        Outcome::TreeTooLarge { what, limit } => { put_measure(*what, *limit, err) }
-        Outcome::StoreFault { name } => {
-            put_three(b"zi: store fault at ", name.as_str().as_bytes(), b"\n", err)
-        }
+        Outcome::BadName { path } => put_name(b"zi: bad name ", path, b"\n", err),
+        Outcome::TreeTooLarge { what, limit } => put_measure(*what, *limit, err),
+        Outcome::StoreFault { name } => put_name(b"zi: store fault at ", name, b"\n", err),
         Outcome::Crowded { tried } => {
             put_around(b"zi: ", u64::from(*tried), b" temporary names taken\n", err)
         }
