@@ -37,6 +37,15 @@ pub fn is_there(rt: &HostRuntime, path: &str) -> Result<bool, Trouble> {
     }
 }
 
+// Whether something stands under a path that is no file; a link to a file is none.
+fn is_no_file(rt: &HostRuntime, path: &str) -> Result<bool, Trouble> {
+    match fs::symlink_metadata(rt, path) {
+        Ok(metadata) => Ok(!metadata.is_file()),
+        Err(error) if is_absence(&error) => Ok(false),
+        Err(error) => Err(Trouble::from(error)),
+    }
+}
+
 /// Whether what stands under a path is a folder, and no link to one.
 pub fn is_folder(rt: &HostRuntime, path: &str) -> Result<bool, Trouble> {
     Ok(fs::symlink_metadata(rt, path)?.is_dir())
@@ -141,6 +150,9 @@ pub fn make_folder(rt: &HostRuntime, path: &str) -> Result<(), Trouble> {
 
 /// Adds bytes to a file, which is made where it isn't there. Part of them may have been written before a failure.
 pub fn append(rt: &HostRuntime, path: &str, bytes: &[u8]) -> Result<(), Trouble> {
+    if is_no_file(rt, path)? {
+        return Err(Trouble::Failed);
+    }
     let mut options = File::options();
     options.append(true).create(true).mode(OPEN_MODE);
     let mut file = options.open(rt, path)?;
@@ -152,6 +164,9 @@ pub fn append(rt: &HostRuntime, path: &str, bytes: &[u8]) -> Result<(), Trouble>
 
 /// Sets a file's mode and time. A file system that can't keep the time fails.
 pub fn finish_file(rt: &HostRuntime, path: &str, exec: bool, mtime: i64) -> Result<(), Trouble> {
+    if is_no_file(rt, path)? {
+        return Err(Trouble::Failed);
+    }
     let file = fs::open(rt, path)?;
     let mode = if exec { EXEC_MODE } else { FILE_MODE };
     file.set_permissions(Permissions::from_mode(mode))?;
@@ -215,6 +230,9 @@ fn succeed(rt: &HostRuntime, mut command: Command) -> Result<(), Trouble> {
 /// Gives a top entry another name, unless something stands there.
 pub fn rename(rt: &HostRuntime, root: &str, from: &str, to: &str) -> Result<Moved, Trouble> {
     let _folder = held(rt, root)?;
+    if !is_there(rt, from)? {
+        return Err(Trouble::Failed);
+    }
     if is_there(rt, to)? {
         return Ok(Moved::Exists);
     }

@@ -54,6 +54,14 @@ impl FolderShelf {
         Ok(path)
     }
 
+    // The path of an entry in a top entry, which isn't the top entry itself.
+    fn way_inside(&self, top: &str, inside: &RelPath) -> Result<String, Trouble> {
+        if inside.parts().is_empty() {
+            return Err(Trouble::Failed);
+        }
+        self.way_to(top, inside)
+    }
+
     // The entries of a folder in a top entry.
     fn listed(&self, top: &str, inside: &RelPath) -> Result<Listed, Trouble> {
         let top_path = self.top_path(top)?;
@@ -68,13 +76,13 @@ impl FolderShelf {
     fn piece(&self, top: &str, inside: &RelPath, offset: u64, max: u32) -> Result<Vec<u8>, Trouble>
         ensures { IfOk result (λ piece. vec_len piece ≤ max) }
     {
-        let path = self.way_to(top, inside)?;
+        let path = self.way_inside(top, inside)?;
         read_piece(&self.rt, path.as_str(), offset, max)
     }
 
     // The text of a link in a top entry.
     fn link(&self, top: &str, inside: &RelPath) -> Result<Text, Trouble> {
-        let path = self.way_to(top, inside)?;
+        let path = self.way_inside(top, inside)?;
         link_target(&self.rt, path.as_str())
     }
 
@@ -86,25 +94,25 @@ impl FolderShelf {
 
     // A new folder in a top entry.
     fn new_folder(&self, top: &str, inside: &RelPath) -> Result<(), Trouble> {
-        let path = self.way_to(top, inside)?;
+        let path = self.way_inside(top, inside)?;
         make_folder(&self.rt, path.as_str())
     }
 
     // More bytes of a file in a top entry.
     fn more(&self, top: &str, inside: &RelPath, bytes: &[u8]) -> Result<(), Trouble> {
-        let path = self.way_to(top, inside)?;
+        let path = self.way_inside(top, inside)?;
         append(&self.rt, path.as_str(), bytes)
     }
 
     // The end of a file in a top entry.
     fn finished(&self, top: &str, inside: &RelPath, exec: bool, mtime: i64) -> Result<(), Trouble> {
-        let path = self.way_to(top, inside)?;
+        let path = self.way_inside(top, inside)?;
         finish_file(&self.rt, path.as_str(), exec, mtime)
     }
 
     // A new link in a top entry.
     fn new_link(&self, top: &str, inside: &RelPath, target: &str) -> Result<(), Trouble> {
-        let path = self.way_to(top, inside)?;
+        let path = self.way_inside(top, inside)?;
         make_link(&self.rt, target, path.as_str())
     }
 

@@ -148,9 +148,23 @@ fn links_are_no_files_and_no_folders(rt: HostRuntime) -> Result<(), Fail> {
     shelf.make_link("t", &link, "a")?;
     let mut into = Vec::new(rt.alloc());
     assert!(rt; shelf.read("t", &link, 0, 1, &mut into) == failed);
+    assert!(rt; shelf.append("t", &link, b"f".as_slice()) == failed);
+    assert!(rt; shelf.finish_file("t", &link, true, 7) == failed);
     symlink(&rt, "t", "followed/u")?;
     assert!(rt; shelf.append("u", &path(rt, "b")?, b"".as_slice()) == failed);
     gone(rt, "followed")
+}
+
+#[test]
+fn no_other_call_makes_a_top_entry(rt: HostRuntime) -> Result<(), Fail> {
+    let mut shelf = shelf(rt, "alone")?;
+    let failed = Err(ShelfFault::Failed);
+    let top = RelPath::root(rt.alloc());
+    assert!(rt; shelf.make_folder("u", &top) == failed);
+    assert!(rt; shelf.append("u", &top, b"".as_slice()) == failed);
+    assert!(rt; shelf.make_link("u", &top, "t") == failed);
+    assert_eq!(rt; shelf.names()?.len(), 1);
+    gone(rt, "alone")
 }
 
 #[test]
@@ -158,6 +172,7 @@ fn top_entries_that_are_not_there_fail(rt: HostRuntime) -> Result<(), Fail> {
     let mut shelf = shelf(rt, "absent")?;
     assert!(rt; shelf.settle("u") == Err(ShelfFault::Failed));
     assert!(rt; shelf.rename("u", "v") == Err(ShelfFault::Failed));
+    assert!(rt; shelf.rename("u", "t") == Err(ShelfFault::Failed));
     assert!(rt; shelf.remove_top("u") == Err(ShelfFault::Failed));
     gone(rt, "absent")
 }
