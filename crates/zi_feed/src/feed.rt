@@ -58,7 +58,7 @@ pub struct Impl {
 }
 
 /// A dependency on another interface.
-#[derive(Debug, Drop)]
+#[derive(Debug, Drop, PartialEq, Eq)]
 pub struct Dep {
     /// The interface's address.
     pub interface: Text,
@@ -86,7 +86,7 @@ pub enum DepKind {
 }
 
 /// A way to run an implementation.
-#[derive(Debug, Drop)]
+#[derive(Debug, Drop, PartialEq, Eq)]
 pub struct Command {
     /// Its name.
     pub name: Text,
@@ -105,7 +105,7 @@ pub struct Command {
 }
 
 /// What runs a command: a command of another interface.
-#[derive(Debug, Drop)]
+#[derive(Debug, Drop, PartialEq, Eq)]
 pub struct Runner {
     /// The dependency on it, with the one command that is asked of it.
     pub dep: Dep,
@@ -114,7 +114,7 @@ pub struct Runner {
 }
 
 /// One argument, or arguments that are repeated.
-#[derive(Debug, Drop)]
+#[derive(Debug, Drop, PartialEq, Eq)]
 pub enum Word {
     /// An argument, before variables are replaced.
     Arg(Text),
@@ -130,7 +130,7 @@ pub enum Word {
 }
 
 /// How an implementation is made known to a program.
-#[derive(Debug, Drop)]
+#[derive(Debug, Drop, PartialEq, Eq)]
 pub enum Binding {
     /// By a variable of the environment.
     Env {
@@ -153,7 +153,7 @@ pub enum Binding {
 }
 
 /// What a binding adds.
-#[derive(Debug, Drop)]
+#[derive(Debug, Drop, PartialEq, Eq)]
 pub enum Extra {
     /// A path inside the implementation's folder.
     Insert(Text),

@@ -9,7 +9,7 @@ use std::alloc::Global;
 use zi_text::{List, Memory};
 
 /// One range of a version expression of the Zero Install feed format.
-#[derive(Debug, Drop)]
+#[derive(Debug, Drop, PartialEq, Eq)]
 pub enum Alternative {
     /// `v`: the versions equal to it.
     Equal(Version),
@@ -20,7 +20,7 @@ pub enum Alternative {
 }
 
 /// A version expression: which versions are admitted.
-#[derive(Debug, Drop)]
+#[derive(Debug, Drop, PartialEq, Eq)]
 pub enum Range {
     /// Those of which the one range holds.
     One(Alternative),

@@ -9,7 +9,8 @@ use std::cmp::Ordering;
 use std::marker::Model;
 use zi_text::{Memory, Text};
 
-/// A version, which contracts see as the text that it was written as.
+/// A version, which contracts see as the text that it was written as. Two are equal where they are written alike, so `1.2` and
+/// `1.2-` aren't; their order is `cmp`.
 #[derive(Debug, Drop)]
 pub struct Version {
     text: Text,
@@ -61,4 +62,26 @@ impl Version {
         let words = Vec::from_slice(alloc, self.words.as_slice())?;
         Ok(Version { text, words })
     }
+}
+
+impl PartialEq for Version {
+    ghost use Rattle.std.specs.Prelude.{◌==◌};
+    ghost use Rattle.std.proofs.Common.{rules};
+    ghost use Rattle.std.specs.Cmp.Rules.{comparing};
+    ghost use lib.Pointwise.{pointwise};
+
+    ghost eq = { pointwise (◌==◌) };
+
+    ghost laws = { Prim.search (comparing, rules) };
+
+    fn eq(&self, other: &Version) -> bool {
+        self.text.as_str() == other.text.as_str()
+    }
+}
+
+impl Eq for Version {
+    ghost use Rattle.std.proofs.Common.{rules};
+    ghost use Rattle.std.specs.Cmp.Rules.{comparing};
+
+    ghost laws = { Prim.search (comparing, rules) };
 }
