@@ -1,6 +1,6 @@
 -- What the hint of a lemma cites, and silence of all.
-use Rattle.std.proofs.Common.{◌≡◌, ℕ, zero, suc, ◌+◌, ◌-◌, ◌<◌, ◌≤◌, Bool, true, false, ◌&&◌, leb, List, [], ◌∷◌, ◌++◌, map, length, get_or, refl, sym, ap, ◌∙◌, subst, arith, Option, Some, None, ◌⊎◌, inl, inr}
-use Rattle.std.specs.List.{All, slice_get}
+use Rattle.std.proofs.Common.{◌≡◌, ℕ, zero, suc, ◌+◌, ◌<◌, ◌≤◌, Bool, true, ◌&&◌, leb, List, [], ◌∷◌, ◌++◌, map, length, get_or, refl, sym, ap, ◌∙◌, subst, arith, Option, Some, ◌⊎◌, inl, inr}
+use Rattle.std.specs.List.{slice_get}
 use Rattle.std.proofs.lemmas.List.Elements.{All-nil, All-cons}
 use Rattle.std.proofs.lemmas.Bool.Decides.{nat_tests}
 use Rattle.zi_formula.specs.declared.formula.Lit.{Lit}
@@ -8,10 +8,10 @@ use Rattle.zi_formula.specs.declared.formula.Constraint.{Constraint}
 use Rattle.zi_formula.specs.declared.formula.Constraint.TheVariants.{Clause}
 use Rattle.zi_formula.specs.Form.{LitsWithin}
 use Rattle.zi_proof.specs.declared.proof.Lemma.{Lemma}
-use Rattle.zi_proof.specs.Known.{Known, Outcome, Contradiction, Goes, step}
+use Rattle.zi_proof.specs.Known.{Known, Contradiction, Goes, step}
 use Rattle.zi_proof.specs.Accepted.{citable, cited, step_cited, lemma_clause, lits_within, lemmas_within}
 use Rattle.zi_sat.specs.declared.entry.Entry.{Entry}
-use Rattle.zi_sat.specs.Trail.{learn, known_from, all_silent, silent}
+use Rattle.zi_sat.specs.Trail.{learn, all_silent, silent}
 use Rattle.zi_sat.specs.Moves.{hinted, Again, Applies}
 use Rattle.zi_sat.proofs.MoveLaws.{and_left, and_right}
 
@@ -76,14 +76,6 @@ Gone k c h es fs =
 pub went_more : (all : List Constraint) (k : Known) (c : Constraint) (h : ℕ) (es fs : List Entry) → cited all h ≡ Some c → Gone k c h es fs → (i : ℕ) × (ls : List Lit) × (fs ≡ es ++ hinted i ls) × (0 < length ls) × Applies all k i ls
 went_more all k c h es fs e g =
     (h, g.0, g.1, g.2, (goes k (learn k g.0) (cited all h) c e g.3, again k (cited all h) c g.0 e g.4))
-
-pub lemma_ok_at : (n : ℕ) (ms : List Lemma) (k : ℕ) (x : Lemma) (ys : List Lit) → lemmas_within n ms ≡ true → k < length ms → x ≡ get_or ms k x → ys ≡ x.lits → LitsWithin n ys
-lemma_ok_at n ms k x ys h q e f =
-    subst (LitsWithin n) (sym (f ∙ ap (λ m. m.lits) e)) (lemma_ok n ms k x h q)
-
-pub cited_ys : (cs xs : List Constraint) (ms : List Lemma) (i : ℕ) (x : Lemma) (ys : List Lit) → xs ≡ cs → i < length ms → x ≡ get_or ms i x → ys ≡ x.lits → cited (citable cs ms) (length xs + i + 1) ≡ Some (Clause ys)
-cited_ys cs xs ms i x ys e h g f =
-    cited_at cs xs ms i x e h ∙ ap (λ zs. Some (Clause zs)) (sym (f ∙ ap (λ m. m.lits) g))
 
 pub lemma_ok_zs : (n : ℕ) (ms : List Lemma) (k : ℕ) (x : Lemma) (ys : List Lit) → lemmas_within n ms ≡ true → k < length ms → ys ≡ (get_or ms k x).lits → LitsWithin n ys
 lemma_ok_zs n ms k x ys h q f = subst (LitsWithin n) (sym f) (lemma_ok n ms k x h q)

@@ -1,5 +1,5 @@
 -- The ends of a search: a model, a refutation, a conflict.
-use Rattle.std.proofs.Common.{◌≡◌, ℕ, zero, suc, ◌+◌, ◌<◌, ◌≤◌, Bool, true, false, not, ◌&&◌, ◌||◌, cond, List, [], ◌∷◌, ◌++◌, map, length, take, get_or, refl, sym, ap, ◌∙◌, subst, arith, Option, Some, None}
+use Rattle.std.proofs.Common.{◌≡◌, ℕ, ◌<◌, ◌≤◌, Bool, true, false, not, ◌&&◌, ◌||◌, cond, List, [], ◌∷◌, ◌++◌, map, length, take, get_or, refl, sym, ap, ◌∙◌, subst, Option, Some, None}
 use Rattle.std.specs.List.{All}
 use Rattle.std.proofs.lemmas.List.Elements.{All-head, All-tail}
 use Rattle.std.proofs.lemmas.Bool.{false≢true}
@@ -7,10 +7,10 @@ use Rattle.zi_formula.specs.declared.formula.Lit.{Lit}
 use Rattle.zi_formula.specs.declared.formula.Constraint.{Constraint}
 use Rattle.zi_formula.specs.declared.formula.Constraint.TheVariants.{Clause, AtMostOne}
 use Rattle.zi_formula.specs.declared.formula.Formula.{Formula}
-use Rattle.zi_formula.specs.Truth.{lit_true, clause_true, none_true, group_true, constraint_true, all_true, Models, opposite}
-use Rattle.zi_formula.specs.Form.{LitsWithin, VarsWithin, ConstraintWithin, Within}
+use Rattle.zi_formula.specs.Truth.{lit_true, clause_true, none_true, group_true, constraint_true, all_true, opposite}
+use Rattle.zi_formula.specs.Form.{LitsWithin, ConstraintWithin}
 use Rattle.zi_proof.specs.declared.proof.Lemma.{Lemma}
-use Rattle.zi_proof.specs.Known.{Known, nothing, put, says, is_open, is_false, is_true, standing, by_standing, true_ones, Outcome, Contradiction}
+use Rattle.zi_proof.specs.Known.{Known, nothing, put, says, is_open, is_false, standing, by_standing, true_ones, Contradiction}
 use Rattle.zi_proof.specs.Accepted.{citable, cited, step_cited, lemma_clause, lemma_accepted, follows, proves}
 use Rattle.zi_formula.specs.Form.{has_all}
 use Rattle.zi_proof.specs.Laws.{MakesTrue}
@@ -18,9 +18,9 @@ use Rattle.zi_proof.proofs.Sound.{Agrees, Sound, cited_sound, lemmas_are_true, v
 use Rattle.zi_sat.specs.declared.entry.Entry.{Entry}
 use Rattle.zi_sat.specs.Trail.{OpenAll, InAll, lits_of, learn, known_from, fails, silent, silent_by, all_silent}
 use Rattle.zi_sat.specs.declared.entry.Why.TheVariants.{Decision}
-use Rattle.zi_sat.specs.Moves.{Lawful, decisions_in, entry_hints, decision_lemma}
-use Rattle.zi_sat.specs.Ends.{values_of, NoModelHere}
-use Rattle.zi_sat.proofs.MoveLaws.{and_left, and_right, decision_lemma_accepted, follows_push, lawful_more, lawful_cut}
+use Rattle.zi_sat.specs.Moves.{Lawful, decisions_in}
+use Rattle.zi_sat.specs.Ends.{NoModelHere}
+use Rattle.zi_sat.proofs.MoveLaws.{and_left, and_right, follows_push, lawful_more, lawful_cut}
 
 abbrev by : Known → ℕ → Bool
 by k x = says (k x) true
@@ -119,14 +119,6 @@ proves_push [] m e = ap (λ ls. has_all ls [] && has_all [] ls) e
 proves_push (n ∷ []) m e = ap (λ ls. has_all ls [] && has_all [] ls) e
 proves_push (n ∷ o ∷ ms) m e = proves_push (o ∷ ms) m e
 
-pub refuting_lits : (es : List Entry) (h : ℕ) → decisions_in es ≡ [] → (decision_lemma es h).lits ≡ []
-refuting_lits es h e = ap (map opposite) e
-
-pub log_grown : (f : Formula) (n : ℕ) (ms ns : List Lemma) (chooses : Known → Option Lit) (es : List Entry) (h : ℕ) → n ≡ f.variables → follows f ms ≡ true → Lawful (citable f.constraints ms) f.constraints chooses es → OpenAll nothing (lits_of es) → InAll n (lits_of es) → step_cited (known_from es) (cited (citable f.constraints ms) h) ≡ Contradiction → ns ≡ ms ++ decision_lemma es h ∷ [] → follows f ns ≡ true
-log_grown f n ms ns chooses es h e w l o i c g =
-    let a : lemma_accepted f ms (decision_lemma es h) ≡ true = decision_lemma_accepted f ms chooses es h l o (subst (λ m. InAll m (lits_of es)) e i) c in
-    subst (λ xs. follows f xs ≡ true) (sym g) (follows_push f [] ms (decision_lemma es h) w a)
-
 pub lawful_grown : (cs : List Constraint) (ms ns : List Lemma) (m : Lemma) (chooses : Known → Option Lit) (es : List Entry) → ns ≡ ms ++ m ∷ [] → Lawful (citable cs ms) cs chooses es → Lawful (citable cs ns) cs chooses es
 lawful_grown cs ms ns m chooses es g l =
     subst (λ xs. Lawful (citable cs xs) cs chooses es) (sym g) (lawful_more cs ms m chooses es l)
@@ -134,10 +126,6 @@ lawful_grown cs ms ns m chooses es g l =
 pub lawful_back : (cs : List Constraint) (ms ns : List Lemma) (m : Lemma) (chooses : Known → Option Lit) (es fs : List Entry) (i : ℕ) (d : Entry) → ns ≡ ms ++ m ∷ [] → fs ≡ take i es → i < length es → (get_or es i d).why ≡ Decision → Lawful (citable cs ms) cs chooses es → Lawful (citable cs ns) cs chooses fs
 lawful_back cs ms ns m chooses es fs i d g f lt w l =
     subst (Lawful (citable cs ns) cs chooses) (sym f) (lawful_cut (citable cs ns) cs chooses es i d (lawful_grown cs ms ns m chooses es g l) lt w)
-
-pub proves_grown : (ms ns : List Lemma) (es : List Entry) (h : ℕ) → ns ≡ ms ++ decision_lemma es h ∷ [] → decisions_in es ≡ [] → proves [] ns ≡ true
-proves_grown ms ns es h g e =
-    subst (λ xs. proves [] xs ≡ true) (sym g) (proves_push ms (decision_lemma es h) (refuting_lits es h e))
 
 pub some_entry : Entry
 some_entry = record { lit = record { variable = 0; positive = true }; why = Decision }

@@ -1,12 +1,12 @@
 -- What a group makes known, once and again.
-use Rattle.std.proofs.Common.{◌≡◌, ℕ, zero, suc, ◌+◌, ◌<◌, ◌≤◌, Bool, true, false, not, eqb, cond, List, [], ◌∷◌, ◌++◌, length, refl, sym, ap, ◌∙◌, subst, arith, Option, Some, None, ◌⊎◌, inl, inr, get_or, drop, take}
+use Rattle.std.proofs.Common.{◌≡◌, ℕ, ◌+◌, ◌<◌, ◌≤◌, Bool, true, false, eqb, cond, List, [], ◌∷◌, ◌++◌, length, refl, sym, ap, ◌∙◌, subst, arith, Option, Some, None, ◌⊎◌, inl, inr, get_or, drop, take}
 use Rattle.std.proofs.lemmas.Bool.{false≢true}
 use Rattle.std.proofs.lemmas.Bool.Decides.{nat_tests}
 use Rattle.std.proofs.lemmas.List.{at_drop_more, take-append-le}
 use Rattle.std.proofs.Common.{length-append}
 use Rattle.std.proofs.Common.{append_assoc}
 use Rattle.zi_formula.specs.declared.formula.Lit.{Lit}
-use Rattle.zi_proof.specs.Known.{Known, nothing, put, says, is_open, Outcome, Fails, Contradiction, Goes, deny, deny_all, true_ones, by_true_ones, group_step}
+use Rattle.zi_proof.specs.Known.{Known, put, says, is_open, Contradiction, Goes, deny, deny_all, true_ones, by_true_ones, group_step}
 use Rattle.zi_proof.specs.Taken.{many_of}
 use Rattle.zi_proof.specs.declared.steps.Many.{Many}
 use Rattle.zi_proof.specs.declared.steps.Many.TheVariants as many
@@ -37,14 +37,6 @@ says_put_case k x y true e o =
     let same : y ≡ x = grind (arith, nat_tests) in
     sym (says_open (k y) (ap (λ z. is_open (k z)) same ∙ o))
 says_put_case k x y false e o = refl
-
-says_deny_case : (k : Known) (x y : ℕ) (b : Bool) → is_open (k x) ≡ b → says ((cond b (put k (not_x x)) k) y) true ≡ says (k y) true
-says_deny_case k x y true e = says_put_case k x y (eqb y x) refl e
-says_deny_case k x y false e = refl
-
-says_deny_all : (k : Known) (xs : List ℕ) (y : ℕ) → says (deny_all k xs y) true ≡ says (k y) true
-says_deny_all k [] y = refl
-says_deny_all k (x ∷ xs) y = says_deny_all (deny k x) xs y ∙ says_deny_case k x y (is_open (k x)) refl
 
 true_cond : (a b : Bool) (x : ℕ) (xs ys : List ℕ) → a ≡ b → xs ≡ ys → cond a (x ∷ xs) xs ≡ cond b (x ∷ ys) ys
 true_cond a b x xs ys e f = ap (λ c. cond c (x ∷ xs) xs) e ∙ ap (λ zs. cond b (x ∷ zs) zs) f
@@ -91,20 +83,10 @@ denied_decided k (x ∷ xs) y (inr i) = denied_decided (deny k x) xs y i
 deny_none : (k : Known) (x : ℕ) → is_open (k x) ≡ false → deny k x ≡ k
 deny_none k x h = ap (λ b. cond b (put k (not_x x)) k) h
 
-deny_all_none : (k : Known) (xs : List ℕ) → ((y : ℕ) → In y xs → is_open (k y) ≡ false) → deny_all k xs ≡ k
-deny_all_none k [] h = refl
-deny_all_none k (x ∷ xs) h =
-    ap (λ g. deny_all g xs) (deny_none k x (h x (inl refl))) ∙ deny_all_none k xs (λ y i. h y (inr i))
-
 pub one_true : (k : Known) (xs ts : List ℕ) → many_of ts ≡ many.One → by_true_ones k xs ts ≡ Goes (deny_all k xs)
 one_true k xs [] h = cc
 one_true k xs (t ∷ []) h = refl
 one_true k xs (t ∷ u ∷ ts) h = cc
-
-pub more_true : (k : Known) (xs ts : List ℕ) → many_of ts ≡ many.More → by_true_ones k xs ts ≡ Contradiction
-more_true k xs [] h = cc
-more_true k xs (t ∷ []) h = cc
-more_true k xs (t ∷ u ∷ ts) h = refl
 
 pub group_once : (k : Known) (xs : List ℕ) → many_of (true_ones k xs) ≡ many.One → group_step k xs ≡ Goes (learn k (opened k xs))
 group_once k xs h = one_true k xs (true_ones k xs) h ∙ ap Goes (sym (learn_opened k xs))

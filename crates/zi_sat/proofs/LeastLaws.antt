@@ -1,5 +1,5 @@
 -- The first undecided variable.
-use Rattle.std.proofs.Common.{◌≡◌, ℕ, zero, suc, ◌+◌, ◌<◌, ◌≤◌, Bool, true, false, cond, refl, sym, ap, ◌∙◌, subst, arith, Option, Some, None, ◌⊎◌, inl, inr}
+use Rattle.std.proofs.Common.{◌≡◌, ℕ, zero, suc, ◌+◌, ◌<◌, Bool, true, false, cond, sym, ap, ◌∙◌, subst, arith, Option, Some, None, ◌⊎◌, inl, inr}
 use native.Mathlib.Decide.{dec_lt}
 use Rattle.zi_formula.specs.declared.formula.Lit.{Lit}
 use Rattle.zi_proof.specs.Known.{Known, is_open}
@@ -24,6 +24,3 @@ pub least_next : (k : Known) (x n : ℕ) → least_open x k ≡ None → is_open
 least_next k x n e o h =
     let s : x + 1 ≡ suc x = omega arith in
     ap (λ y. Some (denied y)) s ∙ sym (least_at k x n e (subst (λ y. is_open (k y) ≡ true) s o) h)
-
-pub none_open : (o : Option Bool) → o ≡ None → is_open o ≡ true
-none_open o e = ap is_open e

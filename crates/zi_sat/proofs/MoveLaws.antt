@@ -1,5 +1,5 @@
 -- Trails that came about rightly: longer, shorter, under more lemmas, and what they refute.
-use Rattle.std.proofs.Common.{◌≡◌, ℕ, zero, suc, ◌+◌, ◌-◌, ◌<◌, ◌≤◌, Bool, true, false, not, ◌&&◌, eqb, leb, cond, List, [], ◌∷◌, ◌++◌, map, length, get_or, take, refl, sym, ap, ap₂, ◌∙◌, subst, arith, Option, Some, None, ◌⊎◌, inl, inr, append_assoc, length-append}
+use Rattle.std.proofs.Common.{◌≡◌, ℕ, zero, suc, ◌<◌, ◌≤◌, Bool, true, false, not, ◌&&◌, eqb, leb, cond, List, [], ◌∷◌, ◌++◌, map, length, get_or, take, refl, sym, ap, ap₂, ◌∙◌, subst, arith, Option, Some, None, ◌⊎◌, inl, inr, append_assoc, length-append}
 use Rattle.std.specs.List.{slice_get}
 use Rattle.std.proofs.lemmas.Bool.{false≢true}
 use Rattle.std.proofs.lemmas.Bool.Decides.{nat_tests}
@@ -9,16 +9,15 @@ use Rattle.zi_formula.specs.declared.formula.Constraint.{Constraint}
 use Rattle.zi_formula.specs.declared.formula.Formula.{Formula}
 use Rattle.zi_formula.specs.Truth.{opposite}
 use Rattle.zi_proof.specs.declared.proof.Lemma.{Lemma}
-use Rattle.zi_proof.specs.Known.{Known, nothing, put, is_open, is_false, says, Outcome, Fails, Contradiction, Goes, step}
-use Rattle.zi_proof.specs.Accepted.{citable, cited, step_cited, lemma_clause, after_hint, no_more, walk, assume, walk_from, lits_within, accepted, lemma_accepted, follows_after, follows}
+use Rattle.zi_proof.specs.Known.{Known, nothing, put, is_open, says, Outcome, Fails, Contradiction, Goes}
+use Rattle.zi_proof.specs.Accepted.{citable, cited, step_cited, lemma_clause, after_hint, no_more, walk, assume, walk_from, lits_within, accepted, lemma_accepted, follows_after}
 use Rattle.zi_sat.specs.declared.entry.Entry.{Entry}
 use Rattle.zi_sat.specs.declared.entry.Why.{Why}
 use Rattle.zi_sat.specs.declared.entry.Why.TheVariants.{Decision, Hint}
 use Rattle.zi_sat.specs.Trail.{lits_of, learn, known_from, OpenAll, InAll, all_silent}
-use Rattle.zi_sat.specs.Moves.{Move, Decide, Apply, hinted, entries_of, Applies, Right, Implied, decided, repeat_for, hints_of, Added, Lawful, by_why, with_why, decisions_in, entry_hints, decision_lemma}
+use Rattle.zi_sat.specs.Moves.{Move, Decide, Apply, hinted, entries_of, Applies, Right, Implied, Added, Lawful, decisions_in}
 use Rattle.zi_sat.proofs.TrailLaws.{lits-append, learn-append, known-append}
 use Rattle.zi_sat.proofs.GroupLaws.{lits-hinted}
-use Rattle.zi_sat.proofs.FrameLaws.{frame, open_under}
 
 pub and_left : (a b : Bool) → a && b ≡ true → a ≡ true
 and_left true b h = refl
@@ -28,37 +27,21 @@ pub and_right : (a b : Bool) → a && b ≡ true → b ≡ true
 and_right true b h = h
 and_right false b h = cc
 
-append_nil : (e : List Lemma) → e ++ [] ≡ e
+pub append_nil : (e : List Lemma) → e ++ [] ≡ e
 append_nil [] = refl
 append_nil (m ∷ e) = ap (λ x. m ∷ x) (append_nil e)
 
 -- walking
 
-walk_first : (all : List Constraint) (w w2 : Known) (h : ℕ) (hs : List ℕ) → step_cited w (cited all h) ≡ Goes w2 → walk all w (h ∷ hs) ≡ walk all w2 hs
-walk_first all w w2 h hs e = ap (λ o. after_hint o (λ a. walk all a hs) (no_more hs)) e
-
-walk_repeat : (all : List Constraint) (w : Known) (h : ℕ) (ls : List Lit) (hs : List ℕ) → step_cited w (cited all h) ≡ Goes w → walk all w (repeat_for h ls ++ hs) ≡ walk all w hs
-walk_repeat all w h [] hs e = refl
-walk_repeat all w h (l ∷ ls) hs e = walk_first all w w h (repeat_for h ls ++ hs) e ∙ walk_repeat all w h ls hs e
-
-walk_rest : (all : List Constraint) (w : Known) (h : ℕ) (l : Lit) (ls : List Lit) (hs : List ℕ) → (length (l ∷ ls) ≡ 1) ⊎ (step_cited w (cited all h) ≡ Goes w) → walk all w (repeat_for h ls ++ hs) ≡ walk all w hs
-walk_rest all w h l [] hs c = refl
-walk_rest all w h l (m ∷ ls) hs (inl e) = absurd (omega (arith, e))
-walk_rest all w h l (m ∷ ls) hs (inr e) = walk_repeat all w h (m ∷ ls) hs e
-
 open_split : (k : Known) (ls ms : List Lit) → OpenAll k (ls ++ ms) → OpenAll (learn k ls) ms
 open_split k [] ms o = o
 open_split k (l ∷ ls) ms o = open_split (put k l) ls ms o.1
-
-open_before : (k : Known) (ls : List Lit) (x : ℕ) → is_open (learn k ls x) ≡ true → is_open (k x) ≡ true
-open_before k [] x h = h
-open_before k (l ∷ ls) x h = (open_under k l x (open_before (put k l) ls x h)).1
 
 put_more_case : (k g : Known) (d : Lit) (x : ℕ) (t : Bool) → (is_open (g x) ≡ true → is_open (k x) ≡ true) → is_open (cond t (Some d.positive) (g x)) ≡ true → is_open (cond t (Some d.positive) (k x)) ≡ true
 put_more_case k g d x true h o = o
 put_more_case k g d x false h o = h o
 
-open_weaker : (k g : Known) (ds : List Lit) → ((x : ℕ) → is_open (g x) ≡ true → is_open (k x) ≡ true) → OpenAll g ds → OpenAll k ds
+pub open_weaker : (k g : Known) (ds : List Lit) → ((x : ℕ) → is_open (g x) ≡ true → is_open (k x) ≡ true) → OpenAll g ds → OpenAll k ds
 open_weaker k g [] h o = tt
 open_weaker k g (d ∷ ds) h o =
     (h d.variable o.0, open_weaker (put k d) (put g d) ds (λ x p. put_more_case k g d x (eqb x d.variable) (h x) p) o.1)
@@ -69,49 +52,7 @@ lits-apply h ls es = lits-append (hinted h ls) es ∙ ap (λ ms. ms ++ lits_of e
 pub open_rest : (k : Known) (h : ℕ) (ls : List Lit) (es : List Entry) → OpenAll k (lits_of (hinted h ls ++ es)) → OpenAll (learn k ls) (lits_of es)
 open_rest k h ls es o = open_split k ls (lits_of es) (subst (OpenAll k) (lits-apply h ls es) o)
 
-pub open_decided : (k : Known) (ms : List Move) → OpenAll k (lits_of (entries_of ms)) → OpenAll k (decided ms)
-open_decided k [] o = tt
-open_decided k (Decide l ∷ ms) o = (o.0, open_decided (put k l) ms o.1)
-open_decided k (Apply h ls ∷ ms) o =
-    open_weaker k (learn k ls) (decided ms) (open_before k ls) (open_decided (learn k ls) ms (open_rest k h ls (entries_of ms) o))
-
--- From the decisions of a right trail, its hints and the one in conflict are accepted.
-accept_apply : (all : List Constraint) (k : Known) (h : ℕ) (ls : List Lit) (ds : List Lit) (rest : List ℕ) → Applies all k h ls → OpenAll (learn k ls) ds → walk all (learn (learn k ls) ds) rest ≡ true → walk all (learn k ds) (repeat_for h ls ++ rest) ≡ true
-accept_apply all k h [] ds rest a o w = w
-accept_apply all k h (l ∷ ls) ds rest a o w =
-    let first : step_cited (learn k ds) (cited all h) ≡ Goes (learn (learn k (l ∷ ls)) ds) = frame k (learn k (l ∷ ls)) (cited all h) ds a.0 o in
-    let again : (length (l ∷ ls) ≡ 1) ⊎ (step_cited (learn (learn k (l ∷ ls)) ds) (cited all h) ≡ Goes (learn (learn k (l ∷ ls)) ds)) = elim a.1 [ inl e ↦ inl e | inr e ↦ inr (frame (learn k (l ∷ ls)) (learn k (l ∷ ls)) (cited all h) ds (e (l ∷ ls) [] (sym (append-nil (l ∷ ls)))) o) ] in
-    walk_first all (learn k ds) (learn (learn k (l ∷ ls)) ds) h (repeat_for h ls ++ rest) first ∙ (walk_rest all (learn (learn k (l ∷ ls)) ds) h l ls rest again ∙ w)
-
-pub accept_moves : (all cs : List Constraint) (chooses : Known → Option Lit) (k : Known) (ms : List Move) (h : ℕ) → Right all cs chooses k ms → OpenAll k (lits_of (entries_of ms)) → step_cited (learn k (lits_of (entries_of ms))) (cited all h) ≡ Contradiction → walk all (learn k (decided ms)) (hints_of ms ++ h ∷ []) ≡ true
-accept_moves all cs chooses k [] h r o e = ap (λ u. after_hint u (λ a. walk all a []) true) e
-accept_moves all cs chooses k (Decide l ∷ ms) h r o e = accept_moves all cs chooses (put k l) ms h r.2 o.1 e
-accept_moves all cs chooses k (Apply i ls ∷ ms) h r o e =
-    let o2 : OpenAll (learn k ls) (lits_of (entries_of ms)) = open_rest k i ls (entries_of ms) o in
-    let same : learn k (lits_of (hinted i ls ++ entries_of ms)) ≡ learn (learn k ls) (lits_of (entries_of ms)) = ap (learn k) (lits-apply i ls (entries_of ms)) ∙ learn-append k ls (lits_of (entries_of ms)) in
-    let e2 : step_cited (learn (learn k ls) (lits_of (entries_of ms))) (cited all h) ≡ Contradiction = ap (λ g. step_cited g (cited all h)) (sym same) ∙ e in
-    let w : walk all (learn (learn k ls) (decided ms)) (hints_of ms ++ h ∷ []) ≡ true = accept_moves all cs chooses (learn k ls) ms h r.1 o2 e2 in
-    ap (walk all (learn k (decided ms))) (append_assoc (repeat_for i ls) (hints_of ms) (h ∷ [])) ∙ accept_apply all k i ls (decided ms) (hints_of ms ++ h ∷ []) r.0 (open_decided (learn k ls) ms o2) w
-
 -- entries and moves
-
-decisions-hinted : (h : ℕ) (ls : List Lit) (es : List Entry) → decisions_in (hinted h ls ++ es) ≡ decisions_in es
-decisions-hinted h [] es = refl
-decisions-hinted h (l ∷ ls) es = decisions-hinted h ls es
-
-decisions-moves : (ms : List Move) → decisions_in (entries_of ms) ≡ decided ms
-decisions-moves [] = refl
-decisions-moves (Decide l ∷ ms) = ap (λ ls. l ∷ ls) (decisions-moves ms)
-decisions-moves (Apply h ls ∷ ms) = decisions-hinted h ls (entries_of ms) ∙ decisions-moves ms
-
-hints-hinted : (h : ℕ) (ls : List Lit) (es : List Entry) → entry_hints (hinted h ls ++ es) ≡ repeat_for h ls ++ entry_hints es
-hints-hinted h [] es = refl
-hints-hinted h (l ∷ ls) es = ap (λ hs. h ∷ hs) (hints-hinted h ls es)
-
-hints-moves : (ms : List Move) → entry_hints (entries_of ms) ≡ hints_of ms
-hints-moves [] = refl
-hints-moves (Decide l ∷ ms) = hints-moves ms
-hints-moves (Apply h ls ∷ ms) = hints-hinted h ls (entries_of ms) ∙ ap (λ hs. repeat_for h ls ++ hs) (hints-moves ms)
 
 entries-append : (ms ns : List Move) → entries_of (ms ++ ns) ≡ entries_of ms ++ entries_of ns
 entries-append [] ns = refl
@@ -203,7 +144,7 @@ not_not : (b : Bool) → not (not b) ≡ b
 not_not true = refl
 not_not false = refl
 
-twice : (ls : List Lit) → map opposite (map opposite ls) ≡ ls
+pub twice : (ls : List Lit) → map opposite (map opposite ls) ≡ ls
 twice [] = refl
 twice (l ∷ ls) = ap₂ (λ b ms. record { variable = l.variable; positive = b } ∷ ms) (not_not l.positive) (twice ls)
 
@@ -211,7 +152,7 @@ open_not_false : (o : Option Bool) (b : Bool) → is_open o ≡ true → says o 
 open_not_false None b h = refl
 open_not_false (Some c) b h = absurd (false≢true h)
 
-assume_open : (k : Known) (ls : List Lit) → OpenAll k ls → assume k ls ≡ Some (learn k ls)
+pub assume_open : (k : Known) (ls : List Lit) → OpenAll k ls → assume k ls ≡ Some (learn k ls)
 assume_open k [] o = refl
 assume_open k (l ∷ ls) o =
     ap (λ b. cond b None (assume (put k l) ls)) (open_not_false (k l.variable) (not l.positive) o.0) ∙ assume_open (put k l) ls o.1
@@ -224,30 +165,9 @@ within_test n [] i = refl
 within_test n (l ∷ ls) i =
     ap₂ (λ a b. a && (b && lits_within n ls)) (leb_means 1 l.variable i.0) (leb_means l.variable n i.1) ∙ within_test n ls i.2
 
-in_split : (n : ℕ) (ls ms : List Lit) → InAll n (ls ++ ms) → InAll n ms
-in_split n [] ms i = i
-in_split n (l ∷ ls) ms i = in_split n ls ms i.2
-
-in_decided : (n : ℕ) (ms : List Move) → InAll n (lits_of (entries_of ms)) → InAll n (decided ms)
-in_decided n [] i = tt
-in_decided n (Decide l ∷ ms) i = (i.0, i.1, in_decided n ms i.2)
-in_decided n (Apply h ls ∷ ms) i =
-    in_decided n ms (in_split n ls (lits_of (entries_of ms)) (subst (InAll n) (lits-apply h ls (entries_of ms)) i))
-
-accepted_by : (f : Formula) (ms : List Lemma) (ls : List Lit) (hs : List ℕ) → InAll f.variables ls → OpenAll nothing ls → walk (citable f.constraints ms) (learn nothing ls) hs ≡ true → accepted f ms ls hs ≡ true
+pub accepted_by : (f : Formula) (ms : List Lemma) (ls : List Lit) (hs : List ℕ) → InAll f.variables ls → OpenAll nothing ls → walk (citable f.constraints ms) (learn nothing ls) hs ≡ true → accepted f ms ls hs ≡ true
 accepted_by f ms ls hs i o w =
     ap₂ (λ a b. a && walk_from (citable f.constraints ms) b hs) (within_test f.variables ls i) (assume_open nothing ls o) ∙ w
-
-pub decision_lemma_accepted : (f : Formula) (ms : List Lemma) (chooses : Known → Option Lit) (es : List Entry) (h : ℕ) → Lawful (citable f.constraints ms) f.constraints chooses es → OpenAll nothing (lits_of es) → InAll f.variables (lits_of es) → step_cited (known_from es) (cited (citable f.constraints ms) h) ≡ Contradiction → lemma_accepted f ms (decision_lemma es h) ≡ true
-decision_lemma_accepted f ms chooses es h (ns, e, r) o i c =
-    let all : List Constraint = citable f.constraints ms in
-    let on : OpenAll nothing (lits_of (entries_of ns)) = subst (λ gs. OpenAll nothing (lits_of gs)) e o in
-    let cn : step_cited (known_from (entries_of ns)) (cited all h) ≡ Contradiction = subst (λ gs. step_cited (known_from gs) (cited all h) ≡ Contradiction) e c in
-    let w : walk all (learn nothing (decided ns)) (hints_of ns ++ h ∷ []) ≡ true = accept_moves all f.constraints chooses nothing ns h r on cn in
-    let d : decisions_in es ≡ decided ns = ap decisions_in e ∙ decisions-moves ns in
-    let hs : entry_hints es ≡ hints_of ns = ap entry_hints e ∙ hints-moves ns in
-    let a : accepted f ms (decided ns) (hints_of ns ++ h ∷ []) ≡ true = accepted_by f ms (decided ns) (hints_of ns ++ h ∷ []) (in_decided f.variables ns (subst (λ gs. InAll f.variables (lits_of gs)) e i)) (open_decided nothing ns on) w in
-    ap₂ (λ x y. accepted f ms x (y ++ h ∷ [])) (twice (decisions_in es) ∙ d) hs ∙ a
 
 pub follows_push : (f : Formula) (e ms : List Lemma) (m : Lemma) → follows_after f e ms ≡ true → lemma_accepted f (e ++ ms) m ≡ true → follows_after f e (ms ++ m ∷ []) ≡ true
 follows_push f e [] m h a =
@@ -266,7 +186,7 @@ implied-append all k (Decide l ∷ ms) ns i j = absurd i
 implied-append all k (Apply h ls ∷ ms) ns i j =
     (i.0, implied-append all (learn k ls) ms ns i.1 (subst (λ g. Implied all g ns) (known-moves k h ls (entries_of ms)) j))
 
-nil_after : (es : List Entry) → es ++ [] ≡ es
+pub nil_after : (es : List Entry) → es ++ [] ≡ es
 nil_after [] = refl
 nil_after (e ∷ es) = ap (λ x. e ∷ x) (nil_after es)
 
@@ -284,3 +204,11 @@ added_more all es fs gs h ls (ms, f, i) g a =
     let last : Implied all (learn (known_from es) (lits_of (entries_of ms))) (Apply h ls ∷ []) = (subst (λ k. Applies all k h ls) now a, tt) in
     let ends : entries_of (ms ++ Apply h ls ∷ []) ≡ entries_of ms ++ hinted h ls = entries-append ms (Apply h ls ∷ []) ∙ ap (λ x. entries_of ms ++ x) (nil_after (hinted h ls)) in
     (ms ++ Apply h ls ∷ [], g ∙ (ap (λ x. x ++ hinted h ls) f ∙ (append_assoc es (entries_of ms) (hinted h ls) ∙ ap (λ x. es ++ x) (sym ends))), implied-append all (known_from es) ms (Apply h ls ∷ []) i last)
+
+pub added_all : (all : List Constraint) (es fs gs : List Entry) → Added all es fs → Added all fs gs → Added all es gs
+added_all all es fs gs (ms, f, i) (ns, g, j) =
+    let now : known_from fs ≡ learn (known_from es) (lits_of (entries_of ms)) = ap known_from f ∙ known-append es (entries_of ms) in
+    (ms ++ ns, g ∙ (ap (λ x. x ++ entries_of ns) f ∙ (append_assoc es (entries_of ms) (entries_of ns) ∙ ap (λ x. es ++ x) (sym (entries-append ms ns)))), implied-append all (known_from es) ms ns i (subst (λ k. Implied all k ns) now j))
+
+pub added_none : (all : List Constraint) (es : List Entry) → Added all es es
+added_none all es = ([], sym (nil_after es), tt)

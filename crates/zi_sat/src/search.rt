@@ -37,6 +37,7 @@ impl<'f> Search<'f> {
     ghost use Rattle.zi_formula.specs.Form.{WellFormed};
     ghost use Rattle.zi_proof.specs.Known.{nothing};
     ghost use Rattle.zi_proof.specs.Accepted.{citable, follows};
+    ghost use Rattle.zi_proof.specs.Lean.{AreLean};
     ghost use Rattle.zi_sat.specs.Moves.{Lawful};
     ghost use Rattle.zi_sat.specs.Fresh.{AreFresh};
     ghost use Rattle.zi_sat.specs.Entries.{HaveReasons, AreImplied};
@@ -87,11 +88,11 @@ impl<'f> Search<'f> {
 
     /// Searches for a model, from no decision on, and learns at most `budget` lemmas that have a literal.
     ///
-    /// After every answer, want of memory too: the lemmas of the log follow, and are fresh; each decision on the trail was
+    /// After every answer, want of memory too: the lemmas of the log follow, are fresh and lean; each decision on the trail was
     /// the decider's pick on the trail before it, on which no constraint of the formula has more to say; each other
     /// literal has the hint that makes it true, and follows from the formula and the decisions before it.
     ///
-    /// Model comes only where the trail's values are a model. Refuted comes only where the log refutes. Spent comes only
+    /// Model comes only where every variable is decided and the trail's values are a model. Refuted comes only where the log refutes. Spent comes only
     /// with the budget as its count and as the number of lemmas, each with a literal, where no model has all literals of
     /// the trail, and never where the budget is at least 3 to the power of the number of variables.
     pub fn run<D: Decider>(
@@ -108,6 +109,7 @@ impl<'f> Search<'f> {
         ensures needed { D.needs d.new ≡ D.needs d.old }
         ensures log { follows self.old.formula self.new.log.lemmas ≡ true }
         ensures fresh { AreFresh self.old.formula.constraints self.new.log.lemmas }
+        ensures lean { AreLean self.old.formula.constraints self.new.log.lemmas }
         ensures moves { Lawful (citable self.old.formula.constraints self.new.log.lemmas) self.old.formula.constraints (D.chooses d.old self.old.formula.variables) self.new.trail.entries }
         ensures reasons { HaveReasons (citable self.old.formula.constraints self.new.log.lemmas) self.old.formula.constraints (D.chooses d.old self.old.formula.variables) nothing self.new.trail.entries }
         ensures implied { AreImplied self.old.formula [] self.new.trail.entries }

@@ -1,4 +1,5 @@
-use Rattle.std.proofs.Common.{◌≡◌, ◌∙◌, sym, subst, true, ap, rules, map, Some}
+use Rattle.std.proofs.Common.{◌≡◌, ◌∙◌, sym, subst, true, ap, map, Some, [], ◌∷◌}
+use Rattle.zi_sat.proofs.SettleLaws.{ready_decided}
 use Rattle.zi_proof.specs.Accepted.{citable, lemma_clause}
 use Rattle.zi_sat.specs.Moves.{Lawful}
 use Rattle.zi_sat.specs.Trail.{all_silent, known_from}
@@ -56,4 +57,4 @@ loop-hint-preserved g c =
     let quiet : all_silent (known_from c.settle.new.t.entries) c.args.f.now.constraints ≡ true = silent_front (known_from c.settle.new.t.entries) c.args.f.now.constraints (map lemma_clause c.args.lemmas.now) (rw c.in_default.is at c.in_ok-hint.ensures.end) in
     let k = known_from c.settle.new.t.entries in
     let picked : g.D.Decider.chooses c.args.d.now c.args.f.now.variables k ≡ Some c.in-Some-2.l = ap (λ h. h c.args.f.now.variables k) (sym i.2) ∙ (ap (λ m. g.D.Decider.chooses c.loop-hint.d m k) (sym (c.settle.ensures.variables ∙ (i.0 ∙ c.requires.same))) ∙ (sym c.in_ok-pick.ensures.answer ∙ c.in-Some-2.is)) in
-    (c.push.ensures.variables ∙ (c.settle.ensures.variables ∙ i.0), c.are_new-in-Some-2.ensures.few, c.pick.ensures.rule ∙ i.2, c.pick.ensures.same ∙ i.3, lawful_decide (citable c.args.f.now.constraints c.args.lemmas.now) c.args.f.now.constraints (g.D.Decider.chooses c.args.d.now c.args.f.now.variables) c.settle.new.t.entries c.push.new.self.entries c.in-Some-2.l before c.in_ok-push-in-Some-2.ensures.entries picked quiet, hushed_decide (citable c.args.f.now.constraints c.args.lemmas.now) c.settle.new.t.entries c.push.new.self.entries c.in-Some-2.l (hushed_added (citable c.args.f.now.constraints c.args.lemmas.now) (citable c.args.f.now.constraints c.args.lemmas.now) c.loop-hint.t.entries c.settle.new.t.entries i.5 c.settle.ensures.added) c.in_ok-push-in-Some-2.ensures.entries (rw c.in_default.is at c.in_ok-hint.ensures.end))
+    (c.push.ensures.variables ∙ (c.settle.ensures.variables ∙ i.0), c.are_new-in-Some-2.ensures.few, c.pick.ensures.rule ∙ i.2, c.pick.ensures.same ∙ i.3, lawful_decide (citable c.args.f.now.constraints c.args.lemmas.now) c.args.f.now.constraints (g.D.Decider.chooses c.args.d.now c.args.f.now.variables) c.settle.new.t.entries c.push.new.self.entries c.in-Some-2.l before c.in_ok-push-in-Some-2.ensures.entries picked quiet, hushed_decide (citable c.args.f.now.constraints c.args.lemmas.now) c.settle.new.t.entries c.push.new.self.entries c.in-Some-2.l (hushed_added (citable c.args.f.now.constraints c.args.lemmas.now) (citable c.args.f.now.constraints c.args.lemmas.now) c.loop-hint.t.entries c.settle.new.t.entries i.5 c.settle.ensures.added) c.in_ok-push-in-Some-2.ensures.entries (rw c.in_default.is at c.in_ok-hint.ensures.end), ready_decided c.settle.new.w c.args.f.now c.args.lemmas.now c.settle.new.t.entries c.push.new.self.entries c.in-Some-2.l c.in_ok-push-in-Some-2.ensures.entries c.are_new-in-Some-2.ensures.undecided (rw c.in_default.is at c.in_ok-hint.ensures.seen) (rw c.in_default.is at c.in_ok-hint.ensures.ready))

@@ -1,0 +1,180 @@
+-- One constraint more.
+use Rattle.std.proofs.Common.{◌≡◌, ◌≢◌, ℕ, zero, suc, ◌<◌, ◌≤◌, ◌+◌, ◌-◌, ◌*◌, Bool, true, false, cond, List, [], ◌∷◌, ◌++◌, length, length-append, map, take, get_or, refl, sym, ap, ◌∙◌, subst, arith, Option, Some, None, ◌⊎◌, inl, inr}
+use Rattle.std.specs.List.{slice_get}
+use Rattle.std.proofs.lemmas.Bool.{false≢true}
+use Rattle.std.proofs.lemmas.List.{get_or_append_left, get_or_push}
+use Rattle.zi_formula.specs.declared.formula.Lit.{Lit}
+use Rattle.zi_formula.specs.declared.formula.Constraint.{Constraint}
+use Rattle.zi_formula.specs.declared.formula.Constraint.TheVariants.{Clause, AtMostOne}
+use Rattle.zi_formula.specs.Form.{same_lit, has_lit, Once, OnceAll, ItemsOnce}
+use Rattle.zi_formula.specs.declared.formula.Formula.{Formula}
+use Rattle.zi_proof.specs.declared.proof.Lemma.{Lemma}
+use Rattle.zi_proof.specs.Accepted.{citable, lemma_clause}
+use Rattle.zi_proof.specs.Known.{Known, nothing}
+use Rattle.zi_sat.specs.Fresh.{Filled}
+use Rattle.zi_sat.specs.declared.entry.Entry.{Entry}
+use Rattle.zi_sat.specs.Trail.{known_from}
+use Rattle.zi_sat.proofs.FreshLaws.{filled_once}
+use Rattle.zi_sat.proofs.MoveLaws.{citable_push}
+use Rattle.zi_sat.specs.declared.pair.Pair.{Pair}
+use Rattle.zi_sat.specs.declared.watches.Watches.{Watches as Lists}
+use Rattle.zi_sat.specs.Rows.{In, Has}
+use Rattle.zi_sat.specs.Guard.{row_of, pair_at, HeldPair, Held, Each, AllHeld, AllCalm, LastTwo, Adds, Guard, Fitting, Ready}
+use Rattle.zi_sat.specs.Watching.{Watches}
+use Rattle.zi_sat.proofs.FreshStep.{lit_self}
+use Rattle.zi_sat.proofs.WatchLaws.{or_first, or_later}
+use Rattle.zi_sat.proofs.VisitLaws.{place_low, citable_length}
+use Rattle.zi_sat.proofs.CalmLaws.{calm_start}
+
+pub has_at : (ls : List Lit) (i : ℕ) (d : Lit) → i < length ls → has_lit ls (get_or ls i d) ≡ true
+has_at [] i d h = absurd (omega arith)
+has_at (l ∷ ls) zero d h = or_first (same_lit l l) (has_lit ls l) (lit_self l)
+has_at (l ∷ ls) (suc i) d h =
+    or_later (same_lit l (get_or ls i d)) (has_lit ls (get_or ls i d)) (has_at ls i d (omega arith))
+
+lacks_case : (m l : Lit) (b : Bool) → cond (same_lit m l) true b ≡ false → (same_lit m l ≡ false) × (b ≡ false)
+lacks_case m l b h = go (same_lit m l) refl h
+  where
+    go : (t : Bool) → same_lit m l ≡ t → cond t true b ≡ false → (same_lit m l ≡ false) × (b ≡ false)
+    go true e h = absurd (false≢true (sym h))
+    go false e h = (e, h)
+
+lacks_at : (ls : List Lit) (j : ℕ) (l d : Lit) → j < length ls → has_lit ls l ≡ false → same_lit (get_or ls j d) l ≡ false
+lacks_at [] j l d h n = absurd (omega arith)
+lacks_at (m ∷ ls) zero l d h n = (lacks_case m l (has_lit ls l) n).0
+lacks_at (m ∷ ls) (suc j) l d h n = lacks_at ls j l d (omega arith) (lacks_case m l (has_lit ls l) n).1
+
+apart_at : (ls : List Lit) (i j : ℕ) (d e : Lit) → Once ls → i < j → j < length ls → same_lit (get_or ls j d) (get_or ls i e) ≡ false
+apart_at [] i j d e o a b = absurd (omega arith)
+apart_at (l ∷ ls) zero zero d e o a b = absurd (omega arith)
+apart_at (l ∷ ls) zero (suc j) d e o a b = lacks_at ls j l d (omega arith) o.0
+apart_at (l ∷ ls) (suc i) zero d e o a b = absurd (omega arith)
+apart_at (l ∷ ls) (suc i) (suc j) d e o a b = apart_at ls i j d e o.1 (omega arith) (omega arith)
+
+pub last_two : (ls : List Lit) (n : ℕ) (d e : Lit) → n ≡ length ls → 2 ≤ n → Once ls → Watches ls (get_or ls (n - 1) d) (get_or ls (n - 2) e)
+last_two ls n d e s h o =
+    record { first = has_at ls (n - 1) d (omega (arith, s, h)); second = has_at ls (n - 2) e (omega (arith, s, h)); apart = apart_at ls (n - 2) (n - 1) d e o (omega (arith, h)) (omega (arith, s, h)) }
+
+last_split : (ls : List Lit) (k : ℕ) (d e : Lit) → length ls ≡ suc (suc k) → ls ≡ take k ls ++ get_or ls k e ∷ get_or ls (suc k) d ∷ []
+last_split [] k d e h = absurd (omega (arith, h))
+last_split (x ∷ []) k d e h = absurd (omega (arith, h))
+last_split (x ∷ y ∷ []) zero d e h = refl
+last_split (x ∷ y ∷ z ∷ ls) zero d e h = absurd (omega (arith, h))
+last_split (x ∷ y ∷ ls) (suc k) d e h = ap (λ xs. x ∷ xs) (last_split (y ∷ ls) k d e (omega (arith, h)))
+
+pub last_are : (ls : List Lit) (n : ℕ) (d e : Lit) → n ≡ length ls → 2 ≤ n → (front : List Lit) × (ls ≡ front ++ get_or ls (n - 2) e ∷ get_or ls (n - 1) d ∷ [])
+last_are ls n d e s h =
+    let k : length ls ≡ suc (suc (n - 2)) = omega (arith, s, h) in
+    let next : suc (n - 2) ≡ n - 1 = omega (arith, h) in
+    (take (n - 2) ls, subst (λ i. ls ≡ take (n - 2) ls ++ get_or ls (n - 2) e ∷ get_or ls i d ∷ []) next (last_split ls (n - 2) d e k))
+
+-- what is held of all
+
+pub push_case : (all : List Constraint) (c d : Constraint) (n : ℕ) → slice_get (all ++ c ∷ []) n ≡ Some d → ((n < length all) × (slice_get all n ≡ Some d)) ⊎ ((n ≡ length all) × (c ≡ d))
+push_case [] c d zero e = inr (refl, cc)
+push_case [] c d (suc n) e = let z : ◌≡◌ {A = Option Constraint} None (Some d) = e in absurd (cc)
+push_case (x ∷ all) c d zero e = inl (omega arith, e)
+push_case (x ∷ all) c d (suc n) e =
+    elim (push_case all c d n e) [
+      | inl p ↦ inl (let q : n < length all = p.0 in omega (arith, q), p.1)
+      | inr p ↦ inr (ap suc p.0, p.1)
+    ]
+
+held_wider : (short more : List ℕ) (h g : ℕ → ℕ → Type 0) (n : ℕ) (p : Option Pair) (c : Constraint) → ((m : ℕ) → In m short → In m more) → ((q : ℕ) → h q n → g q n) → Held short h n p c → Held more g n p c
+held_wider short more h g n None (Clause ls) s m d = (s n d.0, d.1)
+held_wider short more h g n (Some p) (Clause ls) s m d = (d.0, m (row_of p.first) d.1, m (row_of p.second) d.2)
+held_wider short more h g n p (AtMostOne xs) s m d = λ x i. m _ (d x i)
+
+pub added_held : (w v : Lists) (all : List Constraint) (c : Constraint) → length w.pairs.items ≡ length all → Adds w v c → AllHeld w all → AllHeld v (all ++ c ∷ [])
+added_held w v all c len a h n d e =
+    elim (push_case all c d n e) [
+      | inl p ↦
+          let low : n < length w.pairs.items = omega (arith, p.0, len) in
+          let same : pair_at v.pairs.items n ≡ pair_at w.pairs.items n = ap (λ ps. get_or ps n None) a.pairs ∙ get_or_append_left w.pairs.items (a.pair ∷ []) None n low in
+          subst (λ q. Held v.shorts.items (Has v.rows.items) n q d) (sym same) (held_wider w.shorts.items v.shorts.items (Has w.rows.items) (Has v.rows.items) n (pair_at w.pairs.items n) d a.shorts (λ q x. a.grows q n x) (h n d p.1))
+      | inr p ↦
+          let at : n ≡ length w.pairs.items = p.0 ∙ sym len in
+          let same : pair_at v.pairs.items n ≡ a.pair = ap (λ ps. get_or ps n None) a.pairs ∙ get_or_push w.pairs.items a.pair None n (sym at) in
+          subst (λ q. Held v.shorts.items (Has v.rows.items) n q d) (sym same) (subst (λ m. Held v.shorts.items (Has v.rows.items) m a.pair d) (sym at) (subst (Held v.shorts.items (Has v.rows.items) (length w.pairs.items) a.pair) p.1 a.held))
+    ]
+
+pub added_len : (w v : Lists) (c : Constraint) → Adds w v c → length v.pairs.items ≡ length w.pairs.items + 1
+added_len w v c a = omega (arith, ap length a.pairs, length-append w.pairs.items (a.pair ∷ []))
+
+pub take_next : (cs : List Constraint) (i : ℕ) (d : Constraint) → i < length cs → take (i + 1) cs ≡ take i cs ++ get_or cs i d ∷ []
+take_next cs i d h =
+    let n : i + 1 ≡ suc i = omega arith in
+    ap (λ j. take j cs) n ∙ go cs i d h
+  where
+    go : (cs : List Constraint) (i : ℕ) (d : Constraint) → i < length cs → take (suc i) cs ≡ take i cs ++ get_or cs i d ∷ []
+    go [] i d h = absurd (omega arith)
+    go (c ∷ cs) zero d h = refl
+    go (c ∷ cs) (suc i) d h = ap (λ x. c ∷ x) (go cs i d (omega arith))
+
+take_length : (cs : List Constraint) (i : ℕ) → i ≤ length cs → length (take i cs) ≡ i
+take_length [] zero h = refl
+take_length [] (suc i) h = absurd (omega arith)
+take_length (c ∷ cs) zero h = refl
+take_length (c ∷ cs) (suc i) h = ap suc (take_length cs i (omega arith))
+
+pub take_all : (cs : List Constraint) (i : ℕ) → length cs ≤ i → take i cs ≡ cs
+take_all [] zero h = refl
+take_all [] (suc i) h = refl
+take_all (c ∷ cs) zero h = absurd (omega arith)
+take_all (c ∷ cs) (suc i) h = ap (λ x. c ∷ x) (take_all cs i (omega arith))
+
+pub next_held : (w v : Lists) (cs xs : List Constraint) (i : ℕ) (c d : Constraint) → xs ≡ cs → i < length xs → c ≡ get_or xs i d → length w.pairs.items ≡ i → Adds w v c → AllHeld w (take i cs) → AllHeld v (take (i + 1) cs)
+next_held w v cs xs i c d e low f n a h =
+    let k : i < length cs = omega (arith, low, ap length e) in
+    let same : take i cs ++ c ∷ [] ≡ take (i + 1) cs = ap (λ x. take i cs ++ x ∷ []) (f ∙ ap (λ ys. get_or ys i d) e) ∙ sym (take_next cs i d k) in
+    subst (AllHeld v) same (added_held w v (take i cs) c (n ∙ sym (take_length cs i (omega (arith, k)))) a h)
+
+pub once_in : (cs : List Constraint) (i : ℕ) (d : Constraint) → OnceAll cs → i < length cs → ItemsOnce (get_or cs i d)
+once_in [] i d o h = absurd (omega arith)
+once_in (c ∷ cs) zero d o h = o.0
+once_in (c ∷ cs) (suc i) d o h = once_in cs i d o.1 (omega arith)
+
+once_both : (cs ds : List Constraint) → OnceAll cs → OnceAll ds → OnceAll (cs ++ ds)
+once_both [] ds a b = b
+once_both (c ∷ cs) ds a b = (a.0, once_both cs ds a.1 b)
+
+pub once_citable : (cs : List Constraint) (ms : List Lemma) → OnceAll cs → Filled ms → OnceAll (citable cs ms)
+once_citable cs ms a b = once_both cs (map lemma_clause ms) a (filled_once ms b)
+
+-- at the start
+
+start_guard : (k : Known) (p : Option Pair) (c : Constraint) → Guard nothing k p c
+start_guard k None (Clause ls) = tt
+start_guard k (Some p) (Clause ls) = inr (inr (refl, refl))
+start_guard k p (AtMostOne xs) = λ x y i j e n. let z : ◌≡◌ {A = Option Bool} None (Some true) = e in absurd (cc)
+
+pub ready_start : (w : Lists) (f : Formula) (ms : List Lemma) (es : List Entry) → es ≡ [] → Fitting w f ms → w.seen ≡ 0 → Ready w f ms es
+ready_start w f ms es none h z =
+    let low : w.seen ≤ length es = omega (arith, z) in
+    ((h, subst (λ xs. AllCalm w xs (citable f.constraints ms)) (sym none) (calm_start w (citable f.constraints ms))), low, λ n c e. subst (λ i. Guard (known_from (take i es)) (known_from es) (pair_at w.pairs.items n) c) (sym z) (subst (λ k. Guard k (known_from es) (pair_at w.pairs.items n) c) (sym (ap known_from (take_zero es))) (start_guard (known_from es) (pair_at w.pairs.items n) c)), inl z)
+  where
+    take_zero : (es : List Entry) → take 0 es ≡ []
+    take_zero [] = refl
+    take_zero (e ∷ es) = refl
+
+pub fitting_more : (w v : Lists) (f : Formula) (ms ns : List Lemma) (m : Lemma) (ls : List Lit) → ns ≡ ms ++ m ∷ [] → ls ≡ m.lits → length v.rows.items ≡ length w.rows.items → Adds w v (Clause ls) → Fitting w f ms → Fitting v f ns
+fitting_more w v f ms ns m ls e g r a h =
+    let all : length w.pairs.items ≡ length (citable f.constraints ms) = h.1 ∙ sym (citable_length f.constraints ms) in
+    let held : AllHeld v (citable f.constraints ms ++ Clause ls ∷ []) = added_held w v (citable f.constraints ms) (Clause ls) all a h.0 in
+    let same : citable f.constraints ms ++ Clause ls ∷ [] ≡ citable f.constraints ns = ap (λ x. citable f.constraints ms ++ Clause x ∷ []) g ∙ (sym (citable_push f.constraints ms m) ∙ ap (citable f.constraints) (sym e)) in
+    let n : length ns ≡ length ms + 1 = omega (arith, ap length e, length-append ms (m ∷ [])) in
+    (subst (AllHeld v) same held, omega (arith, n, h.1, added_len w v (Clause ls) a), omega (arith, h.2, r))
+
+pub filled_at : (ms : List Lemma) (i : ℕ) (d : Lemma) → Filled ms → i < length ms → Once (get_or ms i d).lits
+filled_at [] i d f h = absurd (omega arith)
+filled_at (m ∷ ms) zero d f h = f.1
+filled_at (m ∷ ms) (suc i) d f h = filled_at ms i d f.2 (omega arith)
+
+pub last_is : (ms ns : List Lemma) (m : Lemma) → ns ≡ ms ++ m ∷ [] → (d : Lemma) → get_or ns (length ns - 1) d ≡ m
+last_is ms ns m e d =
+    let n : length ms ≡ length ns - 1 = omega (arith, ap length e, length-append ms (m ∷ [])) in
+    ap (λ xs. get_or xs (length ns - 1) d) e ∙ get_or_push ms m d (length ns - 1) n
+
+pub fitting_same : (w v : Lists) (f : Formula) (ms ns : List Lemma) → v.rows ≡ w.rows → v.pairs ≡ w.pairs → v.shorts ≡ w.shorts → ms ≡ ns → Fitting w f ms → Fitting v f ns
+fitting_same w v f ms ns a b c s h =
+    subst (Fitting v f) s (λ n d e. subst (λ t. Held t.items (Has v.rows.items) n (pair_at v.pairs.items n) d) (sym c) (subst (λ r. Held w.shorts.items (Has r.items) n (pair_at v.pairs.items n) d) (sym a) (subst (λ p. Held w.shorts.items (Has w.rows.items) n (pair_at p.items n) d) (sym b) (h.0 n d e))), ap (λ p. length p.items) b ∙ h.1, subst (λ r. f.variables * 2 + 2 ≤ length r.items) (sym a) h.2)

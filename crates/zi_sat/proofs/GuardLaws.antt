@@ -1,0 +1,116 @@
+-- What a look at a constraint leaves: what it holds, and why it needn't be looked at.
+use Rattle.std.proofs.Common.{◌≡◌, ◌≢◌, ℕ, zero, suc, ◌<◌, ◌≤◌, ◌+◌, ◌-◌, ◌*◌, Bool, true, false, not, cond, eqb, List, [], ◌∷◌, ◌++◌, length, get_or, set, take, drop, refl, sym, ap, ◌∙◌, subst, arith, Option, Some, None, Result, Ok, Err, IfOk, ◌⊎◌, inl, inr, get_or-set_same, get_or-set_other}
+use Rattle.std.specs.List.{slice_get, All}
+use Rattle.std.proofs.lemmas.Bool.{false≢true, cases_eq}
+use Rattle.zi_formula.specs.declared.formula.Lit.{Lit}
+use Rattle.zi_formula.specs.declared.formula.Constraint.{Constraint}
+use Rattle.zi_formula.specs.declared.formula.Constraint.TheVariants.{Clause, AtMostOne}
+use Rattle.zi_formula.specs.Truth.{opposite}
+use Rattle.zi_formula.specs.Form.{LitsWithin, VarsWithin, same_lit, has_lit, Once, OnceAll, ItemsOnce}
+use Rattle.zi_proof.specs.Known.{Known, nothing, put, says, is_open, is_true, is_false, Goes, Contradiction, clause_step, true_ones, step}
+use Rattle.zi_proof.specs.declared.proof.Lemma.{Lemma}
+use Rattle.zi_proof.specs.Accepted.{citable, cited, step_cited}
+use Rattle.zi_sat.specs.declared.entry.Entry.{Entry}
+use Rattle.zi_sat.specs.declared.pair.Pair.{Pair}
+use Rattle.zi_sat.specs.Trail.{lits_of, learn, known_from, OpenAll, fails, silent, silent_by, all_decided, all_silent}
+use Rattle.zi_sat.specs.Moves.{Added, hinted}
+use Rattle.zi_sat.specs.Marking.{Inside}
+use Rattle.zi_sat.specs.Rows.{In, Has}
+use Rattle.zi_sat.specs.Guard.{row_of, denied, pair_at, Beside, Lacks, HeldPair, Held, Looked, GuardPair, Guard, Moved, VisitedPair, Visited, IfPair, Looks, Exhausted}
+use Rattle.zi_text.specs.declared.memory.Memory.{Memory}
+use Rattle.zi_sat.specs.Watching.{Quiet, QuietBy, Watches}
+use Rattle.zi_sat.proofs.FreshStep.{lits_same, lit_self, eqb_means, false_or}
+use Rattle.zi_sat.proofs.FreshLaws.{put_self}
+use Rattle.zi_sat.proofs.LessLaws.{says_some, some_says, says_within, bool_cases}
+use Rattle.zi_sat.proofs.TrailLaws.{known-append}
+use Rattle.zi_sat.proofs.CiteLaws.{goes, cited_zs}
+use Rattle.zi_sat.proofs.MoveLaws.{nil_after, added_more}
+use Rattle.std.proofs.lemmas.List.Elements.{All-head, All-tail}
+
+within_case : (n : ℕ) (m a : Lit) (ls : List Lit) (t : Bool) → same_lit m a ≡ t → (1 ≤ m.variable) × (m.variable ≤ n) → (has_lit ls a ≡ true → (1 ≤ a.variable) × (a.variable ≤ n)) → cond t true (has_lit ls a) ≡ true → (1 ≤ a.variable) × (a.variable ≤ n)
+within_case n m a ls true e w r h = subst (λ x. (1 ≤ x.variable) × (x.variable ≤ n)) (lits_same m a e) w
+within_case n m a ls false e w r h = r h
+
+pub lit_within : (n : ℕ) (ls : List Lit) (a : Lit) → LitsWithin n ls → has_lit ls a ≡ true → (1 ≤ a.variable) × (a.variable ≤ n)
+lit_within n [] a w h = absurd (false≢true h)
+lit_within n (m ∷ ls) a w h =
+    within_case n m a ls (same_lit m a) refl (All-head (λ l. (1 ≤ l.variable) × (l.variable ≤ n)) m ls w) (λ r. lit_within n ls a (All-tail (λ l. (1 ≤ l.variable) × (l.variable ≤ n)) m ls w) r) h
+
+any_default : (ps : List (Option Pair)) (i : ℕ) (a b : Option Pair) → i < length ps → get_or ps i a ≡ get_or ps i b
+any_default [] i a b low = absurd (omega arith)
+any_default (p ∷ ps) zero a b low = refl
+any_default (p ∷ ps) (suc i) a b low = any_default ps i a b (omega arith)
+
+pub pair_is : (ps : List (Option Pair)) (i : ℕ) (r : Option Pair) (p : Pair) → i < length ps → r ≡ get_or ps i r → r ≡ Some p → pair_at ps i ≡ Some p
+pair_is ps i r p low e f = any_default ps i None r low ∙ (sym e ∙ f)
+
+pub beside_has : (ps : List (Option Pair)) (i : ℕ) (r : Option Pair) (p : Pair) (ls : List Lit) (l o : Lit) → i < length ps → r ≡ get_or ps i r → r ≡ Some p → IfPair (pair_at ps i) (λ p. Watches ls p.first p.second) → Beside p l o → has_lit ls o ≡ true
+beside_has ps i r p ls l o low e f w (inl b) =
+    let h : Watches ls p.first p.second = subst (λ x. IfPair x (λ p. Watches ls p.first p.second)) (pair_is ps i r p low e f) w in
+    ap (has_lit ls) (sym b.1) ∙ h.second
+beside_has ps i r p ls l o low e f w (inr b) =
+    let h : Watches ls p.first p.second = subst (λ x. IfPair x (λ p. Watches ls p.first p.second)) (pair_is ps i r p low e f) w in
+    ap (has_lit ls) (sym b.1) ∙ h.first
+
+pub row_low : (n r : ℕ) (l : Lit) → l.variable ≤ n → n * 2 + 2 ≤ r → row_of l < r
+row_low n r l h e = row_case l.positive
+  where
+    row_case : (b : Bool) → l.variable * 2 + cond b 1 0 < r
+    row_case true = omega (arith, h, e)
+    row_case false = omega (arith, h, e)
+
+pub made_added : (all : List Constraint) (es fs : List Entry) (h : ℕ) (o : Lit) (ls : List Lit) → fs ≡ es ++ hinted h (o ∷ []) → cited all h ≡ Some (Clause ls) → clause_step (known_from es) ls ≡ Goes (put (known_from es) o) → Added all es fs
+made_added all es fs h o ls e f g =
+    added_more all es es fs h (o ∷ []) ([], sym (nil_after es), tt) e (goes (known_from es) (put (known_from es) o) (cited all h) (Clause ls) f g, inl refl)
+
+pub made_true : (es fs : List Entry) (h : ℕ) (o : Lit) → fs ≡ es ++ hinted h (o ∷ []) → is_true (known_from fs) o ≡ true
+made_true es fs h o e =
+    ap (λ x. says x o.positive) (ap (λ gs. known_from gs o.variable) e ∙ (ap (λ k. k o.variable) (known-append es (hinted h (o ∷ []))) ∙ put_self (known_from es) o)) ∙ some_says o.positive
+
+true_one : (k : Known) (p : Pair) (l o : Lit) → Beside p l o → is_true k o ≡ true → (is_true k p.first ≡ true) ⊎ (is_true k p.second ≡ true)
+true_one k p l o (inl b) t = inr (ap (is_true k) b.1 ∙ t)
+true_one k p l o (inr b) t = inl (ap (is_true k) b.1 ∙ t)
+
+pub makes_visited : (ls : List Lit) (l : Lit) (k : Known) (has : ℕ → Type 0) (q : Option Pair) (p : Pair) (o : Lit) → q ≡ Some p → Beside p l o → has (row_of l) → is_true k o ≡ true → VisitedPair ls l k has q q
+makes_visited ls l k has q p o e b h t =
+    subst (λ x. VisitedPair ls l k has x x) (sym e) (inr (inl (refl, h, true_one k p l o b t)))
+
+-- the constraint at a place
+
+pub front_at : (cs ds : List Constraint) (i : ℕ) (d c : Constraint) → i < length cs → get_or cs i d ≡ c → slice_get (cs ++ ds) i ≡ Some c
+front_at [] ds i d c low e = absurd (omega arith)
+front_at (x ∷ cs) ds zero d c low e = ap (λ y. Some y) e
+front_at (x ∷ cs) ds (suc i) d c low e = front_at cs ds i d c (omega arith) e
+
+pub some_same : (a b : Constraint) → Some a ≡ Some b → a ≡ b
+some_same a b e = cc
+
+pub once_at : (all : List Constraint) (i : ℕ) (c : Constraint) → OnceAll all → slice_get all i ≡ Some c → ItemsOnce c
+once_at [] i c o e = let z : ◌≡◌ {A = Option Constraint} None (Some c) = e in cc
+once_at (x ∷ all) zero c o e = subst ItemsOnce (some_same x c e) o.0
+once_at (x ∷ all) (suc i) c o e = once_at all i c o.1 e
+
+pub cited_next : (all : List Constraint) (i : ℕ) (c : Constraint) → slice_get all i ≡ Some c → cited all (i + 1) ≡ Some c
+cited_next all i c e =
+    let n : i + 1 ≡ suc i = omega arith in
+    ap (cited all) n ∙ e
+
+pub place_of : (all : List Constraint) (h i : ℕ) (c : Constraint) → h ≡ suc i → cited all h ≡ Some c → slice_get all i ≡ Some c
+place_of all h i c n e = ap (cited all) (sym n) ∙ e
+
+pub looks_at : (all : List Constraint) (i : ℕ) (c : Constraint) (P : Constraint → Type 0) → slice_get all i ≡ Some c → P c → (d : Constraint) → slice_get all i ≡ Some d → P d
+looks_at all i c P e h d f = subst P (some_same c d (sym e ∙ f)) h
+
+pub lemma_place : (cs xs : List Constraint) (ms : List Lemma) (i : ℕ) (x : Lemma) (ys : List Lit) → xs ≡ cs → length xs ≤ i → i < length cs + length ms → ys ≡ (get_or ms (i - length xs) x).lits → slice_get (citable cs ms) i ≡ Some (Clause ys)
+lemma_place cs xs ms i x ys e h low f =
+    let n : length xs ≡ length cs = ap length e in
+    place_of (citable cs ms) (length xs + (i - length xs) + 1) i (Clause ys) (omega (arith, n, h)) (cited_zs cs xs ms (i - length xs) x ys e (omega (arith, n, low, h)) f)
+
+pub front_place : (cs xs ds : List Constraint) (i : ℕ) (r c : Constraint) → xs ≡ cs → i < length xs → r ≡ get_or xs i r → r ≡ c → slice_get (cs ++ ds) i ≡ Some c
+front_place cs xs ds i r c e low f g =
+    front_at cs ds i r c (omega (arith, low, ap length e)) (ap (λ zs. get_or zs i r) (sym e) ∙ (sym f ∙ g))
+
+pub group_looks : (c : Constraint) (xs : List ℕ) (l : Lit) (k : Known) (has : ℕ → Type 0) (p : Option Pair) (r : Result Bool Memory) → c ≡ AtMostOne xs → Exhausted k c r → IfOk r (λ b. b ≡ false → has (row_of l)) → Looks c l k has p p r
+group_looks c xs l k has p (Ok true) e x h = (x, refl)
+group_looks c xs l k has p (Ok false) e x h = subst (λ d. Visited d l k has p p) (sym e) (refl, h refl, subst (λ d. silent k d ≡ true) e x)
+group_looks c xs l k has p (Err y) e x h = tt

@@ -1,0 +1,155 @@
+-- What each constraint watches, and why it needn't be looked at before what it watches becomes false.
+use Rattle.std.specs.Prelude.{◌≡◌, ◌≢◌, ◌⊎◌, ◌≤◌, ◌+◌, ◌*◌, ℕ, Bool, true, false, cond, List, [], ◌∷◌, ◌++◌, length, take, slice_index_or, Option, Some, None, Result, Ok, Err, Vec}
+use Rattle.std.specs.declared.alloc.Global.{Global}
+use Rattle.std.specs.List.{slice_get}
+use Rattle.zi_text.specs.declared.memory.Memory.{Memory}
+use Rattle.zi_formula.specs.declared.formula.Lit.{Lit}
+use Rattle.zi_formula.specs.declared.formula.Constraint.{Constraint}
+use Rattle.zi_formula.specs.declared.formula.Constraint.TheVariants.{Clause, AtMostOne}
+use Rattle.zi_formula.specs.Form.{has_lit, same_lit}
+use Rattle.zi_formula.specs.declared.formula.Formula.{Formula}
+use Rattle.zi_proof.specs.declared.proof.Lemma.{Lemma}
+use Rattle.zi_proof.specs.Accepted.{citable}
+use Rattle.zi_sat.specs.declared.entry.Entry.{Entry}
+use Rattle.zi_proof.specs.Known.{Known, nothing, Contradiction, step, is_true, is_false}
+use Rattle.zi_sat.specs.Trail.{silent, known_from}
+use Rattle.zi_sat.specs.Rows.{In, Has}
+use Rattle.zi_sat.specs.Watching.{QuietBy, QuietAt, Watches}
+use Rattle.zi_sat.specs.declared.pair.Pair.{Pair}
+use Rattle.zi_sat.specs.declared.watches.Watches.{Watches as Lists}
+
+-- a constraint that was looked at until it was silent, or the contradiction
+abbrev pub Exhausted : Known → Constraint → Result Bool Memory → Type 0
+Exhausted k c (Ok true) = step k c ≡ Contradiction
+Exhausted k c (Ok false) = silent k c ≡ true
+Exhausted k c (Err e) = Unit {0}
+
+-- the row of a literal
+abbrev pub row_of : Lit → ℕ
+row_of l = l.variable * 2 + cond l.positive 1 0
+
+abbrev pub denied : ℕ → Lit
+denied x = record { variable = x; positive = false }
+
+abbrev pub pair_at : List (Option Pair) → ℕ → Option Pair
+pair_at ps n = slice_index_or ps n None
+
+-- the other literal of a pair that has `l`
+abbrev pub Beside : Pair → Lit → Lit → Type 0
+Beside p l o = ((p.first ≡ l) × (p.second ≡ o)) ⊎ ((p.second ≡ l) × (p.first ≡ o))
+
+abbrev pub Lacks : Pair → Lit → Type 0
+Lacks p l = (p.first ≡ l → ⊥) × (p.second ≡ l → ⊥)
+
+-- What a constraint of number n needs of the lists: a clause of two literals or more stands in the rows of the two that it
+-- watches, one with fewer among the short ones, and a group in the rows of the opposites of all its variables.
+abbrev pub HeldPair : List ℕ → (ℕ → ℕ → Type 0) → ℕ → List Lit → Option Pair → Type 0
+HeldPair short has n ls None = In n short × (length ls ≤ 1)
+HeldPair short has n ls (Some p) = Watches ls p.first p.second × has (row_of p.first) n × has (row_of p.second) n
+
+abbrev pub Held : List ℕ → (ℕ → ℕ → Type 0) → ℕ → Option Pair → Constraint → Type 0
+Held short has n p (Clause ls) = HeldPair short has n ls p
+Held short has n p (AtMostOne xs) = (x : ℕ) → In x xs → has (row_of (denied x)) n
+
+-- Where a variable of a group was looked at while true, the others are false.
+abbrev pub Looked : Known → Known → List ℕ → Type 0
+Looked q k xs = (x y : ℕ) → In x xs → In y xs → q x ≡ Some true → y ≢ x → k y ≡ Some false
+
+-- Why it needn't be looked at: `q` is what is known by the entries that were looked at, `k` by all.
+abbrev pub GuardPair : Known → Known → Option Pair → Type 0
+GuardPair q k None = Unit {0}
+GuardPair q k (Some p) = QuietBy q k p.first p.second
+
+abbrev pub Guard : Known → Known → Option Pair → Constraint → Type 0
+Guard q k p (Clause ls) = GuardPair q k p
+Guard q k p (AtMostOne xs) = Looked q k xs
+
+-- What a look at a clause does where `l` became false: nothing where it doesn't watch `l`; or one of its two is true now; or
+-- another literal that isn't false is watched in place of `l`.
+abbrev pub Moved : List Lit → Lit → Known → (ℕ → Type 0) → Pair → Option Pair → Type 0
+Moved ls l k has p r =
+    (m : Lit) × (o : Lit) × Beside p l o × (r ≡ Some (record { first = m; second = o })) × (has_lit ls m ≡ true) × (same_lit m o ≡ false) × (is_false k m ≡ false) × has (row_of m)
+
+abbrev pub VisitedPair : List Lit → Lit → Known → (ℕ → Type 0) → Option Pair → Option Pair → Type 0
+VisitedPair ls l k has None r = r ≡ None
+VisitedPair ls l k has (Some p) r =
+    ((r ≡ Some p) × Lacks p l)
+    ⊎ ((r ≡ Some p) × has (row_of l) × ((is_true k p.first ≡ true) ⊎ (is_true k p.second ≡ true)))
+    ⊎ Moved ls l k has p r
+
+abbrev pub Visited : Constraint → Lit → Known → (ℕ → Type 0) → Option Pair → Option Pair → Type 0
+Visited (Clause ls) l k has p r = VisitedPair ls l k has p r
+Visited (AtMostOne xs) l k has p r = (r ≡ p) × has (row_of l) × (silent k (AtMostOne xs) ≡ true)
+
+abbrev pub Looks : Constraint → Lit → Known → (ℕ → Type 0) → Option Pair → Option Pair → Result Bool Memory → Type 0
+Looks c l k has p r (Ok true) = (step k c ≡ Contradiction) × (r ≡ p)
+Looks c l k has p r (Ok false) = Visited c l k has p r
+Looks c l k has p r (Err e) = Unit {0}
+
+abbrev pub IfPair : Option Pair → (Pair → Type 0) → Type 0
+IfPair None P = Unit {0}
+IfPair (Some p) P = P p
+
+-- each constraint or lemma, by its place
+abbrev pub Each : List Constraint → (ℕ → Constraint → Type 0) → Type 0
+Each all P = (n : ℕ) (c : Constraint) → slice_get all n ≡ Some c → P n c
+
+abbrev pub AllHeld : Lists → List Constraint → Type 0
+AllHeld w all = Each all (λ n c. Held w.shorts.items (Has w.rows.items) n (pair_at w.pairs.items n) c)
+
+abbrev pub AllGuard : Known → Known → Lists → List Constraint → Type 0
+AllGuard q k w all = Each all (λ n c. Guard q k (pair_at w.pairs.items n) c)
+
+-- before each decision of the trail the pair was quiet
+abbrev pub CalmPair : List Entry → Option Pair → Type 0
+CalmPair es None = Unit {0}
+CalmPair es (Some p) = QuietAt p.first p.second nothing es
+
+abbrev pub Calm : List Entry → Option Pair → Constraint → Type 0
+Calm es p (Clause ls) = CalmPair es p
+Calm es p (AtMostOne xs) = Unit {0}
+
+abbrev pub AllCalm : Lists → List Entry → List Constraint → Type 0
+AllCalm w es all = Each all (λ n c. Calm es (pair_at w.pairs.items n) c)
+
+-- while the row r is gone over: what is left of it counts too
+abbrev pub HasOr : List (Vec ℕ Global) → ℕ → List ℕ → ℕ → ℕ → Type 0
+HasOr rows r rest q n = Has rows q n ⊎ ((q ≡ r) × In n rest)
+
+-- a clause of one literal, once it is true
+abbrev pub Firm : Known → List Lit → Type 0
+Firm k [] = ⊥
+Firm k (l ∷ ls) = is_true k l ≡ true
+
+abbrev pub ShortSet : Known → List ℕ → List Constraint → Type 0
+ShortSet k short all = (n : ℕ) → In n short → (ls : List Lit) → slice_get all n ≡ Some (Clause ls) → length ls ≤ 1 → Firm k ls
+
+-- the lists fit the constraints and lemmas
+abbrev pub Fitting : Lists → Formula → List Lemma → Type 0
+Fitting w f ms =
+    AllHeld w (citable f.constraints ms) × (length w.pairs.items ≡ length f.constraints + length ms) × (f.variables * 2 + 2 ≤ length w.rows.items)
+
+-- and nothing has to be looked at for the entries before a decision, where the trail goes back to it
+abbrev pub Steady : Lists → Formula → List Lemma → List Entry → Type 0
+Steady w f ms es = Fitting w f ms × AllCalm w es (citable f.constraints ms)
+
+-- and nothing need be looked at but for the entries that weren't looked at yet
+abbrev pub Ready : Lists → Formula → List Lemma → List Entry → Type 0
+Ready w f ms es =
+    Steady w f ms es × (w.seen ≤ length es) × AllGuard (known_from (take w.seen es)) (known_from es) w (citable f.constraints ms)
+    × ((w.seen ≡ 0) ⊎ ShortSet (known_from es) w.shorts.items (citable f.constraints ms))
+
+-- a clause watches its last two
+abbrev pub LastTwo : Constraint → Option Pair → Type 0
+LastTwo (Clause ls) None = Unit {0}
+LastTwo (Clause ls) (Some p) = (front : List Lit) × (ls ≡ front ++ p.second ∷ p.first ∷ [])
+LastTwo (AtMostOne xs) p = Unit {0}
+
+-- one constraint more is held
+pub record Adds (w v : Lists) (c : Constraint) : Type 0 where
+  pub pair : Option Pair
+  pub pairs : v.pairs.items ≡ w.pairs.items ++ pair ∷ []
+  pub held : Held v.shorts.items (Has v.rows.items) (length w.pairs.items) pair c
+  pub last : LastTwo c pair
+  pub grows : (q m : ℕ) → Has w.rows.items q m → Has v.rows.items q m
+  pub shorts : (m : ℕ) → In m w.shorts.items → In m v.shorts.items
