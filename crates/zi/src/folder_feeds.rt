@@ -1,5 +1,5 @@
 //! Feeds in files.
-ghost use Rattle.std.specs.Prelude.{None, IfOk};
+ghost use Rattle.std.specs.Prelude.{IfOk};
 ghost use Rattle.zi.specs.Found.{FitsIn};
 
 use crate::piecewise::{Found, deliver, fault_of, read_up_to};
@@ -59,9 +59,9 @@ impl<'a, R: Files + AllocGlobal> FolderFeeds<'a, R> {
 }
 
 impl<R: Files + AllocGlobal> Feeds for FolderFeeds<'_, R> {
-    ghost holds = { λ f. None };
+    ghost use Rattle.zi.specs.Seen.{feeds_seen};
 
-    ghost faults = { λ f. f.faults };
+    ghost seen = { λ f. feeds_seen f.faults };
 
     fn get(&mut self, uri: &str, limit: u64, into: &mut Vec<u8>) -> Result<Got, FeedsFault> {
         match self.read(uri, limit) {

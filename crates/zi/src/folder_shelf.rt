@@ -1,6 +1,6 @@
 //! A shelf in a folder: each top entry is a folder in it.
-ghost use Rattle.std.specs.Prelude.{◌≡◌, ◌≤◌, List, [], None, IfErr, IfOk, Ok, vec_len};
-ghost use Rattle.zi_shelf.specs.Told.{HasCause, Rose, plain_reply, Told};
+ghost use Rattle.std.specs.Prelude.{◌≡◌, ◌≤◌, IfOk, Ok, vec_len};
+ghost use Rattle.zi_shelf.specs.Told.{HasCause, plain_reply};
 ghost use Rattle.zi_shelf.specs.declared.shelf.ShelfFault.TheVariants.{Failed as HasFailed, Memory as NoMemory};
 
 use crate::folder_calls::{
@@ -153,17 +153,9 @@ impl FolderShelf {
 }
 
 impl Shelf for FolderShelf {
-    ghost told = { λ s. None };
+    ghost use Rattle.zi.specs.Seen.{folder_seen};
 
-    ghost honest = { λ s. ⊥ };
-
-    ghost faults = { λ s. s.faults };
-
-    ghost sure = { λ s. ⊥ };
-
-    ghost place = { λ s. s.root };
-
-    ghost plan = { λ s. [] };
+    ghost seen = { λ s. folder_seen s.faults s.root };
 
     ghost sure_is = { λ s no. absurd no };
 
@@ -173,16 +165,19 @@ impl Shelf for FolderShelf {
         self.root.as_str()
     }
 
+    #[tactic(auto, using(crate::proofs::FolderLemmas::folding))]
     fn names(&mut self) -> Result<List<Text>, ShelfFault> {
         let found = list_names(&self.rt, self.root.as_str());
         self.answer(found)
     }
 
+    #[tactic(auto, using(crate::proofs::FolderLemmas::folding))]
     fn entries(&mut self, top: &str, path: &RelPath) -> Result<Listed, ShelfFault> {
         let found = self.listed(top, path);
         self.answer(found)
     }
 
+    #[tactic(auto, using(crate::proofs::FolderLemmas::folding))]
     fn read(
         &mut self,
         top: &str,
@@ -199,26 +194,31 @@ impl Shelf for FolderShelf {
         }
     }
 
+    #[tactic(auto, using(crate::proofs::FolderLemmas::folding))]
     fn target(&mut self, top: &str, path: &RelPath) -> Result<Text, ShelfFault> {
         let found = self.link(top, path);
         self.answer(found)
     }
 
+    #[tactic(auto, using(crate::proofs::FolderLemmas::folding))]
     fn make_top(&mut self, name: &str) -> Result<TopMade, ShelfFault> {
         let made = self.new_top(name);
         self.answer(made)
     }
 
+    #[tactic(auto, using(crate::proofs::FolderLemmas::folding))]
     fn make_folder(&mut self, top: &str, path: &RelPath) -> Result<(), ShelfFault> {
         let made = self.new_folder(top, path);
         self.answer(made)
     }
 
+    #[tactic(auto, using(crate::proofs::FolderLemmas::folding))]
     fn append(&mut self, top: &str, path: &RelPath, bytes: &[u8]) -> Result<(), ShelfFault> {
         let done = self.more(top, path, bytes);
         self.answer(done)
     }
 
+    #[tactic(auto, using(crate::proofs::FolderLemmas::folding))]
     fn finish_file(
         &mut self,
         top: &str,
@@ -230,26 +230,31 @@ impl Shelf for FolderShelf {
         self.answer(done)
     }
 
+    #[tactic(auto, using(crate::proofs::FolderLemmas::folding))]
     fn make_link(&mut self, top: &str, path: &RelPath, target: &str) -> Result<(), ShelfFault> {
         let made = self.new_link(top, path, target);
         self.answer(made)
     }
 
+    #[tactic(auto, using(crate::proofs::FolderLemmas::folding))]
     fn settle(&mut self, top: &str) -> Result<(), ShelfFault> {
         let done = self.settled(top);
         self.answer(done)
     }
 
+    #[tactic(auto, using(crate::proofs::FolderLemmas::folding))]
     fn rename(&mut self, from: &str, to: &str) -> Result<Moved, ShelfFault> {
         let done = self.renamed(from, to);
         self.answer(done)
     }
 
+    #[tactic(auto, using(crate::proofs::FolderLemmas::folding))]
     fn settle_top(&mut self) -> Result<(), ShelfFault> {
         let done = sync_folder(&self.rt, self.root.as_str());
         self.answer(done)
     }
 
+    #[tactic(auto, using(crate::proofs::FolderLemmas::folding))]
     fn remove_top(&mut self, name: &str) -> Result<(), ShelfFault> {
         let done = self.removed(name);
         self.answer(done)

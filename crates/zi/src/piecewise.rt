@@ -1,7 +1,7 @@
 //! Reading in pieces up to a limit.
-ghost use Rattle.std.specs.Prelude.{◌≡◌, ◌≤◌, ℕ, List, None, IfOk, IfErr, vec_len};
+ghost use Rattle.std.specs.Prelude.{◌≡◌, ◌≤◌, ℕ, List, None, IfOk, IfErr, OnErr, vec_len};
 ghost use Rattle.zi.specs.Found.{FitsIn};
-ghost use Rattle.zi_outside.specs.Outside.{Gets};
+ghost use Rattle.zi_outside.specs.Outside.{Finds};
 
 use std::alloc::Global;
 use std::io::{self, Read};
@@ -57,7 +57,8 @@ pub fn read_up_to<R: Read>(alloc: Global, reader: &mut R, limit: u64) -> Result<
 /// Adds what was found to the buffer.
 pub fn deliver(found: &Found, limit: u64, into: &mut Vec<u8>) -> Result<Got, FeedsFault>
     requires { FitsIn limit found.now }
-    ensures gets { (key : List ℕ) → Gets None key limit into.old.items result into.new.items }
+    ensures found { (key : List ℕ) → IfOk result (λ got. Finds None (record { key = key; limit = limit; buffer = into.old.items }) got into.new.items) }
+    ensures refused { OnErr result (into.new.items ≡ into.old.items) }
     ensures cause { IfErr result (λ fault. fault ≡ FeedsFault.Memory) }
 {
     match found {

@@ -1,6 +1,4 @@
 //! The standard streams.
-ghost use Rattle.std.specs.Prelude.{None};
-
 use std::io::Write;
 use zi_outside::{Sink, SinkFault};
 
@@ -19,9 +17,9 @@ impl<W: Write + Drop> StdSink<W> {
 }
 
 impl<W: Write + Drop> Sink for StdSink<W> {
-    ghost written = { λ s. None };
+    ghost use Rattle.zi.specs.Seen.{stream_seen};
 
-    ghost faults = { λ s. s.faults };
+    ghost seen = { λ s. stream_seen s.faults };
 
     fn put(&mut self, bytes: &[u8]) -> Result<(), SinkFault> {
         match self.writer.write_all(bytes) {

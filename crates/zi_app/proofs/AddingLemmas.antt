@@ -3,75 +3,100 @@ use Rattle.std.proofs.Common.{◌≡◌, ◌≢◌, ℕ, ◌<◌, ◌-◌, ◌^�
 use Rattle.zi_digest.specs.declared.DigestName.{DigestName}
 use Rattle.zi_digest.specs.Name.{spelling}
 use Rattle.zi_outside.specs.Count.{Rose}
-use Rattle.zi_outside.specs.Outside.{Holding, gained, GainsFront}
-use Rattle.std.proofs.lemmas.List.{append-nil, take_all}
+use Rattle.zi_outside.specs.Views.{Feeding, Sinking}
 use Rattle.zi_tree.specs.Dir.{Dir}
 use Rattle.zi_shelf.specs.Names.{Name}
-use Rattle.zi_shelf.specs.Shelved.{Top, Reply, Did, Exists, Failed, Memory as NoRoom}
 use Rattle.zi_shelf.specs.Filling.{Work}
-use Rattle.zi_shelf.specs.Told.{Told, IsSure}
+use Rattle.zi_shelf.specs.Shelved.{Top, Reply, Did, Exists, Failed, Memory as NoRoom}
+use Rattle.zi_shelf.specs.Shelving.{Shelving, IsSure}
+use Rattle.zi_shelf.specs.Told.{Told}
 use Rattle.zi_session.specs.Begun.{IsBegun}
+use Rattle.zi_session.specs.Keeping.{CountFits, KeepsShelf}
 use Rattle.zi_session.specs.Machine.{Phase, Making, Filling, Settling, Renaming, Storing, Removing, Leaving, Ended, Stopped, Stored, Present, Crowded as FullOf, Fault}
-use Rattle.zi_session.specs.Places.{tmp_name, phase_of, residue_of}
-use Rattle.zi_session.specs.Standing.{works, phase, residue}
+use Rattle.zi_session.specs.Phases.{tmp_name, blamed_name, phase_of, residue_of}
+use Rattle.zi_session.specs.Standing.{Standing, standing}
 use Rattle.zi_session.specs.StoreRules.{IsDigestName}
 use Rattle.zi_session.specs.StoreWorks.{store_works}
-use Rattle.zi_session.specs.Stepping.{IsRun, HasGone, Says, SaysOn, OnFault, SureRun}
-use Rattle.zi_session.specs.declared.place.Place.{Place}
-use Rattle.zi_session.specs.declared.place.Place.TheVariants.{Makes, Fills, Settles, Renames, Stores, Removes, Leaves, IsStored, IsPresent, IsCrowded, IsFaulty, IsStuck}
+use Rattle.zi_session.specs.Stepping.{IsRun, HasGone, Says, SaysOn, Blames}
+use Rattle.zi_session.specs.declared.phase.Phase.{Phase as SessionPhase}
+use Rattle.zi_session.specs.declared.phase.Phase.TheVariants.{Makes, Fills, Settles, Renames, Stores, Removes, Leaves, IsStored, IsPresent, IsCrowded, IsUnmade, IsStuck, IsFaulty}
 use Rattle.zi_session.specs.declared.session.Session.{Session}
 use Rattle.zi_session.specs.declared.step.Step.{Step}
 use Rattle.zi_session.specs.declared.step.Step.TheVariants as step
 use Rattle.zi_session.specs.Alone.{Tops, Ending}
 use Rattle.zi_session.proofs.MapsLemmas.{some_of}
 use Rattle.zi_session.proofs.TiedLemmas.{no_tmp}
-use Rattle.zi_session.proofs.AloneLemmas.{ends_alone, run_tells, run_calm}
+use Rattle.zi_session.proofs.AloneLemmas.{ends_alone, begun_own}
 use Rattle.zi_words.specs.Forms.{Word}
 use Rattle.zi_app.specs.declared.gathering.GatherFault.{GatherFault}
 use Rattle.zi_app.specs.declared.gathering.GatherFault.TheVariants as gather
 use Rattle.zi_app.specs.declared.outcome.Outcome.{Outcome}
-use Rattle.zi_app.specs.declared.outcome.Outcome.TheVariants.{Done, Usage, FeedRead, FeedTooLong, NoFile, Overlap, TreeTooLarge, BadName, Mismatch, Crowded, StoreFault, SinkFault, Memory}
-use Rattle.zi_app.specs.Shelves.{HasFailed}
+use Rattle.zi_app.specs.declared.outcome.Outcome.TheVariants.{Done, BadName, Mismatch, Memory}
+use Rattle.zi_app.specs.Shelves.{Untouched, Lasts, ShelfFailed}
+use Rattle.zi_app.specs.World.{World}
+use Rattle.zi_app.specs.Writing.{Prints}
 use Rattle.zi_app.specs.Gathering.{Gathers, Refuses}
-use Rattle.zi_app.specs.Adding.{IsToAdd, HasRun, IsUntouched, Adds, KeepsStored, stored_line, present_line}
-use Rattle.zi_app.specs.AddingParts.{files_outcome, IsEnd, Closes, AddsTree}
+use Rattle.zi_app.specs.Adding.{IsToAdd, HasRun, Tries, Costs, AddsNothing, AddsTo, Adds, KeepsStored, beginning, stored_line, present_line}
+use Rattle.zi_app.specs.AddingParts.{files_outcome, IsEnd, Closes, Lent, IsIdle, AddsTree}
+use Rattle.zi_app.specs.Asking.{FeedsStay}
+use Rattle.zi_tree.specs.declared.change.TreeLimit.TheVariants as limit
+use Rattle.zi_app.proofs.AskingLemmas.{asks_stay}
+use Rattle.zi_app.proofs.ShelvesLemmas.{some_is, untouched, untouched_lasts}
+use Rattle.zi_app.proofs.GatheringLemmas.{gathers_some}
 
 -- Why there is no tree of the files.
-pub refuses_adds : (name : DigestName) (files : List Word) (told : Option Holding) (f g : ℕ) (honest sure : Type 0) (s t : Option Told) (h k o p : ℕ) (old new : Option (List ℕ)) (fault : GatherFault)
-    → Refuses told f g files fault → IsUntouched s t h k old new → Adds name files told f g honest sure s t h k o p old new (files_outcome fault)
-refuses_adds name files told f g honest sure s t h k o p old new (gather.Read file) r u = (r, u)
-refuses_adds name files told f g honest sure s t h k o p old new (gather.Absent file) r u = (r, u)
-refuses_adds name files told f g honest sure s t h k o p old new (gather.TooLong file limit) r u = (r, u)
-refuses_adds name files told f g honest sure s t h k o p old new (gather.Twice twice) r u = (r, u)
-refuses_adds name files told f g honest sure s t h k o p old new (gather.TooLarge what limit) r u = (r, u)
-refuses_adds name files told f g honest sure s t h k o p old new gather.Memory r u = inl u
+refuses_adds : (name : DigestName) (files : List Word) (before after : World) (fault : GatherFault) → Refuses files before.feeds after.feeds fault → AddsNothing before after
+    → AddsTo name files before after (files_outcome fault)
+refuses_adds name files before after (gather.Read file) r u = (r, u)
+refuses_adds name files before after (gather.Absent file) r u = (r, u)
+refuses_adds name files before after (gather.TooLong file limit) r u = (r, u)
+refuses_adds name files before after (gather.Twice twice) r u = (r, u)
+refuses_adds name files before after (gather.TooLarge what limit) r u = (r, u)
+refuses_adds name files before after gather.Memory r u = inl (r, u)
+
+refuses_stay : (files : List Word) (f g : Feeding) (fault : GatherFault) → Refuses files f g fault → FeedsStay f g
+refuses_stay files f g (gather.Read file) r = asks_stay _ f g r.0.asked
+refuses_stay files f g (gather.Absent file) r = asks_stay _ f g r.0.asked
+refuses_stay files f g (gather.TooLong file limit) r = asks_stay _ f g r.0.asked
+refuses_stay files f g (gather.Twice twice) r = asks_stay _ f g r.1.asked.asked
+refuses_stay files f g (gather.TooLarge limit.Size number) r = asks_stay _ f g r.1.asked.asked
+refuses_stay files f g (gather.TooLarge limit.Nodes number) r = asks_stay _ f g r.1.asked.asked
+refuses_stay files f g (gather.TooLarge limit.Depth number) r = absurd r
+refuses_stay files f g gather.Memory r = asks_stay _ f g r.1.asked
 
 -- The last step of a session.
-says_end : (p q : Phase) (answer : Step) → Says p q answer → answer ≢ step.More → IsEnd answer
-says_end p (Ended Stored) answer e ne = subst IsEnd (sym e) tt
-says_end p (Ended Present) answer e ne = subst IsEnd (sym e) tt
-says_end p (Ended FullOf) answer e ne = subst IsEnd (sym e) refl
-says_end p (Ended Fault) answer e ne = subst IsEnd (sym e) tt
-says_end p Stopped answer e ne = absurd e
-says_end p (Making n) answer e ne = absurd (ne e)
-says_end p (Filling n k) answer e ne = absurd (ne e)
-says_end p (Settling n) answer e ne = absurd (ne e)
-says_end p (Renaming n) answer e ne = absurd (ne e)
-says_end p Storing answer e ne = absurd (ne e)
-says_end p (Removing n) answer e ne = absurd (ne e)
-says_end p Leaving answer e ne = absurd (ne e)
+fault_end : (answer : Step) (tmp : Option ℕ) (number : Option ℕ) (text : Name) → answer ≡ step.Fault tmp → Blames answer number → text ≡ blamed_name number → IsEnd answer text
+fault_end answer tmp number text e b named =
+    let same : number ≡ tmp = subst (λ a. Blames a number) e b in
+    subst (λ a. IsEnd a text) (sym e) (named ∙ ap blamed_name same)
 
-on_end : (p : Phase) (reply : Reply) (q : Phase) (answer : Step) → SaysOn p reply q answer → answer ≢ step.More → IsEnd answer
-on_end p NoRoom q answer e ne = subst IsEnd (sym e) tt
-on_end p Did q answer e ne = says_end p q answer e ne
-on_end p Exists q answer e ne = says_end p q answer e ne
-on_end p Failed q answer e ne = says_end p q answer e ne
+says_end : (p q : Phase) (answer : Step) (number : Option ℕ) (text : Name) → Says p q answer → answer ≢ step.More → Blames answer number → text ≡ blamed_name number → IsEnd answer text
+says_end p (Ended Stored) answer number text e ne b named = subst (λ a. IsEnd a text) (sym e) tt
+says_end p (Ended Present) answer number text e ne b named = subst (λ a. IsEnd a text) (sym e) tt
+says_end p (Ended FullOf) answer number text e ne b named = subst (λ a. IsEnd a text) (sym e) refl
+says_end p (Ended Fault) answer number text e ne b named = fault_end answer _ number text e b named
+says_end p Stopped answer number text e ne b named = absurd e
+says_end p (Making n) answer number text e ne b named = absurd (ne e)
+says_end p (Filling n k) answer number text e ne b named = absurd (ne e)
+says_end p (Settling n) answer number text e ne b named = absurd (ne e)
+says_end p (Renaming n) answer number text e ne b named = absurd (ne e)
+says_end p Storing answer number text e ne b named = absurd (ne e)
+says_end p (Removing n) answer number text e ne b named = absurd (ne e)
+says_end p Leaving answer number text e ne b named = absurd (ne e)
 
-pub gone_end : (ws : List Work) (p : Phase) (before : Option ℕ) (q : Phase) (after : Option ℕ) (answer : Step) → HasGone ws p before q after answer → answer ≢ step.More → IsEnd answer
-gone_end ws p before q after answer g ne = on_end g.phase g.last.reply q answer g.last.says ne
+on_end : (p : Phase) (reply : Reply) (q : Phase) (answer : Step) (number : Option ℕ) (text : Name) → SaysOn p reply q answer → answer ≢ step.More → Blames answer number → text ≡ blamed_name number → IsEnd answer text
+on_end p NoRoom q answer number text e ne b named = subst (λ a. IsEnd a text) (sym e) tt
+on_end p Did q answer number text e ne b named = says_end p q answer number text e ne b named
+on_end p Exists q answer number text e ne b named = says_end p q answer number text e ne b named
+on_end p Failed q answer number text e ne b named = says_end p q answer number text e ne b named
+
+pub run_end : (x y : Standing) (before after : Shelving) (answer : Step) (number : Option ℕ) (text : Name) → IsRun x before answer y after → answer ≢ step.More → Blames answer number → text ≡ blamed_name number → IsEnd answer text
+run_end x y before after answer number text run ne b named =
+    let last = run.goes.last in
+    on_end run.goes.there.phase last.reply y.phase answer number text last.says ne b named
 
 -- A session that has begun has no entry yet.
-no_residue : (p : Place) (n k : ℕ) → Making 0 ≡ phase_of p n k → residue_of p n ≡ None
+no_residue : (p : SessionPhase) (n k : ℕ) → Making 0 ≡ phase_of p n k → residue_of p n ≡ None
 no_residue Makes n k e = refl
 no_residue Fills n k e = absurd (cc e)
 no_residue Settles n k e = absurd (cc e)
@@ -82,117 +107,76 @@ no_residue Leaves n k e = refl
 no_residue IsStored n k e = refl
 no_residue IsPresent n k e = refl
 no_residue IsCrowded n k e = refl
-no_residue IsFaulty n k e = refl
+no_residue IsUnmade n k e = refl
 no_residue IsStuck n k e = absurd (cc e)
+no_residue IsFaulty n k e = refl
 
-pub has_run : (honest : Type 0) (name : DigestName) (d : Dir) (x : Session) (before after : Option Told) (q : Phase) (left : Option ℕ) (answer : Step)
-    → IsBegun name d x → answer ≢ step.More → IsRun honest x.name (works x) (phase x) before q after answer → HasGone (works x) (phase x) (residue x) q left answer
-    → HasRun honest name d before after answer
-has_run honest name d x before after q left answer b ne r g = record {
-  end = q;
-  left = left;
-  steps =
-      subst (λ n. IsRun honest n (store_works (spelling name) d) (Making 0) before q after answer) (sym b.stands.named)
-      (subst (λ ws. IsRun honest x.name ws (Making 0) before q after answer) (sym b.stands.makes)
-      (subst (λ p. IsRun honest x.name (works x) p before q after answer) (sym b.stands.phase) r));
-  goes =
-      subst (λ z. HasGone (store_works (spelling name) d) (Making 0) z q left answer) (no_residue x.place x.number x.done b.stands.phase)
-      (subst (λ ws. HasGone ws (Making 0) (residue x) q left answer) (sym b.stands.makes)
-      (subst (λ p. HasGone (works x) p (residue x) q left answer) (sym b.stands.phase) g));
-  alone = λ s h e.
-      let t = run_tells honest x.name (works x) (phase x) q before after s answer h e r in
-      (t.0, t.1, ends_alone honest name d x before after s t.0 q answer b h e t.1 ne r);
-}
+begins_at : (name : DigestName) (d : Dir) (x : Standing) → spelling name ≡ x.name → store_works (spelling name) d ≡ x.works → Making 0 ≡ x.phase → x.residue ≡ None → x ≡ beginning name d
+begins_at name d x n w p r =
+    let stand : Name → List Work → Phase → Option ℕ → Standing = λ a b c e. record { name = a; works = b; phase = c; residue = e } in
+    ap (λ a. stand a x.works x.phase x.residue) (sym n) ∙ ap (λ b. stand (spelling name) b x.phase x.residue) (sym w)
+    ∙ ap (λ c. stand (spelling name) (store_works (spelling name) d) c x.residue) (sym p) ∙ ap (λ e. stand (spelling name) (store_works (spelling name) d) (Making 0) e) r
+
+begun_at : (name : DigestName) (d : Dir) (x : Session) → IsBegun name d x → standing x ≡ beginning name d
+begun_at name d x b = begins_at name d (standing x) b.stands.named b.stands.makes b.stands.phase (no_residue x.phase x.number x.done b.stands.phase)
 
 -- A shelf whose count was below its end and is as it was has not failed.
 not_risen : (h k : ℕ) → Rose h k → k ≡ h → h < 2 ^ 64 - 1 → ⊥
 not_risen h k (inl less) same below = omega arith
 not_risen h k (inr full) same below = omega arith
 
-failed_unsure : (answer : Step) (sure : Type 0) (h k : ℕ) → OnFault answer (Rose h k) → (sure → k ≡ h) → (sure → h < 2 ^ 64 - 1) → OnFault answer (HasFailed sure h k)
-failed_unsure (step.Fault tmp) sure h k rose same below = (rose, λ s. not_risen h k rose (same s) (below s))
-failed_unsure step.Stored sure h k rose same below = tt
-failed_unsure step.Present sure h k rose same below = tt
-failed_unsure (step.Crowded tried) sure h k rose same below = tt
-failed_unsure step.Memory sure h k rose same below = tt
-failed_unsure step.More sure h k rose same below = tt
-failed_unsure step.Over sure h k rose same below = tt
+costs : (answer : Step) (before after : Shelving) → CountFits answer before.faults after.faults → (before.sure → after.faults ≡ before.faults) → (before.sure → IsSure before) → Costs answer before after
+costs (step.Fault tmp) before after rose calm is = (rose, λ s. not_risen before.faults after.faults rose (calm s) (is s).below_end)
+costs step.Stored before after same calm is = same
+costs step.Present before after same calm is = same
+costs (step.Crowded tried) before after same calm is = same
+costs step.Memory before after same calm is = same
+costs step.More before after same calm is = same
+costs step.Over before after same calm is = same
 
--- A session that has begun fails over no sure shelf.
-pub run_fails : (honest sure : Type 0) (name : DigestName) (d : Dir) (x : Session) (before : Option Told) (h k : ℕ) (answer : Step)
-    → IsBegun name d x → (sure → IsSure honest before h) → OnFault answer (Rose h k) → (sure → SureRun x.name (works x) (phase x) before h k) → OnFault answer (HasFailed sure h k)
-run_fails honest sure name d x before h k answer b is rose calm =
-    failed_unsure answer sure h k rose (λ s. let t = some_of before (is s).tells in run_calm name d x before t.0 h k b t.1 (calm s)) (λ s. (is s).below_end)
-
--- nothing, and all, of a text is a front of it
-nothing_gained : (old new : Option (List ℕ)) (text : List ℕ) → new ≡ old → GainsFront old text new
-nothing_gained None new text e = (0, e)
-nothing_gained (Some bytes) new text e = (0, e ∙ ap (λ x. Some x) (sym (append-nil bytes)))
-
-all_gained : (old new : Option (List ℕ)) (text : List ℕ) → new ≡ gained old text → GainsFront old text new
-all_gained old new text e = (length text, e ∙ ap (gained old) (sym (take_all (length text) text (omega arith))))
+pub has_run : (name : DigestName) (d : Dir) (x : Session) (y : Standing) (before after : Shelving) (answer : Step) → IsBegun name d x → answer ≢ step.More → (before.sure → IsSure before)
+    → IsRun (standing x) before answer y after → KeepsShelf (standing x) before answer y after → HasRun name d before after answer
+has_run name d x y before after answer b ne is run keeps = record {
+  end = y;
+  steps = subst (λ z. IsRun z before answer y after) (begun_at name d x b) run;
+  cost = costs answer before after keeps.cause
+      (λ s. let t = some_of before.told (is s).tells in keeps.no_rise t.0 s t.1 (begun_own name d x t.0.shelf b)) is;
+  alone = λ s h e. ends_alone name d x y before after s answer b h e ne run;
+  later = keeps.later;
+  stays = keeps.stays;
+}
 
 -- A tree that is to be added, by the answer of the last step.
-closed_as : (name : DigestName) (files : List Word) (told : Option Holding) (f g : ℕ) (honest sure : Type 0) (s t : Option Told) (h k o p : ℕ) (old new : Option (List ℕ)) (d : Dir) (outcome : Outcome) (answer : Step)
-    → IsToAdd told files name d → HasRun honest name d s t answer → OnFault answer (HasFailed sure h k) → Closes answer o p old new outcome → Adds name files told f g honest sure s t h k o p old new outcome
-closed_as name files told f g honest sure s t h k o p old new d outcome step.Stored a r c (inl (e, w)) =
-    subst (λ x. Adds name files told f g honest sure s t h k o p old new x) (sym e) (inl ((d, a, r), w))
-closed_as name files told f g honest sure s t h k o p old new d outcome step.Stored a r c (inr (inl (e, rose, w))) =
-    subst (λ x. Adds name files told f g honest sure s t h k o p old new x) (sym e) (rose, inl ((d, a, r), w))
-closed_as name files told f g honest sure s t h k o p old new d outcome step.Stored a r c (inr (inr (e, w))) =
-    subst (λ x. Adds name files told f g honest sure s t h k o p old new x) (sym e) (inr (step.Stored, (d, a, r), nothing_gained old new stored_line w))
-closed_as name files told f g honest sure s t h k o p old new d outcome step.Present a r c (inl (e, w)) =
-    subst (λ x. Adds name files told f g honest sure s t h k o p old new x) (sym e) (inr ((d, a, r), w))
-closed_as name files told f g honest sure s t h k o p old new d outcome step.Present a r c (inr (inl (e, rose, w))) =
-    subst (λ x. Adds name files told f g honest sure s t h k o p old new x) (sym e) (rose, inr ((d, a, r), w))
-closed_as name files told f g honest sure s t h k o p old new d outcome step.Present a r c (inr (inr (e, w))) =
-    subst (λ x. Adds name files told f g honest sure s t h k o p old new x) (sym e) (inr (step.Present, (d, a, r), nothing_gained old new present_line w))
-closed_as name files told f g honest sure s t h k o p old new d outcome (step.Crowded tried) a r c (few, e, w) =
-    subst (λ x. Adds name files told f g honest sure s t h k o p old new x) (sym e) (few, (d, a, r), w)
-closed_as name files told f g honest sure s t h k o p old new d outcome (step.Fault tmp) a r c (inl e, w) =
-    subst (λ x. Adds name files told f g honest sure s t h k o p old new x) (sym e) (c, w, (tmp, refl, (d, a, r)))
-closed_as name files told f g honest sure s t h k o p old new d outcome (step.Fault tmp) a r c (inr e, w) =
-    subst (λ x. Adds name files told f g honest sure s t h k o p old new x) (sym e) (inr (step.Fault tmp, (d, a, r), w))
-closed_as name files told f g honest sure s t h k o p old new d outcome step.Memory a r c (e, w) =
-    subst (λ x. Adds name files told f g honest sure s t h k o p old new x) (sym e) (inr (step.Memory, (d, a, r), w))
-closed_as name files told f g honest sure s t h k o p old new d outcome step.More a r c x = absurd x
-closed_as name files told f g honest sure s t h k o p old new d outcome step.Over a r c x = absurd x
+abbrev pub world : Feeding → Lent → World
+world feeds lent = record { feeds = feeds; shelf = lent.shelf; out = lent.out }
 
-pub tree_adds : (name : DigestName) (files : List Word) (told : Option Holding) (f g : ℕ) (honest sure : Type 0) (s t : Option Told) (h k o p : ℕ) (old new : Option (List ℕ)) (d : Dir) (outcome : Outcome)
-    → Gathers told files d → AddsTree name d honest sure s t h k o p old new outcome → Adds name files told f g honest sure s t h k o p old new outcome
-tree_adds name files told f g honest sure s t h k o p old new d outcome a (inl ((path, e, bad), u)) =
-    subst (λ x. Adds name files told f g honest sure s t h k o p old new x) (sym e) (d, a, bad, u)
-tree_adds name files told f g honest sure s t h k o p old new d outcome a (inr (inl (right, ne, inl e, u))) =
-    subst (λ x. Adds name files told f g honest sure s t h k o p old new x) (sym e) (d, a, right, ne, refl, refl, u)
-tree_adds name files told f g honest sure s t h k o p old new d outcome a (inr (inl (right, ne, inr e, u))) =
-    subst (λ x. Adds name files told f g honest sure s t h k o p old new x) (sym e) (inl u)
-tree_adds name files told f g honest sure s t h k o p old new d outcome a (inr (inr (inl (e, u)))) =
-    subst (λ x. Adds name files told f g honest sure s t h k o p old new x) (sym e) (inl u)
-tree_adds name files told f g honest sure s t h k o p old new d outcome a (inr (inr (inr c))) =
-    closed_as name files told f g honest sure s t h k o p old new d outcome c.answer (record { gathers = a; right = c.right.0; named = c.right.1 }) c.run c.cause c.closes
+closed_as : (name : DigestName) (files : List Word) (before after : World) (outcome : Outcome) (answer : Step) → Tries name files before after answer
+    → Closes answer before.out after.out outcome → AddsTo name files before after outcome
+closed_as name files before after outcome step.Stored t (inl (w, e)) = subst (λ x. AddsTo name files before after x) (sym e) (inl (t, w))
+closed_as name files before after outcome step.Stored t (inr (inl (w, e))) = subst (λ x. AddsTo name files before after x) (sym e) (inl (t, w))
+closed_as name files before after outcome step.Stored t (inr (inr (w, e))) = subst (λ x. AddsTo name files before after x) (sym e) (inr (step.Stored, t, w))
+closed_as name files before after outcome step.Present t (inl (w, e)) = subst (λ x. AddsTo name files before after x) (sym e) (inr (t, w))
+closed_as name files before after outcome step.Present t (inr (inl (w, e))) = subst (λ x. AddsTo name files before after x) (sym e) (inr (t, w))
+closed_as name files before after outcome step.Present t (inr (inr (w, e))) = subst (λ x. AddsTo name files before after x) (sym e) (inr (step.Present, t, w))
+closed_as name files before after outcome (step.Crowded tried) t (few, e, w) = subst (λ x. AddsTo name files before after x) (sym e) (few, t, w)
+closed_as name files before after outcome (step.Fault tmp) t (e, w) = subst (λ x. AddsTo name files before after x) (sym e) (tmp, refl, t, w)
+closed_as name files before after outcome step.Memory t (e, w) = subst (λ x. AddsTo name files before after x) (sym e) (inr (step.Memory, t, w))
+closed_as name files before after outcome step.More t x = absurd x
+closed_as name files before after outcome step.Over t x = absurd x
 
--- Memory may come after every outcome, where its line is refused.
-pub adds_memory : (name : DigestName) (files : List Word) (told : Option Holding) (f g : ℕ) (honest sure : Type 0) (s t : Option Told) (h k o p : ℕ) (old new : Option (List ℕ)) (outcome : Outcome)
-    → Adds name files told f g honest sure s t h k o p old new outcome → Adds name files told f g honest sure s t h k o p old new Memory
-adds_memory name files told f g honest sure s t h k o p old new Done (inl (e, w)) = inr (step.Stored, e, all_gained old new stored_line w)
-adds_memory name files told f g honest sure s t h k o p old new Done (inr (e, w)) = inr (step.Present, e, all_gained old new present_line w)
-adds_memory name files told f g honest sure s t h k o p old new (FeedRead uri) (r, u) = inl u
-adds_memory name files told f g honest sure s t h k o p old new (NoFile file) (r, u) = inl u
-adds_memory name files told f g honest sure s t h k o p old new (FeedTooLong uri limit) (r, u) = inl u
-adds_memory name files told f g honest sure s t h k o p old new (Overlap path) (r, u) = inl u
-adds_memory name files told f g honest sure s t h k o p old new (TreeTooLarge what limit) (r, u) = inl u
-adds_memory name files told f g honest sure s t h k o p old new (BadName path) (d, r, bad, u) = inl u
-adds_memory name files told f g honest sure s t h k o p old new (Mismatch right found) (d, r, good, ne, at, is, u) = inl u
-adds_memory name files told f g honest sure s t h k o p old new (Crowded tried) (few, e, w) = inr (step.Crowded tried, e, w)
-adds_memory name files told f g honest sure s t h k o p old new (StoreFault blame) (rose, w, (tmp, is, e)) = inr (step.Fault tmp, e, w)
-adds_memory name files told f g honest sure s t h k o p old new SinkFault (rose, inl (e, w)) = inr (step.Stored, e, w)
-adds_memory name files told f g honest sure s t h k o p old new SinkFault (rose, inr (e, w)) = inr (step.Present, e, w)
-adds_memory name files told f g honest sure s t h k o p old new Memory a = a
-adds_memory name files told f g honest sure s t h k o p old new other a = absurd a
-
-pub adds_usage : (name : DigestName) (files : List Word) (told : Option Holding) (f g : ℕ) (honest sure : Type 0) (s t : Option Told) (h k o p : ℕ) (old new : Option (List ℕ)) (index : ℕ)
-    → Adds name files told f g honest sure s t h k o p old new (Usage index) → ⊥
-adds_usage name files told f g honest sure s t h k o p old new index a = a
+tree_adds : (name : DigestName) (files : List Word) (f g : Feeding) (before after : Lent) (d : Dir) (outcome : Outcome)
+    → Gathers files f g d → AddsTree name d before after outcome → AddsTo name files (world f before) (world g after) outcome
+tree_adds name files f g before after d outcome a (inl c) =
+    closed_as name files (world f before) (world g after) outcome c.answer
+    (record { tree = d; right = record { gathers = a; right = c.right.0; named = c.right.1 }; run = c.run }) c.closes
+tree_adds name files f g before after d outcome a (inr (inl (path, e, bad, u))) =
+    subst (λ x. AddsTo name files (world f before) (world g after) x) (sym e) (d, a, bad, u)
+tree_adds name files f g before after d outcome a (inr (inr (inl (right, ne, inl e, u)))) =
+    subst (λ x. AddsTo name files (world f before) (world g after) x) (sym e) (d, a, right, ne, refl, refl, u)
+tree_adds name files f g before after d outcome a (inr (inr (inl (right, ne, inr e, u)))) =
+    subst (λ x. AddsTo name files (world f before) (world g after) x) (sym e) (inl (gathers_some files f g d a, u))
+tree_adds name files f g before after d outcome a (inr (inr (inr (e, u)))) =
+    subst (λ x. AddsTo name files (world f before) (world g after) x) (sym e) (inl (gathers_some files f g d a, u))
 
 -- What stays.
 
@@ -217,24 +201,52 @@ others_stay name tree before step.Memory after x n d ne = x.others n ne (λ k l 
 others_stay name tree before step.More after x n d ne = absurd x
 others_stay name tree before step.Over after x n d ne = absurd x
 
-pub same_keeps : (honest : Type 0) (name : DigestName) (s t : Option Told) → t ≡ s → KeepsStored honest name s t
-same_keeps honest name s t same = record { keeps = λ x h e. (x, same ∙ e, λ n y d at. at, λ n d ne. refl) }
+same_keeps : (name : DigestName) (before after : Shelving) → Untouched before after → KeepsStored name before after
+same_keeps name before after u = record { keeps = λ s h e. (s, u.told ∙ e, λ n y d at. at, λ n d ne. refl) }
 
-run_keeps : (honest : Type 0) (name : DigestName) (d : Dir) (s t : Option Told) (answer : Step) → HasRun honest name d s t answer → KeepsStored honest name s t
-run_keeps honest name d s t answer r = record {
-  keeps = λ x h e.
-      let a = r.alone x h e in (
+run_keeps : (name : DigestName) (d : Dir) (before after : Shelving) (answer : Step) → HasRun name d before after answer → KeepsStored name before after
+run_keeps name d before after answer r = record {
+  keeps = λ s h e.
+      let a = r.alone s h e in (
         a.0,
         a.1,
-        λ n y is at. stays (spelling name) d x.shelf.tops answer a.0.shelf.tops a.2.tops n y at,
-        λ n is ne. others_stay (spelling name) d x.shelf.tops answer a.0.shelf.tops a.2.tops n is ne,
+        λ n y is at. stays (spelling name) d s.shelf.tops answer a.0.shelf.tops a.2.tops n y at,
+        λ n is ne. others_stay (spelling name) d s.shelf.tops answer a.0.shelf.tops a.2.tops n is ne,
       );
 }
 
-pub tree_keeps : (name : DigestName) (honest sure : Type 0) (s t : Option Told) (h k o p : ℕ) (old new : Option (List ℕ)) (d : Dir) (outcome : Outcome) → AddsTree name d honest sure s t h k o p old new outcome → KeepsStored honest name s t
-tree_keeps name honest sure s t h k o p old new d outcome (inl (b, u)) = same_keeps honest name s t u.0
-tree_keeps name honest sure s t h k o p old new d outcome (inr (inl (right, ne, m, u))) = same_keeps honest name s t u.0
-tree_keeps name honest sure s t h k o p old new d outcome (inr (inr (inl (e, u)))) = same_keeps honest name s t u.0
-tree_keeps name honest sure s t h k o p old new d outcome (inr (inr (inr c))) = run_keeps honest name d s t c.answer c.run
+tree_keeps : (name : DigestName) (before after : Lent) (d : Dir) (outcome : Outcome) → AddsTree name d before after outcome → KeepsStored name before.shelf after.shelf
+tree_keeps name before after d outcome (inl c) = run_keeps name d before.shelf after.shelf c.answer c.run
+tree_keeps name before after d outcome (inr (inl (path, e, bad, u))) = same_keeps name before.shelf after.shelf u.0
+tree_keeps name before after d outcome (inr (inr (inl (right, ne, m, u)))) = same_keeps name before.shelf after.shelf u.0
+tree_keeps name before after d outcome (inr (inr (inr (e, u)))) = same_keeps name before.shelf after.shelf u.0
 
-pub ruleset finishing = (tree_adds, same_keeps, refuses_adds)
+run_lasts : (name : DigestName) (d : Dir) (before after : Shelving) (answer : Step) → HasRun name d before after answer → Lasts before after
+run_lasts name d before after answer r = record { tells = λ s h e. let a = r.alone s h e in some_is after.told a.0 a.1; later = r.later; stays = r.stays }
+
+tree_lasts : (name : DigestName) (before after : Lent) (d : Dir) (outcome : Outcome) → AddsTree name d before after outcome → Lasts before.shelf after.shelf
+tree_lasts name before after d outcome (inl c) = run_lasts name d before.shelf after.shelf c.answer c.run
+tree_lasts name before after d outcome (inr (inl (path, e, bad, u))) = untouched_lasts before.shelf after.shelf u.0
+tree_lasts name before after d outcome (inr (inr (inl (right, ne, m, u)))) = untouched_lasts before.shelf after.shelf u.0
+tree_lasts name before after d outcome (inr (inr (inr (e, u)))) = untouched_lasts before.shelf after.shelf u.0
+
+-- All together.
+pub added : (name : DigestName) (files : List Word) (f g : Feeding) (before after : Lent) (d : Dir) (outcome : Outcome)
+    → Gathers files f g d → AddsTree name d before after outcome → Adds name files (world f before) (world g after) outcome
+added name files f g before after d outcome a t = record {
+  ended = tree_adds name files f g before after d outcome a t;
+  feeds = asks_stay files f g a.got.asked.asked;
+  stored = tree_keeps name before after d outcome t;
+  shelf = tree_lasts name before after d outcome t;
+}
+
+pub not_added : (name : DigestName) (files : List Word) (f g : Feeding) (lent : Lent) (fault : GatherFault) (outcome : Outcome) → Refuses files f g fault → outcome ≡ files_outcome fault
+    → Adds name files (world f lent) (world g lent) outcome
+not_added name files f g lent fault outcome r e = record {
+  ended = subst (λ x. AddsTo name files (world f lent) (world g lent) x) (sym e) (refuses_adds name files (world f lent) (world g lent) fault r (untouched lent.shelf, refl));
+  feeds = refuses_stay files f g fault r;
+  stored = same_keeps name lent.shelf lent.shelf (untouched lent.shelf);
+  shelf = untouched_lasts lent.shelf lent.shelf (untouched lent.shelf);
+}
+
+pub ruleset idling = (untouched)

@@ -1,5 +1,5 @@
 -- Bytes have one fault or say one feed.
-use Rattle.std.proofs.Common.{◌≡◌, ℕ, ◌⊎◌, inl, inr, List, refl, sym, ap, ◌∙◌, Option, Some, None}
+use Rattle.std.proofs.Common.{◌≡◌, ℕ, ◌⊎◌, inl, inr, List, refl, sym, ap, subst, ◌∙◌, Option, Some, None}
 use Rattle.zi_elements.specs.declared.element.Element.{Element}
 use Rattle.zi_doc.specs.Documents as documents
 use Rattle.zi_doc.specs.Laws.{IsSettled}
@@ -8,6 +8,7 @@ use Rattle.zi_feed.specs.Feeds.{feed_fault, feed_of}
 use Rattle.zi_feed.specs.declared.fault.Fault.{Fault}
 use Rattle.zi_feed.specs.declared.fault.FeedKind.{FeedKind}
 use Rattle.zi_feed.specs.declared.feed.Feed.{Feed}
+use Rattle.zi_feed.specs.IdLaws.{AreDistinct, ids_distinct}
 use Rattle.zi_universe.specs.declared.fault.BadFeed.{BadFeed}
 use Rattle.zi_universe.specs.declared.fault.BadFeed.TheVariants as bad
 use Rattle.zi_universe.specs.Loading.{Says, HasFault}
@@ -67,3 +68,7 @@ one_cause root bytes settled = record {
   feed = one_feed root bytes settled;
   apart = never_both root bytes settled;
 }
+
+-- each id of a feed stands once
+pub ids_apart : (uri bytes : List ℕ) (feed : Feed) → Says uri bytes feed → AreDistinct feed.impls
+ids_apart uri bytes feed (t, spells, right, is) = subst (λ (f : Feed). AreDistinct f.impls) (sym is) (ids_distinct (element_view t) uri right)

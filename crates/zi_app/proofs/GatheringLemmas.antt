@@ -9,9 +9,11 @@ use Rattle.std.specs.List.{list_all}
 use Rattle.std.proofs.lemmas.Option.{slice_get_read}
 use Rattle.std.proofs.lemmas.Bool.Decides.{nat_tests}
 use Rattle.std.proofs.lemmas.Slice.Eq.{bytes_eq-Decides}
-use Rattle.std.proofs.lemmas.List.{map-append, take_more, take-map}
+use Rattle.std.proofs.lemmas.List.{map-append, take_more, take-map, take_all}
 use Rattle.zi_outside.specs.Count.{Rose}
-use Rattle.zi_outside.specs.Outside.{Holding}
+use Rattle.zi_outside.specs.Outside.{Asks}
+use Rattle.zi_outside.specs.Views.{Holding, Feeding, holding}
+use Rattle.zi_outside.proofs.AskingLemmas.{asks_none, asks_more, holding_asked}
 use Rattle.zi_tree.specs.Dir.{Dir}
 use Rattle.zi_tree.specs.Order.{is_tree, is_plain}
 use Rattle.zi_tree.specs.Paths.{items, node_in, placed, placed_new, inserted}
@@ -24,7 +26,7 @@ use Rattle.zi_words.specs.Store.{last_part, is_name, is_file}
 use Rattle.zi_app.specs.declared.gathering.Part.{Part}
 use Rattle.zi_app.specs.declared.gathering.GatherFault.{GatherFault}
 use Rattle.zi_app.specs.declared.gathering.GatherFault.TheVariants.{Read, Absent, TooLong, Twice, TooLarge, Memory}
-use Rattle.zi_app.specs.Gathering.{AreParts, IsPart, part_name, names_of, is_among, are_apart, plain, file_named, PutsPart, MakesTree, part_size, size_limit, file_limit, Gathers, Refuses, GetsPart}
+use Rattle.zi_app.specs.Gathering.{AreParts, IsPart, part_name, names_of, is_among, are_apart, plain, file_named, PutsPart, MakesTree, part_size, size_limit, file_limit, AsksCalmly, GetsAll, Gathers, GetsSome, Refuses, GetsPart}
 use Rattle.zi_tree.specs.declared.change.TreeLimit.TheVariants.{Size, Nodes}
 
 -- one more got
@@ -123,34 +125,94 @@ stands_more ps p d e x s (free, is) = record {
 }
 
 -- The files, as they are got.
-pub parts_next : (told now : Option Holding) (files : List Word) (i : ℕ) (ps qs : List Part) (f : Word) (p : Part) → now ≡ told → i < length files → f ≡ get_or files i f
-    → AreParts told (take i files) ps → IsPart now f p → qs ≡ ps ++ p ∷ [] → AreParts told (take (i + 1) files) qs
-parts_next told now files i ps qs f p same lt at got is e =
-    let fs : take (i + 1) files ≡ take i files ++ f ∷ [] = take_more files i f lt ∙ ap (λ x. take i files ++ x ∷ []) (sym at) in
-    subst (λ xs. AreParts told xs qs) (sym fs) (subst (λ ys. AreParts told (take i files ++ f ∷ []) ys) (sym e)
-    (parts_more told (take i files) ps f p got (subst (λ h. IsPart h f p) same is)))
 
-rose_since : (f m g : ℕ) → f ≤ m → Rose m g → Rose f g
-rose_since f m g le (inl h) = (let l : f < g = omega arith in inl l)
-rose_since f m g le (inr h) = inr h
+-- nothing was asked
+pub calm_none : (seen : Feeding) → AsksCalmly [] seen seen
+calm_none seen = record { asked = asks_none seen; calm = refl }
 
-pub parts_stop : (told now : Option Holding) (f m g : ℕ) (files : List Word) (i : ℕ) (ps : List Part) (file : Word) (fault : GatherFault) → now ≡ told → f ≤ m → i < length files → file ≡ get_or files i file
-    → AreParts told (take i files) ps → GetsPart now m g file (Err fault) → Refuses told f g files fault
-parts_stop told now f m g files i ps file (Read name) same le lt at got (e, rose) =
-    (record { place = i; here = slice_get_read files (length files) i file refl lt at ∙ ap Some (sym e); parts = ps; got = got }, rose_since f m g le rose)
-parts_stop told now f m g files i ps file (Absent name) same le lt at got (e, none) = (
-  record { place = i; here = slice_get_read files (length files) i file refl lt at ∙ ap Some (sym e); parts = ps; got = got },
-  subst (λ n. IfSome told (λ holds. holds n ≡ None)) (sym e) (subst (λ h. IfSome h (λ holds. holds file ≡ None)) same none),
+calm_same : (before after : Feeding) → after ≡ before → AsksCalmly [] before after
+calm_same before after e = subst (λ f. AsksCalmly [] before f) (sym e) (calm_none before)
+
+calm_more : (keys more : List Word) (old mid new : Feeding) → AsksCalmly keys old mid → AsksCalmly more mid new → AsksCalmly (keys ++ more) old new
+calm_more keys more old mid new a b = record { asked = asks_more keys more old mid new a.asked b.asked; calm = b.calm ∙ a.calm }
+
+-- a file more was asked for
+calm_next : (files : List Word) (i : ℕ) (f : Word) (old mid new : Feeding) → i < length files → f ≡ get_or files i f → AsksCalmly (take i files) old mid → AsksCalmly (f ∷ []) mid new
+    → AsksCalmly (take (i + 1) files) old new
+calm_next files i f old mid new lt at a b =
+    subst (λ fs. AsksCalmly fs old new) (sym (take_more files i f lt ∙ ap (λ x. take i files ++ x ∷ []) (sym at))) (calm_more (take i files) (f ∷ []) old mid new a b)
+
+asks_next : (files : List Word) (i : ℕ) (f : Word) (old mid new : Feeding) → i < length files → f ≡ get_or files i f → AsksCalmly (take i files) old mid → Asks (f ∷ []) mid new
+    → Asks (take (i + 1) files) old new
+asks_next files i f old mid new lt at a b =
+    subst (λ fs. Asks fs old new) (sym (take_more files i f lt ∙ ap (λ x. take i files ++ x ∷ []) (sym at))) (asks_more (take i files) (f ∷ []) old mid new a.asked b)
+
+-- none was got yet
+pub gets_none : (files : List Word) (seen : Feeding) → GetsAll (take 0 files) seen seen []
+gets_none files seen = record { are = tt; asked = calm_none seen }
+
+held_since : (P : Holding → Type 0) (files : List Word) (old mid : Feeding) → AsksCalmly files old mid → IfSome (holding mid) P → IfSome (holding old) P
+held_since P files old mid a h = subst (λ told. IfSome told P) (holding_asked files old mid a.asked) h
+
+-- one more was got
+pub parts_next : (files : List Word) (i : ℕ) (old mid new : Feeding) (ps qs : List Part) (f : Word) (p : Part) → i < length files → f ≡ get_or files i f
+    → GetsAll (take i files) old mid ps → GetsPart f mid new (Ok p) → qs ≡ ps ++ p ∷ [] → GetsAll (take (i + 1) files) old new qs
+parts_next files i old mid new ps qs f p lt at got (is, asked) e = record {
+  are =
+      subst (λ xs. AreParts (holding old) xs qs) (sym (take_more files i f lt ∙ ap (λ x. take i files ++ x ∷ []) (sym at)))
+      (subst (λ ys. AreParts (holding old) (take i files ++ f ∷ []) ys) (sym e)
+      (parts_more (holding old) (take i files) ps f p got.are (subst (λ h. IsPart h f p) (holding_asked (take i files) old mid got.asked.asked) is)));
+  asked = calm_next files i f old mid new lt at got.asked asked;
+}
+
+-- and then there was no memory for it
+pub parts_short : (files : List Word) (i : ℕ) (old mid new : Feeding) (ps : List Part) (f : Word) (p : Part) → i < length files → f ≡ get_or files i f
+    → GetsAll (take i files) old mid ps → GetsPart f mid new (Ok p) → Refuses files old new Memory
+parts_short files i old mid new ps f p lt at got (is, asked) = (i + 1, calm_next files i f old mid new lt at got.asked asked)
+
+-- the next wasn't got
+pub parts_stop : (files : List Word) (i : ℕ) (old mid new : Feeding) (ps : List Part) (f : Word) (fault : GatherFault) → i < length files → f ≡ get_or files i f
+    → GetsAll (take i files) old mid ps → GetsPart f mid new (Err fault) → Refuses files old new fault
+parts_stop files i old mid new ps f (Read name) lt at got (e, asked, rose) = (
+  record {
+    place = i;
+    here = slice_get_read files (length files) i f refl lt at ∙ ap Some (sym e);
+    parts = ps;
+    got = got.are;
+    asked = asks_next files i f old mid new lt at got.asked asked;
+  },
+  subst (λ n. Rose n new.faults) got.asked.calm rose,
 )
-parts_stop told now f m g files i ps file (TooLong name limit) same le lt at got (e, l, long) = (
-  record { place = i; here = slice_get_read files (length files) i file refl lt at ∙ ap Some (sym e); parts = ps; got = got },
+parts_stop files i old mid new ps f (Absent name) lt at got (e, asked, none) = (
+  record {
+    place = i;
+    here = slice_get_read files (length files) i f refl lt at ∙ ap Some (sym e);
+    parts = ps;
+    got = got.are;
+    asked = asks_next files i f old mid new lt at got.asked asked.asked;
+  },
+  asked.calm ∙ got.asked.calm,
+  subst (λ n. IfSome (holding old) (λ holds. holds n ≡ None)) (sym e) (held_since (λ holds. holds f ≡ None) (take i files) old mid got.asked none),
+)
+parts_stop files i old mid new ps f (TooLong name limit) lt at got (e, asked, l, long) = (
+  record {
+    place = i;
+    here = slice_get_read files (length files) i f refl lt at ∙ ap Some (sym e);
+    parts = ps;
+    got = got.are;
+    asked = asks_next files i f old mid new lt at got.asked asked.asked;
+  },
+  asked.calm ∙ got.asked.calm,
   l,
-  subst (λ n. IfSome told (λ holds. IsSomeAnd (holds n) (λ bytes. file_limit < length bytes))) (sym e)
-      (subst (λ h. IfSome h (λ holds. IsSomeAnd (holds file) (λ bytes. file_limit < length bytes))) same long),
+  subst (λ n. IfSome (holding old) (λ holds. IsSomeAnd (holds n) (λ bytes. file_limit < length bytes))) (sym e)
+      (held_since (λ holds. IsSomeAnd (holds f) (λ bytes. file_limit < length bytes)) (take i files) old mid got.asked long),
 )
-parts_stop told now f m g files i ps file (Twice name) same le lt at got x = absurd x
-parts_stop told now f m g files i ps file (TooLarge what limit) same le lt at got x = absurd x
-parts_stop told now f m g files i ps file Memory same le lt at got x = tt
+parts_stop files i old mid new ps f (Twice name) lt at got x = absurd x
+parts_stop files i old mid new ps f (TooLarge what limit) lt at got x = absurd x
+parts_stop files i old mid new ps f Memory lt at got (inl same) = (i, subst (λ seen. AsksCalmly (take i files) old seen) (sym same) got.asked)
+parts_stop files i old mid new ps f Memory lt at got (inr asked) = (i + 1, calm_next files i f old mid new lt at got.asked asked)
+
+pub ruleset getting = (parts_stop, gets_none)
 
 -- Their sizes.
 pub large : (ps : List Part) (i left size : ℕ) (p : Part) → i < length ps → p ≡ get_or ps i p → left + sum (map part_size (take i ps)) ≡ size_limit → size ≡ length p.bytes → left < size
@@ -223,25 +285,31 @@ pub tree_done : (all done : List Part) (d : Dir) → Stands done d → done ≡ 
 tree_done all done d s e whole = subst (λ ps. MakesTree ps (Ok d)) e (s.apart, record { whole = whole; holds = s.holds })
 
 -- All together.
-pub names_right : (told : Option Holding) (fs : List Word) (ps : List Part) → AreParts told fs ps → list_all is_file fs ≡ true → list_all is_name (names_of ps) ≡ true
-names_right told [] [] h r = refl
-names_right told [] (q ∷ ps) h r = absurd h
-names_right told (g ∷ fs) [] h r = absurd h
-names_right told (g ∷ fs) (q ∷ ps) h r =
+names_of_parts : (told : Option Holding) (fs : List Word) (ps : List Part) → AreParts told fs ps → list_all is_file fs ≡ true → list_all is_name (names_of ps) ≡ true
+names_of_parts told [] [] h r = refl
+names_of_parts told [] (q ∷ ps) h r = absurd h
+names_of_parts told (g ∷ fs) [] h r = absurd h
+names_of_parts told (g ∷ fs) (q ∷ ps) h r =
     let p = and_parts (is_file g) (list_all is_file fs) r in
-    and_whole (is_name q.name) (list_all is_name (names_of ps)) (ap is_name h.0.named ∙ p.0) (names_right told fs ps h.1 p.1)
+    and_whole (is_name q.name) (list_all is_name (names_of ps)) (ap is_name h.0.named ∙ p.0) (names_of_parts told fs ps h.1 p.1)
 
-pub tree_refused : (told : Option Holding) (f g : ℕ) (fs : List Word) (ps : List Part) (fault : GatherFault) → AreParts told fs ps → MakesTree ps (Err fault) → Refuses told f g fs fault
-tree_refused told f g fs ps (Twice name) got x = (ps, got, x)
-tree_refused told f g fs ps Memory got x = tt
-tree_refused told f g fs ps (Read file) got x = absurd x
-tree_refused told f g fs ps (Absent file) got x = absurd x
-tree_refused told f g fs ps (TooLong file limit) got x = absurd x
-tree_refused told f g fs ps (TooLarge what limit) got x = absurd x
+pub names_right : (fs : List Word) (old new : Feeding) (ps : List Part) → GetsAll fs old new ps → list_all is_file fs ≡ true → list_all is_name (names_of ps) ≡ true
+names_right fs old new ps got r = names_of_parts (holding old) fs ps got.are r
 
-pub too_large : (told : Option Holding) (f g : ℕ) (fs : List Word) (ps : List Part) (d : Dir) (b : Bool) → AreParts told fs ps → MakesTree ps (Ok d) → b ≡ nat_lt size_limit (sum (map part_size ps)) → b ≡ true
-    → Refuses told f g fs (TooLarge Size 268435456)
-too_large told f g fs ps d b got m e is =
+all_got : (fs : List Word) (old new : Feeding) (ps : List Part) → GetsAll fs old new ps → Refuses fs old new Memory
+all_got fs old new ps got = (length fs, subst (λ xs. AsksCalmly xs old new) (sym (take_all (length fs) fs (omega arith))) got.asked)
+
+pub tree_refused : (fs : List Word) (old new : Feeding) (ps : List Part) (fault : GatherFault) → GetsAll fs old new ps → MakesTree ps (Err fault) → Refuses fs old new fault
+tree_refused fs old new ps (Twice name) got x = (ps, got, x)
+tree_refused fs old new ps Memory got x = all_got fs old new ps got
+tree_refused fs old new ps (Read file) got x = absurd x
+tree_refused fs old new ps (Absent file) got x = absurd x
+tree_refused fs old new ps (TooLong file limit) got x = absurd x
+tree_refused fs old new ps (TooLarge what limit) got x = absurd x
+
+pub too_large : (fs : List Word) (old new : Feeding) (ps : List Part) (d : Dir) (b : Bool) → GetsAll fs old new ps → MakesTree ps (Ok d) → b ≡ nat_lt size_limit (sum (map part_size ps)) → b ≡ true
+    → Refuses fs old new (TooLarge Size 268435456)
+too_large fs old new ps d b got m e is =
     let t : nat_lt size_limit (sum (map part_size ps)) ≡ true = sym e ∙ is in
     let lt : size_limit < sum (map part_size ps) = grind (arith, nat_tests) in
     (ps, got, m.0, refl, lt)
@@ -249,11 +317,15 @@ too_large told f g fs ps d b got m e is =
 small_of : (b : Bool) (n m : ℕ) → b ≡ nat_lt n m → b ≡ false → m ≤ n
 small_of b n m e is = let t : nat_lt n m ≡ false = sym e ∙ is in grind (arith, nat_tests)
 
-pub too_many : (told : Option Holding) (f g : ℕ) (fs : List Word) (ps : List Part) (d : Dir) (b : Bool) → AreParts told fs ps → MakesTree ps (Ok d) → b ≡ nat_lt size_limit (sum (map part_size ps)) → b ≡ false → 100000 < length fs
-    → Refuses told f g fs (TooLarge Nodes 100000)
-too_many told f g fs ps d b got m e is lt = (ps, got, m.0, small_of b size_limit (sum (map part_size ps)) e is, refl, lt)
+pub too_many : (fs : List Word) (old new : Feeding) (ps : List Part) (d : Dir) (b : Bool) → GetsAll fs old new ps → MakesTree ps (Ok d) → b ≡ nat_lt size_limit (sum (map part_size ps)) → b ≡ false → 100000 < length fs
+    → Refuses fs old new (TooLarge Nodes 100000)
+too_many fs old new ps d b got m e is lt = (ps, got, m.0, small_of b size_limit (sum (map part_size ps)) e is, refl, lt)
 
-pub gathered : (told : Option Holding) (fs : List Word) (ps : List Part) (d : Dir) (b : Bool) → AreParts told fs ps → MakesTree ps (Ok d) → b ≡ nat_lt size_limit (sum (map part_size ps)) → b ≡ false → length fs ≤ 100000 → Gathers told fs d
-gathered told fs ps d b got m e is le = record { parts = ps; got = got; apart = m.0; small = small_of b size_limit (sum (map part_size ps)) e is; few = le; tree = m.1 }
+pub gathered : (fs : List Word) (old new : Feeding) (ps : List Part) (d : Dir) (b : Bool) → GetsAll fs old new ps → MakesTree ps (Ok d) → b ≡ nat_lt size_limit (sum (map part_size ps)) → b ≡ false → length fs ≤ 100000 → Gathers fs old new d
+gathered fs old new ps d b got m e is le = record { parts = ps; got = got; apart = m.0; small = small_of b size_limit (sum (map part_size ps)) e is; few = le; tree = m.1 }
 
-pub ruleset gathering = (tree_refused, too_large, too_many, gathered, names_right)
+-- the first of them were asked for
+pub gathers_some : (fs : List Word) (old new : Feeding) (d : Dir) → Gathers fs old new d → GetsSome fs old new
+gathers_some fs old new d a = all_got fs old new a.parts a.got
+
+pub ruleset gathering = (tree_refused, too_large, too_many, gathered)

@@ -1,9 +1,12 @@
+pub mod AskingLemmas
+pub mod ShelvesLemmas
+pub mod WritingLemmas
 pub mod LineLemmas
-pub mod RunLemmas
 pub mod SelectLemmas
 pub mod StoreLemmas
+pub mod GatheringLemmas
 pub mod AddingLemmas
+pub mod RunLemmas
 pub mod FileNameLaws
 pub mod CauseLaws
 pub mod DocumentLemmas
-pub mod GatheringLemmas

@@ -1,32 +1,32 @@
 -- The choice, and what it means for the words that asked for it.
-use Rattle.std.proofs.Common.{◌≡◌, ℕ, inl, inr, Bool, true, false, List, [], ◌∷◌, length, refl, sym, ap, subst, ◌∙◌, Option, Some, None, arith}
+use Rattle.std.proofs.Common.{◌≡◌, ℕ, inl, inr, ◌⊎◌, Bool, true, false, List, [], ◌∷◌, length, refl, sym, ap, subst, ◌∙◌, Option, Some, None, arith}
 use Rattle.std.specs.Prelude.{slice_get, All, not, ◌&&◌, ◌==◌, ◌<◌}
 use Rattle.std.proofs.lemmas.Bool.{and_parts}
 use Rattle.std.proofs.lemmas.Bool.Decides.{nat_tests}
 use Rattle.std.proofs.lemmas.List.Elements.{All-nil, All-cons}
 use Rattle.std.specs.List.{list_all}
 use Rattle.zi_policy.specs.declared.types.Policy.{Policy}
-use Rattle.zi_outside.specs.Outside.{Holding, gained, GainsFront}
+use Rattle.zi_outside.specs.Views.{Feeding, Sinking}
 use Rattle.zi_words.specs.declared.request.Ask.{Ask}
 use Rattle.zi_universe.specs.declared.types.Candidate.{Candidate}
 use Rattle.zi_universe.specs.declared.types.Interface.{Interface}
 use Rattle.zi_universe.specs.declared.types.Requirement.{Requirement}
 use Rattle.zi_universe.specs.declared.fault.LoadFault.{LoadFault}
 use Rattle.zi_universe.specs.declared.fault.LoadFault.TheVariants as load
-use Rattle.zi_universe.specs.Loading.{names_of, Loads, Refuses}
+use Rattle.zi_universe.specs.Loading.{names_of, Task, LoadsAsking, RefusesAsking}
 use Rattle.zi_app.specs.declared.outcome.Outcome.{Outcome}
-use Rattle.zi_app.specs.declared.outcome.Outcome.TheVariants.{Done, Usage, FeedRead, NoRootFeed, BadFeed, FeedTooLong, TooManyFeeds, TooManyInterfaces, TooManyCandidates, NoFile, Overlap, Mismatch, MissingTree, DamagedTree, BadName, TreeTooLarge, StoreFault, Crowded, Unwritable, SinkFault, Memory, Unbuilt}
+use Rattle.zi_app.specs.declared.outcome.Outcome.TheVariants.{Unwritable, Memory}
 use Rattle.zi_app.specs.Refused.{outcome_of}
 use Rattle.zi_app.specs.Wanted.{requirement_of}
-use Rattle.zi_app.specs.Document.{document}
+use Rattle.zi_app.specs.Document.{document, IsAmiss}
 use Rattle.zi_choice.specs.Choice.{first_alone}
 use Rattle.zi_choice.specs.Best.{IsBest}
 use Rattle.zi_choice.proofs.AloneLaws.{first_alone_best}
 use Rattle.zi_digest.specs.declared.DigestName.{DigestName}
-use Rattle.zi_app.specs.Writing.{Writes}
-use Rattle.zi_app.specs.Select.{is_empty, Chooses, is_simple, are_built, is_built, root_candidates, IsFirst, IsLoaded, ChoosesFrom, SelectsOver, Selects}
-use Rattle.zi_app.specs.Shelves.{Shelving}
-use Rattle.zi_app.specs.StoreCommands.{AreStored}
+use Rattle.zi_app.specs.Writing.{Prints}
+use Rattle.zi_app.specs.Select.{is_empty, Chooses, is_simple, are_built, is_built, root_candidates, IsFirst, task_of, IsLoaded, IsRefused, Lent, SelectsOver}
+use Rattle.zi_app.specs.SelectParts.{ChoosesFrom}
+use Rattle.zi_app.proofs.WritingLemmas.{nothing_put}
 
 pub none_built : (cs : List Candidate) → slice_get cs 0 ≡ None → are_built cs ≡ false
 none_built [] e = refl
@@ -46,33 +46,22 @@ of_root (j ∷ u) i e = ap (λ (x : Interface). x.candidates) (inside j i e)
     inside : (j i : Interface) → Some j ≡ Some i → j ≡ i
     inside j i e = cc
 
--- what the writing of a document says of the choice
-pub written : (root : List ℕ) (u : List Interface) (c : Candidate) (text : List ℕ) (o p : ℕ) (old new : Option (List ℕ)) (outcome : Outcome)
-    → is_built u ≡ true → IsFirst u c → text ≡ document root c → Writes text o p old new outcome → ChoosesFrom root u o p old new outcome
-written root u c text o p old new Done built first e w = (c, built, first, w ∙ ap (gained old) e)
-written root u c text o p old new SinkFault built first e w = (c, built, first, w.0, subst (λ t. GainsFront old t new) e w.1)
-written root u c text o p old new Memory built first e w = inr (c, built, first, subst (λ t. GainsFront old t new) e w)
-written root u c text o p old new (Usage index) built first e w = absurd w
-written root u c text o p old new (FeedRead uri) built first e w = absurd w
-written root u c text o p old new NoRootFeed built first e w = absurd w
-written root u c text o p old new (BadFeed uri fault) built first e w = absurd w
-written root u c text o p old new (FeedTooLong uri limit) built first e w = absurd w
-written root u c text o p old new (TooManyFeeds limit) built first e w = absurd w
-written root u c text o p old new (TooManyInterfaces limit) built first e w = absurd w
-written root u c text o p old new (TooManyCandidates limit) built first e w = absurd w
-written root u c text o p old new (NoFile name) built first e w = absurd w
-written root u c text o p old new (Overlap path) built first e w = absurd w
-written root u c text o p old new (Mismatch name found) built first e w = absurd w
-written root u c text o p old new (MissingTree name) built first e w = absurd w
-written root u c text o p old new (DamagedTree name found) built first e w = absurd w
-written root u c text o p old new (BadName path) built first e w = absurd w
-written root u c text o p old new (TreeTooLarge what limit) built first e w = absurd w
-written root u c text o p old new (StoreFault name) built first e w = absurd w
-written root u c text o p old new (Crowded tried) built first e w = absurd w
-written root u c text o p old new (Unwritable place) built first e w = absurd w
-written root u c text o p old new Unbuilt built first e w = absurd w
+-- the document of the chosen was printed
+pub written : (root : List ℕ) (u : List Interface) (c : Candidate) (text : List ℕ) (old new : Sinking) (outcome : Outcome)
+    → is_built u ≡ true → IsFirst u c → text ≡ document root c → Prints text old new outcome → ChoosesFrom root u old new outcome
+written root u c text old new outcome built first e w = inl (record { c = c; built = built; first = first; document = inl (subst (λ t. Prints t old new outcome) e w) })
 
-pub ruleset writing = (of_root, written)
+-- or it can't be written
+pub unwritable : (root : List ℕ) (u : List Interface) (c : Candidate) (place : ℕ) (out : Sinking) → is_built u ≡ true → IsFirst u c → IsAmiss root c place
+    → ChoosesFrom root u out out (Unwritable place)
+unwritable root u c place out built first amiss = inl (record { c = c; built = built; first = first; document = inr (place, refl, amiss, refl) })
+
+-- or there was no memory for it
+pub unmade : (root : List ℕ) (u : List Interface) (c : Candidate) (out : Sinking) → is_built u ≡ true → IsFirst u c → ChoosesFrom root u out out Memory
+unmade root u c out built first =
+    inl (record { c = c; built = built; first = first; document = inl (inr (inr (nothing_put out (document root c) out refl, refl))) })
+
+pub ruleset writing = (of_root, written, unwritable, unmade)
 
 true_false : true ≡ false → ⊥
 true_false e = cc
@@ -116,71 +105,59 @@ first_is_best : (u : List Interface) (req : Requirement) → req.command ≡ Non
 first_is_best u req none built = let r : (root : Interface) × (slice_get u 0 ≡ Some root) × (are_built root.candidates ≡ true) = has_root u built in
     best_of u req r.0 r.1 none r.2
 
-chooses_first : (stored : List DigestName) (told : Option Holding) (ask : Ask) (u : List Interface) (c : Candidate) → ask.command ≡ None → IsLoaded stored told ask u → is_built u ≡ true → IsFirst u c
-    → Chooses stored told ask c
-chooses_first stored told ask u c none loaded built first = record { universe = u; loaded = loaded; built = built; first = first; best = first_is_best u (requirement_of ask) none built }
+chooses_first : (stored : List DigestName) (ask : Ask) (f g : Feeding) (u : List Interface) (c : Candidate) → ask.command ≡ None → IsLoaded stored ask f g u → is_built u ≡ true → IsFirst u c
+    → Chooses stored ask f g c
+chooses_first stored ask f g u c none loaded built first = record { universe = u; loaded = loaded; built = built; first = first; best = first_is_best u (requirement_of ask) none built }
 
-selected_as : (stored : List DigestName) (told : Option Holding) (f g : ℕ) (ask : Ask) (u : List Interface) (o p : ℕ) (old new : Option (List ℕ)) (outcome : Outcome)
-    → ask.command ≡ None → IsLoaded stored told ask u → ChoosesFrom ask.root u o p old new outcome → SelectsOver stored ask told f g o p old new outcome
-selected_as stored told f g ask u o p old new Done none loaded (c, built, first, w) = (c, chooses_first stored told ask u c none loaded built first, w)
-selected_as stored told f g ask u o p old new (Unwritable place) none loaded (c, built, first, amiss, w) =
-    (c, chooses_first stored told ask u c none loaded built first, amiss, w)
-selected_as stored told f g ask u o p old new SinkFault none loaded (c, built, first, rose, w) = (c, chooses_first stored told ask u c none loaded built first, rose, w)
-selected_as stored told f g ask u o p old new Memory none loaded (inl same) = inl same
-selected_as stored told f g ask u o p old new Memory none loaded (inr (c, built, first, w)) = inr (c, chooses_first stored told ask u c none loaded built first, w)
-selected_as stored told f g ask u o p old new Unbuilt none loaded (built, w) = (record { universe = u; loaded = loaded; built = built }, w)
-selected_as stored told f g ask u o p old new (Usage index) none loaded w = absurd w
-selected_as stored told f g ask u o p old new (FeedRead uri) none loaded w = absurd w
-selected_as stored told f g ask u o p old new NoRootFeed none loaded w = absurd w
-selected_as stored told f g ask u o p old new (BadFeed uri fault) none loaded w = absurd w
-selected_as stored told f g ask u o p old new (FeedTooLong uri limit) none loaded w = absurd w
-selected_as stored told f g ask u o p old new (TooManyFeeds limit) none loaded w = absurd w
-selected_as stored told f g ask u o p old new (TooManyInterfaces limit) none loaded w = absurd w
-selected_as stored told f g ask u o p old new (NoFile name) none loaded w = absurd w
-selected_as stored told f g ask u o p old new (Overlap path) none loaded w = absurd w
-selected_as stored told f g ask u o p old new (Mismatch name found) none loaded w = absurd w
-selected_as stored told f g ask u o p old new (MissingTree name) none loaded w = absurd w
-selected_as stored told f g ask u o p old new (DamagedTree name found) none loaded w = absurd w
-selected_as stored told f g ask u o p old new (BadName path) none loaded w = absurd w
-selected_as stored told f g ask u o p old new (TreeTooLarge what limit) none loaded w = absurd w
-selected_as stored told f g ask u o p old new (StoreFault name) none loaded w = absurd w
-selected_as stored told f g ask u o p old new (Crowded tried) none loaded w = absurd w
-selected_as stored told f g ask u o p old new (TooManyCandidates limit) none loaded w = absurd w
+chosen_as : (stored : List DigestName) (ask : Ask) (before after : Lent) (outcome : Outcome) (c : Candidate) → Chooses stored ask before.feeds after.feeds c
+    → Prints (document ask.root c) before.out after.out outcome ⊎ ((place : ℕ) × (outcome ≡ Unwritable place) × IsAmiss ask.root c place × (after.out ≡ before.out))
+    → SelectsOver stored ask before after outcome
+chosen_as stored ask before after outcome c chooses (inl (inl (w, e))) = subst (λ x. SelectsOver stored ask before after x) (sym e) (c, chooses, w)
+chosen_as stored ask before after outcome c chooses (inl (inr (inl (w, e)))) = subst (λ x. SelectsOver stored ask before after x) (sym e) (c, chooses, w)
+chosen_as stored ask before after outcome c chooses (inl (inr (inr (w, e)))) = subst (λ x. SelectsOver stored ask before after x) (sym e) (inr (inr (c, chooses, w)))
+chosen_as stored ask before after outcome c chooses (inr (place, e, amiss, w)) = subst (λ x. SelectsOver stored ask before after x) (sym e) (c, chooses, amiss, w)
+
+selected_as : (stored : List DigestName) (ask : Ask) (before after : Lent) (u : List Interface) (outcome : Outcome) → ask.command ≡ None → IsLoaded stored ask before.feeds after.feeds u
+    → ChoosesFrom ask.root u before.out after.out outcome → SelectsOver stored ask before after outcome
+selected_as stored ask before after u outcome none loaded (inl o) =
+    chosen_as stored ask before after outcome o.c (chooses_first stored ask before.feeds after.feeds u o.c none loaded o.built o.first) o.document
+selected_as stored ask before after u outcome none loaded (inr (e, built, w)) =
+    subst (λ x. SelectsOver stored ask before after x) (sym e) (record { universe = u; loaded = loaded; built = built }, w)
+
+task_is : (stored : List DigestName) (ask : Ask) (req : Requirement) (policy : Policy) → req ≡ requirement_of ask → policy ≡ ask.policy
+    → ◌≡◌ {A = Task} (record { req = req; policy = policy; stored = names_of stored }) (task_of stored ask)
+task_is stored ask req policy at_req at_policy =
+    let task : Requirement → Policy → Task = λ r p. record { req = r; policy = p; stored = names_of stored } in
+    ap (λ r. task r policy) at_req ∙ ap (λ p. task (requirement_of ask) p) at_policy
 
 -- the choice from the universe that was loaded
-pub selected : (stored : List DigestName) (told : Option Holding) (f g : ℕ) (ask : Ask) (req : Requirement) (policy : Policy) (u : List Interface) (o p : ℕ) (old new : Option (List ℕ)) (outcome : Outcome)
-    → ask.command ≡ None → req ≡ requirement_of ask → policy ≡ ask.policy → Loads told req policy (names_of stored) u → ChoosesFrom req.interface u o p old new outcome
-    → SelectsOver stored ask told f g o p old new outcome
-selected stored told f g ask req policy u o p old new outcome none at_req at_policy loads chooses =
-    selected_as stored told f g ask u o p old new outcome none
-    (subst (λ q. Loads told (requirement_of ask) q (names_of stored) u) at_policy (subst (λ r. Loads told r policy (names_of stored) u) at_req loads))
-    (subst (λ root. ChoosesFrom root u o p old new outcome) (ap (λ (r : Requirement). r.interface) at_req) chooses)
+pub selected : (stored : List DigestName) (ask : Ask) (req : Requirement) (policy : Policy) (before after : Lent) (u : List Interface) (outcome : Outcome)
+    → ask.command ≡ None → req ≡ requirement_of ask → policy ≡ ask.policy → LoadsAsking (record { req = req; policy = policy; stored = names_of stored }) before.feeds u after.feeds
+    → ChoosesFrom req.interface u before.out after.out outcome → SelectsOver stored ask before after outcome
+selected stored ask req policy before after u outcome none at_req at_policy loads chooses =
+    selected_as stored ask before after u outcome none
+    (subst (λ t. LoadsAsking t before.feeds u after.feeds) (task_is stored ask req policy at_req at_policy) loads)
+    (subst (λ root. ChoosesFrom root u before.out after.out outcome) (ap (λ (r : Requirement). r.interface) at_req) chooses)
 
-refused_as : (stored : List DigestName) (told : Option Holding) (f g : ℕ) (ask : Ask) (o p : ℕ) (old new : Option (List ℕ)) (e : LoadFault)
-    → Refuses told f g (requirement_of ask) ask.policy (names_of stored) e → new ≡ old → SelectsOver stored ask told f g o p old new (outcome_of e)
-refused_as stored told f g ask o p old new (load.FeedRead uri) r w = (r, w)
-refused_as stored told f g ask o p old new load.NoRootFeed r w = (r, w)
-refused_as stored told f g ask o p old new (load.BadFeed uri fault) r w = (r, w)
-refused_as stored told f g ask o p old new (load.FeedTooLong uri limit) r w = (r, w)
-refused_as stored told f g ask o p old new (load.TooManyFeeds limit) r w = (r, w)
-refused_as stored told f g ask o p old new (load.TooManyInterfaces limit) r w = (r, w)
-refused_as stored told f g ask o p old new (load.TooManyCandidates limit) r w = (r, w)
-refused_as stored told f g ask o p old new load.Memory r w = inl w
+refused_as : (stored : List DigestName) (ask : Ask) (before after : Lent) (e : LoadFault) → IsRefused stored ask before.feeds after.feeds e → after.out ≡ before.out
+    → SelectsOver stored ask before after (outcome_of e)
+refused_as stored ask before after (load.FeedRead uri) r w = (r, w)
+refused_as stored ask before after load.NoRootFeed r w = (r, w)
+refused_as stored ask before after (load.BadFeed uri fault) r w = (r, w)
+refused_as stored ask before after (load.FeedTooLong uri limit) r w = (r, w)
+refused_as stored ask before after (load.TooManyFeeds limit) r w = (r, w)
+refused_as stored ask before after (load.TooManyInterfaces limit) r w = (r, w)
+refused_as stored ask before after (load.TooManyCandidates limit) r w = (r, w)
+refused_as stored ask before after load.Memory r w = inr (inl (r, w))
 
 -- the loading was refused
-pub refused_load : (stored : List DigestName) (told : Option Holding) (f g : ℕ) (ask : Ask) (req : Requirement) (policy : Policy) (o p : ℕ) (old new : Option (List ℕ)) (e : LoadFault) (outcome : Outcome)
-    → req ≡ requirement_of ask → policy ≡ ask.policy → Refuses told f g req policy (names_of stored) e → new ≡ old → outcome ≡ outcome_of e
-    → SelectsOver stored ask told f g o p old new outcome
-refused_load stored told f g ask req policy o p old new e outcome at_req at_policy r w at_outcome =
-    subst (λ x. SelectsOver stored ask told f g o p old new x) (sym at_outcome)
-    (refused_as stored told f g ask o p old new e
-    (subst (λ q. Refuses told f g (requirement_of ask) q (names_of stored) e) at_policy (subst (λ s. Refuses told f g s policy (names_of stored) e) at_req r)) w)
+pub refused_load : (stored : List DigestName) (ask : Ask) (req : Requirement) (policy : Policy) (before after : Lent) (e : LoadFault) (outcome : Outcome)
+    → req ≡ requirement_of ask → policy ≡ ask.policy → RefusesAsking (record { req = req; policy = policy; stored = names_of stored }) before.feeds e after.feeds
+    → after.out ≡ before.out → outcome ≡ outcome_of e → SelectsOver stored ask before after outcome
+refused_load stored ask req policy before after e outcome at_req at_policy r w at_outcome =
+    subst (λ x. SelectsOver stored ask before after x) (sym at_outcome)
+    (refused_as stored ask before after e (subst (λ t. RefusesAsking t before.feeds e after.feeds) (task_is stored ask req policy at_req at_policy) r) w)
 
-pub ruleset loading = (selected, refused_load)
-
--- the names that are stored, and what is done over them
-pub selected_stored : (ask : Ask) (told : Option Holding) (f g : ℕ) (k : Shelving) (stored : List DigestName) (o p : ℕ) (old new : Option (List ℕ)) (outcome : Outcome)
-    → AreStored k stored → SelectsOver stored ask told f g o p old new outcome → Selects ask told f g k o p old new outcome
-selected_stored ask told f g k stored o p old new outcome are over = inr (stored, are, over)
-
-pub ruleset selecting = (selected_stored)
+-- there was no memory for the task
+pub no_task : (stored : List DigestName) (ask : Ask) (lent : Lent) → SelectsOver stored ask lent lent Memory
+no_task stored ask lent = inl refl

@@ -1,228 +1,40 @@
--- What the commands on the store say, put together.
+-- What the commands that read the store say, put together.
 use Rattle.std.proofs.Common.{◌≡◌, ℕ, inl, inr, Bool, true, false, List, [], ◌∷◌, ◌++◌, length, refl, sym, ap, subst, ◌∙◌, Option, Some, None, Result, Ok, Err, arith}
-use Rattle.std.specs.Prelude.{ℤ, ◌≤◌, ◌<◌, codes, bytes_eq, MatchOption, IfOk}
-use Rattle.std.specs.List.{list_all}
-use Rattle.std.proofs.lemmas.Bool.{and_parts}
-use Rattle.std.proofs.lemmas.List.{append-nil, take_all}
-use Rattle.zi_outside.specs.Outside.{gained, GainsFront}
+use Rattle.std.specs.Prelude.{ℤ, ◌≤◌, ◌<◌, bytes_eq, MatchOption, IfOk}
+use Rattle.zi_outside.specs.Views.{Sinking}
 use Rattle.zi_tree.specs.Dir.{Dir, Nothing, AFile, ALink, AFolder}
 use Rattle.zi_digest.specs.declared.Algorithm.{Algorithm}
 use Rattle.zi_digest.specs.declared.DigestName.{DigestName}
-use Rattle.zi_digest.specs.Name.{spelling, name_of}
+use Rattle.zi_digest.specs.Name.{name_of}
 use Rattle.zi_manifest.specs.Manifest.{own_name, as_read, first_bad, manifest, HasManifest}
 use Rattle.zi_manifest.specs.Listing.{IsManifest}
 use Rattle.zi_shelf.specs.Names.{Name}
 use Rattle.zi_shelf.specs.Shelved.{Top, Shelved}
+use Rattle.zi_shelf.specs.Shelving.{Shelving}
 use Rattle.zi_shelf.specs.Told.{Told}
 use Rattle.zi_shelf.specs.declared.shelf.ShelfFault.{ShelfFault}
-use Rattle.zi_shelf.specs.declared.call.ShelfCall.{ShelfCall}
+use Rattle.zi_shelf.specs.declared.shelf.ShelfFault.TheVariants as fault
 use Rattle.zi_shelf.specs.declared.call.CallKind.{CallKind}
-use Rattle.zi_shelf.specs.declared.call.CallKind.TheVariants as kind
 use Rattle.zi_tree.specs.declared.change.TreeLimit.{TreeLimit}
 use Rattle.zi_store.specs.declared.files.FileRead.{FileRead}
 use Rattle.zi_store.specs.declared.files.FileRead.TheVariants as file
 use Rattle.zi_store.specs.declared.trees.TreeRead.{TreeRead}
-use Rattle.zi_store.specs.declared.verdicts.Verdict.{Verdict}
 use Rattle.zi_store.specs.declared.trees.TreeRead.TheVariants as read
+use Rattle.zi_store.specs.declared.verdicts.Verdict.{Verdict}
 use Rattle.zi_store.specs.declared.verdicts.Verdict.TheVariants as verdict
-use Rattle.zi_store.specs.Keeping.{Keeps, is_names, is_reading}
+use Rattle.zi_store.specs.Keeping.{Keeps}
 use Rattle.zi_store.specs.TreeAnswers.{ReadsTree}
 use Rattle.zi_store.specs.FileAnswers.{file_at, ReadsFile}
 use Rattle.zi_store.specs.Walking.{passed}
 use Rattle.zi_store.specs.Verdicts.{Verifies}
 use Rattle.zi_app.specs.declared.outcome.Outcome.{Outcome}
-use Rattle.zi_app.specs.declared.outcome.Outcome.TheVariants.{Done, Usage, FeedRead, NoRootFeed, BadFeed, FeedTooLong, TooManyFeeds, TooManyInterfaces, TooManyCandidates, NoFile, Overlap, Mismatch, MissingTree, DamagedTree, BadName, TreeTooLarge, StoreFault, Crowded, Unwritable, SinkFault, Memory, Unbuilt}
 use Rattle.zi_app.specs.declared.difference.Difference.{Difference}
 use Rattle.zi_app.specs.declared.difference.Difference.TheVariants.{NoManifest, Agrees, FirstIn}
-use Rattle.zi_app.specs.declared.checked.Checked.{Checked}
-use Rattle.zi_app.specs.declared.checked.Checked.TheVariants as checked
-use Rattle.zi_app.specs.Writing.{Writes}
-use Rattle.zi_app.specs.Shelves.{Shelving, Held, FailsAt}
-use Rattle.zi_app.specs.StoreCommands.{name_line, names_text, AreStored, Lists, manifest_text, HasNoTree, Shows, Manifests, manifest_limit, HasOwnManifest, HasDigest, HasComputed, Compares, DiffersBy, difference_text, ChecksAs, Blames, TellsCheck, Verifying}
-
--- nothing of a text is a front of it
-pub nothing_put : (old : Option (List ℕ)) (text : List ℕ) → GainsFront old text old
-nothing_put None text = (0, refl)
-nothing_put (Some bytes) text = (0, ap (λ x. Some x) (sym (append-nil bytes)))
-
-pub still_front : (old : Option (List ℕ)) (text : List ℕ) (new : Option (List ℕ)) → new ≡ old → GainsFront old text new
-still_front old text new e = subst (λ x. GainsFront old text x) (sym e) (nothing_put old text)
-
--- the whole of a text is a front of it
-pub whole_front : (old : Option (List ℕ)) (text : List ℕ) (new : Option (List ℕ)) → new ≡ gained old text → GainsFront old text new
-whole_front old text new e = (length text, e ∙ ap (gained old) (sym (take_all (length text) text (omega arith))))
-
-pub ruleset writing = (nothing_put)
-
--- what is left where memory is refused after all
-
-pub writes_memory : (text : List ℕ) (o p : ℕ) (old new : Option (List ℕ)) (outcome : Outcome) → Writes text o p old new outcome → GainsFront old text new
-writes_memory text o p old new Done w = whole_front old text new w
-writes_memory text o p old new (Usage index) r = absurd r
-writes_memory text o p old new (FeedRead uri) r = absurd r
-writes_memory text o p old new NoRootFeed r = absurd r
-writes_memory text o p old new (BadFeed uri fault) r = absurd r
-writes_memory text o p old new (FeedTooLong uri limit) r = absurd r
-writes_memory text o p old new (TooManyFeeds limit) r = absurd r
-writes_memory text o p old new (TooManyInterfaces limit) r = absurd r
-writes_memory text o p old new (TooManyCandidates limit) r = absurd r
-writes_memory text o p old new (NoFile bad) r = absurd r
-writes_memory text o p old new (Overlap path) r = absurd r
-writes_memory text o p old new (Mismatch bad other) r = absurd r
-writes_memory text o p old new (MissingTree bad) r = absurd r
-writes_memory text o p old new (DamagedTree bad other) r = absurd r
-writes_memory text o p old new (BadName path) r = absurd r
-writes_memory text o p old new (TreeTooLarge what limit) r = absurd r
-writes_memory text o p old new (StoreFault bad) r = absurd r
-writes_memory text o p old new (Crowded tried) r = absurd r
-writes_memory text o p old new (Unwritable place) r = absurd r
-writes_memory text o p old new SinkFault w = w.1
-writes_memory text o p old new Memory w = w
-writes_memory text o p old new Unbuilt r = absurd r
-
-pub fails_memory : (top : Name) (k : Shelving) (old new : Option (List ℕ)) (outcome : Outcome) → FailsAt top k old new outcome → new ≡ old
-fails_memory top k old new Done r = absurd r
-fails_memory top k old new (Usage index) r = absurd r
-fails_memory top k old new (FeedRead uri) r = absurd r
-fails_memory top k old new NoRootFeed r = absurd r
-fails_memory top k old new (BadFeed uri fault) r = absurd r
-fails_memory top k old new (FeedTooLong uri limit) r = absurd r
-fails_memory top k old new (TooManyFeeds limit) r = absurd r
-fails_memory top k old new (TooManyInterfaces limit) r = absurd r
-fails_memory top k old new (TooManyCandidates limit) r = absurd r
-fails_memory top k old new (NoFile bad) r = absurd r
-fails_memory top k old new (Overlap path) r = absurd r
-fails_memory top k old new (Mismatch bad other) r = absurd r
-fails_memory top k old new (MissingTree bad) r = absurd r
-fails_memory top k old new (DamagedTree bad other) r = absurd r
-fails_memory top k old new (BadName path) r = absurd r
-fails_memory top k old new (TreeTooLarge what limit) r = absurd r
-fails_memory top k old new (StoreFault bad) r = r.2
-fails_memory top k old new (Crowded tried) r = absurd r
-fails_memory top k old new (Unwritable place) r = absurd r
-fails_memory top k old new SinkFault r = absurd r
-fails_memory top k old new Memory r = r
-fails_memory top k old new Unbuilt r = absurd r
-
-pub lists_memory : (k : Shelving) (o p : ℕ) (old new : Option (List ℕ)) (outcome : Outcome) → Lists k o p old new outcome → Lists k o p old new Memory
-lists_memory k o p old new outcome (inl fails) = inl (fails_memory [] k old new outcome fails)
-lists_memory k o p old new outcome (inr (names, are, w)) = inr (names, are, writes_memory (names_text names) o p old new outcome w)
-
-no_tree_memory : (k : Shelving) (top : Name) (old new : Option (List ℕ)) (outcome : Outcome) → HasNoTree k top old new outcome → new ≡ old
-no_tree_memory k top old new Done r = absurd r
-no_tree_memory k top old new (Usage index) r = absurd r
-no_tree_memory k top old new (FeedRead uri) r = absurd r
-no_tree_memory k top old new NoRootFeed r = absurd r
-no_tree_memory k top old new (BadFeed uri fault) r = absurd r
-no_tree_memory k top old new (FeedTooLong uri limit) r = absurd r
-no_tree_memory k top old new (TooManyFeeds limit) r = absurd r
-no_tree_memory k top old new (TooManyInterfaces limit) r = absurd r
-no_tree_memory k top old new (TooManyCandidates limit) r = absurd r
-no_tree_memory k top old new (NoFile bad) r = absurd r
-no_tree_memory k top old new (Overlap path) r = absurd r
-no_tree_memory k top old new (Mismatch bad other) r = absurd r
-no_tree_memory k top old new (MissingTree bad) r = r.2
-no_tree_memory k top old new (DamagedTree bad other) r = absurd r
-no_tree_memory k top old new (BadName path) r = absurd r
-no_tree_memory k top old new (TreeTooLarge what limit) r = r.1
-no_tree_memory k top old new (StoreFault bad) r = absurd r
-no_tree_memory k top old new (Crowded tried) r = absurd r
-no_tree_memory k top old new (Unwritable place) r = absurd r
-no_tree_memory k top old new SinkFault r = absurd r
-no_tree_memory k top old new Memory r = absurd r
-no_tree_memory k top old new Unbuilt r = absurd r
-
-shows_memory : (a : Algorithm) (d : Dir) (o p : ℕ) (old new : Option (List ℕ)) (outcome : Outcome) → Shows a d o p old new outcome → GainsFront old (manifest_text a d) new
-shows_memory a d o p old new Done r = whole_front old (manifest_text a d) new r.1
-shows_memory a d o p old new (Usage index) r = absurd r.1
-shows_memory a d o p old new (FeedRead uri) r = absurd r.1
-shows_memory a d o p old new NoRootFeed r = absurd r.1
-shows_memory a d o p old new (BadFeed uri fault) r = absurd r.1
-shows_memory a d o p old new (FeedTooLong uri limit) r = absurd r.1
-shows_memory a d o p old new (TooManyFeeds limit) r = absurd r.1
-shows_memory a d o p old new (TooManyInterfaces limit) r = absurd r.1
-shows_memory a d o p old new (TooManyCandidates limit) r = absurd r.1
-shows_memory a d o p old new (NoFile bad) r = absurd r.1
-shows_memory a d o p old new (Overlap path) r = absurd r.1
-shows_memory a d o p old new (Mismatch bad other) r = absurd r.1
-shows_memory a d o p old new (MissingTree bad) r = absurd r.1
-shows_memory a d o p old new (DamagedTree bad other) r = absurd r.1
-shows_memory a d o p old new (BadName path) r = still_front old (manifest_text a d) new r.1
-shows_memory a d o p old new (TreeTooLarge what limit) r = absurd r.1
-shows_memory a d o p old new (StoreFault bad) r = absurd r.1
-shows_memory a d o p old new (Crowded tried) r = absurd r.1
-shows_memory a d o p old new (Unwritable place) r = absurd r.1
-shows_memory a d o p old new SinkFault r = r.1.1
-shows_memory a d o p old new Memory r = r
-shows_memory a d o p old new Unbuilt r = absurd r.1
-
-pub manifests_memory : (a : Algorithm) (top : Name) (k : Shelving) (o p : ℕ) (old new : Option (List ℕ)) (outcome : Outcome) → Manifests a top k o p old new outcome → Manifests a top k o p old new Memory
-manifests_memory a top k o p old new outcome (inl fails) = inl (fails_memory top k old new outcome fails)
-manifests_memory a top k o p old new outcome (inr (inl none)) = inl (no_tree_memory k top old new outcome none)
-manifests_memory a top k o p old new outcome (inr (inr (d, is, shows))) = inr (inr (d, is, shows_memory a d o p old new outcome shows))
-
-pub manifests_usage : (a : Algorithm) (top : Name) (k : Shelving) (o p : ℕ) (old new : Option (List ℕ)) (index : ℕ) → Manifests a top k o p old new (Usage index) → ⊥
-manifests_usage a top k o p old new index (inl r) = r
-manifests_usage a top k o p old new index (inr (inl r)) = r
-manifests_usage a top k o p old new index (inr (inr (d, is, shows))) = shows.1
-
-blames_memory : (name found line : List ℕ) (o p : ℕ) (old new : Option (List ℕ)) (outcome : Outcome) → Blames name found line o p old new outcome → GainsFront old line new
-blames_memory name found line o p old new Done r = absurd r
-blames_memory name found line o p old new (Usage index) r = absurd r
-blames_memory name found line o p old new (FeedRead uri) r = absurd r
-blames_memory name found line o p old new NoRootFeed r = absurd r
-blames_memory name found line o p old new (BadFeed uri fault) r = absurd r
-blames_memory name found line o p old new (FeedTooLong uri limit) r = absurd r
-blames_memory name found line o p old new (TooManyFeeds limit) r = absurd r
-blames_memory name found line o p old new (TooManyInterfaces limit) r = absurd r
-blames_memory name found line o p old new (TooManyCandidates limit) r = absurd r
-blames_memory name found line o p old new (NoFile bad) r = absurd r
-blames_memory name found line o p old new (Overlap path) r = absurd r
-blames_memory name found line o p old new (Mismatch bad other) r = absurd r
-blames_memory name found line o p old new (MissingTree bad) r = absurd r
-blames_memory name found line o p old new (DamagedTree bad other) r = whole_front old line new r.2
-blames_memory name found line o p old new (BadName path) r = absurd r
-blames_memory name found line o p old new (TreeTooLarge what limit) r = absurd r
-blames_memory name found line o p old new (StoreFault bad) r = absurd r
-blames_memory name found line o p old new (Crowded tried) r = absurd r
-blames_memory name found line o p old new (Unwritable place) r = absurd r
-blames_memory name found line o p old new SinkFault r = r.1
-blames_memory name found line o p old new Memory r = r
-blames_memory name found line o p old new Unbuilt r = absurd r
-
-tells_memory : (name : DigestName) (k : Shelving) (c : Checked) (o p : ℕ) (old new : Option (List ℕ)) (outcome : Outcome) → Held k (λ s. ChecksAs name c s)
-    → TellsCheck name c o p old new outcome → Verifying name k o p old new Memory
-tells_memory name k checked.Sound o p old new outcome held t = inr (checked.Sound, held, writes_memory (codes "sound\n") o p old new outcome t)
-tells_memory name k (checked.Damaged found difference) o p old new outcome held t =
-    inr (checked.Damaged found difference, held, blames_memory (spelling name) (spelling found) (difference_text difference) o p old new outcome t)
-tells_memory name k checked.Missing o p old new outcome held t = inl t.1
-tells_memory name k (checked.BadName path) o p old new outcome held t = inl t.1
-tells_memory name k (checked.TooLarge what limit) o p old new outcome held t = inl t.1
-
-pub verifying_memory : (name : DigestName) (k : Shelving) (o p : ℕ) (old new : Option (List ℕ)) (outcome : Outcome) → Verifying name k o p old new outcome → Verifying name k o p old new Memory
-verifying_memory name k o p old new outcome (inl fails) = inl (fails_memory (spelling name) k old new outcome fails)
-verifying_memory name k o p old new outcome (inr (c, held, t)) = tells_memory name k c o p old new outcome held t
-
-tells_usage : (name : DigestName) (c : Checked) (o p : ℕ) (old new : Option (List ℕ)) (index : ℕ) → TellsCheck name c o p old new (Usage index) → ⊥
-tells_usage name checked.Sound o p old new index t = t
-tells_usage name (checked.Damaged found difference) o p old new index t = t
-tells_usage name checked.Missing o p old new index (e, same) = (cc)
-tells_usage name (checked.BadName path) o p old new index (e, same) = (cc)
-tells_usage name (checked.TooLarge what limit) o p old new index (e, same) = (cc)
-
-pub verifying_usage : (name : DigestName) (k : Shelving) (o p : ℕ) (old new : Option (List ℕ)) (index : ℕ) → Verifying name k o p old new (Usage index) → ⊥
-verifying_usage name k o p old new index (inl r) = r
-verifying_usage name k o p old new index (inr (c, held, t)) = tells_usage name c o p old new index t
-
--- `store list`
-
-pub listed : (k : Shelving) (names : List DigestName) (o p : ℕ) (old new : Option (List ℕ)) (outcome : Outcome) → AreStored k names → Writes (names_text names) o p old new outcome
-    → Lists k o p old new outcome
-listed k names o p old new outcome stored w = inr (names, stored, w)
-
-pub ruleset listing = (listed)
-
--- `manifest`
+use Rattle.zi_app.specs.Shelves.{Held}
+use Rattle.zi_app.specs.Writing.{Prints}
+use Rattle.zi_app.specs.StoreList.{name_line}
+use Rattle.zi_app.specs.ManifestCommand.{Shows}
+use Rattle.zi_app.specs.StoreVerify.{manifest_limit, HasOwnManifest, HasDigest, HasComputed, Compares, DiffersBy}
 
 file_twice : (n b : List ℕ) (e : Bool) (t : ℤ) (rest : Dir) (test : Bool) → bytes_eq n own_name ≡ test → as_read (as_read rest) ≡ as_read rest
     → as_read (as_read (AFile n b e t rest)) ≡ as_read (AFile n b e t rest)
@@ -236,36 +48,10 @@ as_read_twice (AFile n b e t rest) = file_twice n b e t rest (bytes_eq n own_nam
 as_read_twice (ALink n t rest) = ap (λ d. ALink n t d) (as_read_twice rest)
 as_read_twice (AFolder n inside rest) = ap (λ d. AFolder n inside d) (as_read_twice rest)
 
--- the text of a tree was written
-pub shown : (a : Algorithm) (d : Dir) (text : List ℕ) (o p : ℕ) (old new : Option (List ℕ)) (outcome : Outcome) → HasManifest d → text ≡ manifest a d
-    → Writes (text ++ name_line (name_of a text)) o p old new outcome → Shows a d o p old new outcome
-shown a d text o p old new outcome good e w = shown_as a d o p old new outcome good (subst (λ t. Writes (t ++ name_line (name_of a t)) o p old new outcome) e w)
-  where
-    shown_as : (a : Algorithm) (d : Dir) (o p : ℕ) (old new : Option (List ℕ)) (outcome : Outcome) → HasManifest d → Writes (manifest_text a d) o p old new outcome → Shows a d o p old new outcome
-    shown_as a d o p old new Done g w = (g, w)
-    shown_as a d o p old new (Usage index) g r = absurd r
-    shown_as a d o p old new (FeedRead uri) g r = absurd r
-    shown_as a d o p old new NoRootFeed g r = absurd r
-    shown_as a d o p old new (BadFeed uri fault) g r = absurd r
-    shown_as a d o p old new (FeedTooLong uri limit) g r = absurd r
-    shown_as a d o p old new (TooManyFeeds limit) g r = absurd r
-    shown_as a d o p old new (TooManyInterfaces limit) g r = absurd r
-    shown_as a d o p old new (TooManyCandidates limit) g r = absurd r
-    shown_as a d o p old new (NoFile bad) g r = absurd r
-    shown_as a d o p old new (Overlap path) g r = absurd r
-    shown_as a d o p old new (Mismatch bad other) g r = absurd r
-    shown_as a d o p old new (MissingTree bad) g r = absurd r
-    shown_as a d o p old new (DamagedTree bad other) g r = absurd r
-    shown_as a d o p old new (BadName path) g r = absurd r
-    shown_as a d o p old new (TreeTooLarge what limit) g r = absurd r
-    shown_as a d o p old new (StoreFault bad) g r = absurd r
-    shown_as a d o p old new (Crowded tried) g r = absurd r
-    shown_as a d o p old new (Unwritable place) g r = absurd r
-    shown_as a d o p old new SinkFault g w = (g, w)
-    shown_as a d o p old new Memory g w = w
-    shown_as a d o p old new Unbuilt g r = absurd r
-
-pub ruleset showing = (shown, nothing_put)
+-- the text of a tree was printed
+pub shown : (a : Algorithm) (d : Dir) (text : List ℕ) (old new : Sinking) (outcome : Outcome) → HasManifest d → text ≡ manifest a d
+    → Prints (text ++ name_line (name_of a text)) old new outcome → Shows a d old new outcome
+shown a d text old new outcome good e w = inl (good, subst (λ t. Prints (t ++ name_line (name_of a t)) old new outcome) e w)
 
 pub tree_at : (top spelled : Name) (s : Shelved Dir) (d : Dir) (r : Result TreeRead ShelfFault) → r ≡ Ok (read.Read d) → spelled ≡ top → ReadsTree spelled r s → ReadsTree top (Ok (read.Read d)) s
 tree_at top spelled s d r at_r at_top reads = subst (λ x. ReadsTree x (Ok (read.Read d)) s) at_top (subst (λ x. ReadsTree spelled x s) at_r reads)
@@ -277,8 +63,6 @@ pub large_at : (top spelled : Name) (s : Shelved Dir) (what : TreeLimit) (limit 
     → ReadsTree top (Ok (read.TooLarge what limit)) s
 large_at top spelled s what limit r t at_r at_t at_top reads =
     subst (λ x. ReadsTree x (Ok (read.TooLarge what limit)) s) at_top (subst (λ x. ReadsTree spelled (Ok x) s) at_t (subst (λ x. ReadsTree spelled x s) at_r reads))
-
-pub ruleset reading = (nothing_put)
 
 -- `store verify`
 
@@ -372,16 +156,16 @@ pub against_none : {P : Type 0} (a : Algorithm) (top : Name) (s : Shelved Dir) {
 against_none a top s e is = absurd (subst (λ x. IfOk x (λ text. MatchOption text ⊥ (λ text. HasComputed a top s text))) e is)
 
 -- what a later call that reads answers of the same shelf
-pub held_later : {kinds : CallKind → Bool} {h0 h1 : Type 0} {t0 t1 : Option Told} {f0 f1 : ℕ} {s0 s1 : Type 0} {p0 p1 : Name} {q0 q1 : List ℕ} (P Q : Shelved Dir → Type 0)
-    → Keeps kinds h0 h1 t0 t1 f0 f1 s0 s1 p0 p1 q0 q1 → ((t : Told) → h1 → t1 ≡ Some t → P t.shelf → Q t.shelf) → (s : Told) → h0 → t0 ≡ Some s → P s.shelf → Q s.shelf
-held_later P Q keeps f s h e p =
+pub held_later : (kinds : CallKind → Bool) (before after : Shelving) (P Q : Shelved Dir → Type 0) → Keeps kinds before after → Held after (λ s. P s → Q s)
+    → (s : Told) → before.honest → before.told ≡ Some s → P s.shelf → Q s.shelf
+held_later kinds before after P Q keeps f s h e p =
     let m = keeps.holds s h e in
-    subst Q m.2 (f m.0 (keeps.honest h) m.1 (subst P (sym m.2) p))
+    subst Q m.2 (f m.0 (keeps.stays.honest h) m.1 (subst P (sym m.2) p))
 
 -- the same of two facts
-pub two_later : {kinds : CallKind → Bool} {h0 h1 : Type 0} {t0 t1 : Option Told} {f0 f1 : ℕ} {s0 s1 : Type 0} {p0 p1 : Name} {q0 q1 : List ℕ} (P Q R : Shelved Dir → Type 0)
-    → Keeps kinds h0 h1 t0 t1 f0 f1 s0 s1 p0 p1 q0 q1 → ((t : Told) → h1 → t1 ≡ Some t → P t.shelf → Q t.shelf → R t.shelf) → (s : Told) → h0 → t0 ≡ Some s → P s.shelf → Q s.shelf → R s.shelf
-two_later P Q R keeps f s h e p q = held_later (λ x. P x × Q x) R keeps (λ t g i b. f t g i b.0 b.1) s h e (p, q)
+pub two_later : (kinds : CallKind → Bool) (before after : Shelving) (P Q R : Shelved Dir → Type 0) → Keeps kinds before after → Held after (λ s. P s → Q s → R s)
+    → (s : Told) → before.honest → before.told ≡ Some s → P s.shelf → Q s.shelf → R s.shelf
+two_later kinds before after P Q R keeps f s h e p q = held_later kinds before after (λ x. P x × Q x) R keeps (λ t g i b. f t g i b.0 b.1) s h e (p, q)
 
 pub damaged_told : (name found : DigestName) (s : Shelved Dir) (r : Result Verdict ShelfFault) → r ≡ Ok (verdict.Damaged found) → Verifies name r s → Verifies name (Ok (verdict.Damaged found)) s
 damaged_told name found s r e v = subst (λ x. Verifies name x s) e v
@@ -399,45 +183,12 @@ pub large_told : (name : DigestName) (what : TreeLimit) (limit : ℕ) (s : Shelv
     → Verifies name (Ok (verdict.TooLarge what limit)) s
 large_told name what limit s r e v = subst (λ x. Verifies name x s) e v
 
-pub verified : (name : DigestName) (k : Shelving) (c : Checked) (o p : ℕ) (old new : Option (List ℕ)) (outcome : Outcome) → Held k (λ s. ChecksAs name c s)
-    → TellsCheck name c o p old new outcome → Verifying name k o p old new outcome
-verified name k c o p old new outcome held t = inr (c, held, t)
+-- how a call of the store answered
+pub failed : {T : Type 0} (f : ShelfFault) → f ≡ fault.Failed → ◌≡◌ {A = Result T ShelfFault} (Err f) (Err fault.Failed)
+failed f e = ap (λ x. Err x) e
 
-pub ruleset checking = (verified)
+pub not_failed : {T : Type 0} (f : ShelfFault) → f ≡ fault.Memory → ◌≡◌ {A = Result T ShelfFault} (Err f) (Err fault.Failed) → ⊥
+not_failed f is e = cc
 
--- what is left of the shelf
-
-reading_of : (c : CallKind) → is_names c ≡ true → is_reading c ≡ true
-reading_of kind.Names e = refl
-reading_of kind.Entries e = refl
-reading_of kind.Read e = refl
-reading_of kind.Target e = refl
-reading_of kind.MakeTop e = e
-reading_of kind.MakeFolder e = e
-reading_of kind.Append e = e
-reading_of kind.FinishFile e = e
-reading_of kind.MakeLink e = e
-reading_of kind.Settle e = e
-reading_of kind.Rename e = e
-reading_of kind.SettleTop e = e
-reading_of kind.RemoveTop e = e
-
-all_reading : (cs : List ShelfCall) → list_all (λ (c : ShelfCall). is_names c.kind) cs ≡ true → list_all (λ (c : ShelfCall). is_reading c.kind) cs ≡ true
-all_reading [] e = refl
-all_reading (c ∷ cs) e =
-    let parts : (is_names c.kind ≡ true) × (list_all (λ (c : ShelfCall). is_names c.kind) cs ≡ true) = and_parts (is_names c.kind) (list_all (λ (c : ShelfCall). is_names c.kind) cs) e in
-    rw (reading_of c.kind parts.0) (all_reading cs parts.1)
-
--- a call that asks for the names reads
-pub names_read : {h0 h1 : Type 0} {t0 t1 : Option Told} {f0 f1 : ℕ} {s0 s1 : Type 0} {p0 p1 : Name} {q0 q1 : List ℕ}
-    → Keeps is_names h0 h1 t0 t1 f0 f1 s0 s1 p0 p1 q0 q1 → Keeps is_reading h0 h1 t0 t1 f0 f1 s0 s1 p0 p1 q0 q1
-names_read keeps = record {
-  holds = λ s h e.
-      let m = keeps.holds s h e in
-      (m.0, m.1, m.2, record { more = m.3.more; is = m.3.is; of_kind = all_reading m.3.more m.3.of_kind });
-  honest = keeps.honest;
-  later = keeps.later;
-  sure = keeps.sure;
-  place = keeps.place;
-  plan = keeps.plan;
-}
+pub answered : {T : Type 0} (x : T) → ◌≡◌ {A = Result T ShelfFault} (Ok x) (Err fault.Failed) → ⊥
+answered x e = cc

@@ -1,51 +1,68 @@
 -- What `store add` does, by its outcome.
-use Rattle.std.specs.Prelude.{◌≡◌, ◌≢◌, ℕ, ◌⊎◌, List, [], codes, Option, Some, None}
+use Rattle.std.specs.Prelude.{◌≡◌, ◌≢◌, ◌≤◌, ℕ, ◌⊎◌, List, [], codes, Option, Some, None}
 use Rattle.zi_digest.specs.declared.DigestName.{DigestName}
 use Rattle.zi_digest.specs.Name.{spelling, algorithm_of}
-use Rattle.zi_outside.specs.Count.{Rose}
-use Rattle.zi_outside.specs.Outside.{Holding, gained, GainsFront}
+use Rattle.zi_outside.specs.Views.{Feeding, Sinking}
+use Rattle.zi_outside.specs.Outside.{Writes, WritesFront}
 use Rattle.zi_tree.specs.Dir.{Dir}
 use Rattle.zi_manifest.specs.Manifest.{first_bad, digest_of}
 use Rattle.zi_shelf.specs.Names.{Name}
 use Rattle.zi_shelf.specs.Shelved.{Top}
+use Rattle.zi_shelf.specs.Shelving.{Shelving, Stays}
 use Rattle.zi_shelf.specs.Told.{Told}
-use Rattle.zi_session.specs.Machine.{Phase, Making}
-use Rattle.zi_session.specs.Places.{tmp_name}
+use Rattle.zi_session.specs.Machine.{Making}
+use Rattle.zi_session.specs.Phases.{blamed_name}
+use Rattle.zi_session.specs.Standing.{Standing}
 use Rattle.zi_session.specs.StoreRules.{IsDigestName}
 use Rattle.zi_session.specs.StoreWorks.{store_works}
-use Rattle.zi_session.specs.Stepping.{IsRun, HasGone}
+use Rattle.zi_session.specs.Stepping.{IsRun}
 use Rattle.zi_session.specs.Alone.{EndsAlone}
 use Rattle.zi_session.specs.declared.step.Step.{Step}
 use Rattle.zi_session.specs.declared.step.Step.TheVariants as step
 use Rattle.zi_words.specs.Forms.{Word}
-use Rattle.zi_app.specs.Shelves.{HasFailed}
-use Rattle.zi_app.specs.Gathering.{Gathers, IsUnread, IsAbsent, IsTooLong, IsTwice, IsTooLarge}
+use Rattle.zi_app.specs.Shelves.{Untouched, Lasts, ShelfFailed}
+use Rattle.zi_app.specs.Writing.{StopsShort}
+use Rattle.zi_app.specs.Asking.{FeedsStay}
+use Rattle.zi_app.specs.World.{World, NothingWritten}
+use Rattle.zi_app.specs.Gathering.{Gathers, IsUnread, IsAbsent, IsTooLong, IsTwice, IsTooLarge, GetsSome}
 use Rattle.zi_app.specs.declared.outcome.Outcome.{Outcome}
 use Rattle.zi_app.specs.declared.outcome.Outcome.TheVariants.{Done, FeedRead, FeedTooLong, NoFile, Overlap, TreeTooLarge, BadName, Mismatch, Crowded, StoreFault, SinkFault, Memory}
 
 -- d is the tree of the files, no name in it is bad, and its digest is the name
-pub record IsToAdd (told : Option Holding) (files : List Word) (name : DigestName) (d : Dir) : Type 0 where
-  pub gathers : Gathers told files d
+pub record IsToAdd (name : DigestName) (files : List Word) (before after : Feeding) (d : Dir) : Type 0 where
+  pub gathers : Gathers files before after d
   pub right : first_bad d ≡ None
   pub named : digest_of (algorithm_of name) d ≡ name
 
+-- a session of this name and tree before its first call
+abbrev pub beginning : DigestName → Dir → Standing
+beginning name d = record { name = spelling name; works = store_works (spelling name) d; phase = Making 0; residue = None }
+
+-- a fault is answered where the shelf failed, and any other answer where no call of it did
+abbrev pub Costs : Step → Shelving → Shelving → Type 0
+Costs (step.Fault tmp) before after = ShelfFailed before after
+Costs other before after = after.faults ≡ before.faults
+
 -- One session added this tree under this name. Its steps, one after the other, are all that was done to the shelf, and the last
--- of them answered this. An honest shelf that told what it held tells it at the end, and that is what the session made of it.
-pub record HasRun (honest : Type 0) (name : DigestName) (d : Dir) (before after : Option Told) (answer : Step) : Type 0 where
-  pub end : Phase
-  pub left : Option ℕ
-  pub steps : IsRun honest (spelling name) (store_works (spelling name) d) (Making 0) before end after answer
-  pub goes : HasGone (store_works (spelling name) d) (Making 0) None end left answer
-  pub alone : (s : Told) → honest → before ≡ Some s → (t : Told) × (after ≡ Some t) × EndsAlone (spelling name) d s answer t
+-- of them answered this.
+pub record HasRun (name : DigestName) (d : Dir) (before after : Shelving) (answer : Step) : Type 0 where
+  pub end : Standing
+  pub steps : IsRun (beginning name d) before answer end after
+  pub cost : Costs answer before after
+  pub later : before.faults ≤ after.faults
+  -- an honest shelf that told what it held tells it at the end, and that is what the session made of it
+  pub alone : (s : Told) → before.honest → before.told ≡ Some s → (t : Told) × (after.told ≡ Some t) × EndsAlone (spelling name) d s answer t
+  pub stays : Stays before after
 
--- what a stopped command names: the temporary name of the call that failed, or nothing where the call named none
-abbrev pub blamed : Option ℕ → List ℕ
-blamed None = []
-blamed (Some n) = tmp_name n
+-- the tree of the files was tried under the name, to this answer
+pub record Tries (name : DigestName) (files : List Word) (before after : World) (answer : Step) : Type 0 where
+  pub tree : Dir
+  pub right : IsToAdd name files before.feeds after.feeds tree
+  pub run : HasRun name tree before.shelf after.shelf answer
 
--- the shelf and the output are as they were: what the shelf tells, its count of faults, and what was written
-abbrev pub IsUntouched : Option Told → Option Told → ℕ → ℕ → Option (List ℕ) → Option (List ℕ) → Type 0
-IsUntouched s t h k old new = (t ≡ s) × (k ≡ h) × (new ≡ old)
+-- no call of the shelf was made, and nothing was written
+abbrev pub AddsNothing : World → World → Type 0
+AddsNothing before after = Untouched before.shelf after.shelf × NothingWritten before after
 
 abbrev pub stored_line : List ℕ
 stored_line = codes "stored\n"
@@ -53,51 +70,56 @@ stored_line = codes "stored\n"
 abbrev pub present_line : List ℕ
 present_line = codes "present\n"
 
--- the tree that is to be added was tried under its name, to this answer
-abbrev pub Ends : DigestName → List Word → Option Holding → Type 0 → Option Told → Option Told → Step → Type 0
-Ends name files told honest s t answer = (d : Dir) × IsToAdd told files name d × HasRun honest name d s t answer
+-- what is written where memory is refused after a session's last answer
+abbrev pub EndsShort : Step → Sinking → Sinking → Type 0
+EndsShort step.Stored old new = StopsShort old stored_line new
+EndsShort step.Present old new = StopsShort old present_line new
+EndsShort step.Memory old new = new ≡ old
+EndsShort other old new = ⊥
 
--- what the output has gained at most
-abbrev pub Gains : Step → Option (List ℕ) → Option (List ℕ) → Type 0
-Gains step.Stored old new = GainsFront old stored_line new
-Gains step.Present old new = GainsFront old present_line new
-Gains other old new = new ≡ old
-
--- The outcomes of `store add`. told is what the feeds hold, f and g are their counts of faults before and after; honest says that the
--- shelf keeps the rules, and sure that it is sure; s and t are what it tells before and after, and h and k its counts; o and p are the
--- counts of the output, and old and new what was written to it.
-abbrev pub Adds : DigestName → List Word → Option Holding → (f g : ℕ) → (honest sure : Type 0) → (s t : Option Told) → (h k o p : ℕ) → (old new : Option (List ℕ)) → Outcome → Type 0
+-- the outcomes
+abbrev pub AddsTo : DigestName → List Word → World → World → Outcome → Type 0
 -- the tree was stored, or its name was there
-Adds name files told f g honest sure s t h k o p old new Done =
-    (Ends name files told honest s t step.Stored × (new ≡ gained old stored_line)) ⊎ (Ends name files told honest s t step.Present × (new ≡ gained old present_line))
+AddsTo name files before after Done =
+    (Tries name files before after step.Stored × Writes before.out stored_line after.out)
+    ⊎ (Tries name files before after step.Present × Writes before.out present_line after.out)
 -- the files are got in order, and the first that can't be got is told
-Adds name files told f g honest sure s t h k o p old new (FeedRead uri) = IsUnread told f g files uri × IsUntouched s t h k old new
-Adds name files told f g honest sure s t h k o p old new (NoFile file) = IsAbsent told files file × IsUntouched s t h k old new
-Adds name files told f g honest sure s t h k o p old new (FeedTooLong uri limit) = IsTooLong told files uri limit × IsUntouched s t h k old new
+AddsTo name files before after (FeedRead uri) = IsUnread files before.feeds after.feeds uri × AddsNothing before after
+AddsTo name files before after (NoFile file) = IsAbsent files before.feeds after.feeds file × AddsNothing before after
+AddsTo name files before after (FeedTooLong uri limit) = IsTooLong files before.feeds after.feeds uri limit × AddsNothing before after
 -- then two with one name, the size of all, and their number
-Adds name files told f g honest sure s t h k o p old new (Overlap path) = IsTwice told files path × IsUntouched s t h k old new
-Adds name files told f g honest sure s t h k o p old new (TreeTooLarge what limit) = IsTooLarge told files what limit × IsUntouched s t h k old new
+AddsTo name files before after (Overlap path) = IsTwice files before.feeds after.feeds path × AddsNothing before after
+AddsTo name files before after (TreeTooLarge what limit) = IsTooLarge files before.feeds after.feeds what limit × AddsNothing before after
 -- then the tree of them
-Adds name files told f g honest sure s t h k o p old new (BadName path) = (d : Dir) × Gathers told files d × (first_bad d ≡ Some path) × IsUntouched s t h k old new
-Adds name files told f g honest sure s t h k o p old new (Mismatch right found) =
-    (d : Dir) × Gathers told files d × (first_bad d ≡ None) × (digest_of (algorithm_of name) d ≢ name)
-    × (right ≡ spelling name) × (found ≡ spelling (digest_of (algorithm_of name) d)) × IsUntouched s t h k old new
+AddsTo name files before after (BadName path) =
+    (d : Dir) × Gathers files before.feeds after.feeds d × (first_bad d ≡ Some path) × AddsNothing before after
+AddsTo name files before after (Mismatch right found) =
+    (d : Dir) × Gathers files before.feeds after.feeds d × (first_bad d ≡ None) × (digest_of (algorithm_of name) d ≢ name)
+    × (right ≡ spelling name) × (found ≡ spelling (digest_of (algorithm_of name) d)) × AddsNothing before after
 -- every temporary name was there
-Adds name files told f g honest sure s t h k o p old new (Crowded tried) = (tried ≡ 10000) × Ends name files told honest s t (step.Crowded tried) × (new ≡ old)
--- the shelf failed
-Adds name files told f g honest sure s t h k o p old new (StoreFault blame) =
-    HasFailed sure h k × (new ≡ old) × ((tmp : Option ℕ) × (blame ≡ blamed tmp) × Ends name files told honest s t (step.Fault tmp))
+AddsTo name files before after (Crowded tried) = (tried ≡ 10000) × Tries name files before after (step.Crowded tried) × NothingWritten before after
+-- the shelf failed: the temporary name of that call is told, or nothing where it named none
+AddsTo name files before after (StoreFault blame) =
+    (tmp : Option ℕ) × (blame ≡ blamed_name tmp) × Tries name files before after (step.Fault tmp) × NothingWritten before after
 -- the tree was stored or its name was there, and the output failed
-Adds name files told f g honest sure s t h k o p old new SinkFault =
-    Rose o p × ((Ends name files told honest s t step.Stored × GainsFront old stored_line new) ⊎ (Ends name files told honest s t step.Present × GainsFront old present_line new))
--- memory may be refused at any place: before the tree is added, or after it was tried, with a front of what is written
-Adds name files told f g honest sure s t h k o p old new Memory =
-    IsUntouched s t h k old new ⊎ ((answer : Step) × Ends name files told honest s t answer × Gains answer old new)
-Adds name files told f g honest sure s t h k o p old new other = ⊥
+AddsTo name files before after SinkFault =
+    (Tries name files before after step.Stored × WritesFront before.out stored_line after.out)
+    ⊎ (Tries name files before after step.Present × WritesFront before.out present_line after.out)
+-- memory was refused before the tree was tried, or in a step that was then the last, or in the writing of the line
+AddsTo name files before after Memory =
+    (GetsSome files before.feeds after.feeds × AddsNothing before after)
+    ⊎ ((answer : Step) × Tries name files before after answer × EndsShort answer before.out after.out)
+AddsTo name files before after other = ⊥
 
--- Whatever the outcome, over an honest shelf that tells what it holds: a digest name that was there has what it had, and no digest
--- name but this one has come.
-pub record KeepsStored (honest : Type 0) (name : DigestName) (before after : Option Told) : Type 0 where
-  pub keeps : (s : Told) → honest → before ≡ Some s → (t : Told) × (after ≡ Some t)
+-- Over an honest shelf that tells what it holds: a digest name that was there has what it had, and no digest name but this one has come.
+pub record KeepsStored (name : DigestName) (before after : Shelving) : Type 0 where
+  pub keeps : (s : Told) → before.honest → before.told ≡ Some s → (t : Told) × (after.told ≡ Some t)
       × ((n : Name) (e : Top Dir) → IsDigestName n → s.shelf.tops n ≡ Some e → t.shelf.tops n ≡ Some e)
       × ((n : Name) → IsDigestName n → n ≢ spelling name → t.shelf.tops n ≡ s.shelf.tops n)
+
+-- Whatever the outcome, the stored trees are as before, but for one that may have come under the name.
+pub record Adds (name : DigestName) (files : List Word) (before after : World) (outcome : Outcome) : Type 0 where
+  pub ended : AddsTo name files before after outcome
+  pub feeds : FeedsStay before.feeds after.feeds
+  pub stored : KeepsStored name before.shelf after.shelf
+  pub shelf : Lasts before.shelf after.shelf

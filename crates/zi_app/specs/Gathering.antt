@@ -1,8 +1,9 @@
 -- The files of `store add`: what is got of them, and the tree that they make.
-use Rattle.std.specs.Prelude.{◌≡◌, ℕ, ◌<◌, ◌≤◌, Bool, true, false, not, ◌&&◌, List, [], ◌∷◌, take, length, map, sum, Option, Some, None, IfSome, IsSomeAnd, IsSome, Result, Ok, Err, bytes_eq, if◌then◌else◌, slice_get, pos}
+use Rattle.std.specs.Prelude.{◌≡◌, ℕ, ◌+◌, ◌<◌, ◌≤◌, ◌⊎◌, Bool, true, false, not, ◌&&◌, List, [], ◌∷◌, take, length, map, sum, Option, Some, None, IfSome, IsSomeAnd, IsSome, Result, Ok, Err, bytes_eq, if◌then◌else◌, slice_get, pos}
 use Rattle.std.specs.List.{list_any}
 use Rattle.zi_outside.specs.Count.{Rose}
-use Rattle.zi_outside.specs.Outside.{Holding}
+use Rattle.zi_outside.specs.Outside.{Asks}
+use Rattle.zi_outside.specs.Views.{Holding, Feeding, holding}
 use Rattle.zi_tree.specs.Dir.{Dir}
 use Rattle.zi_tree.specs.Order.{is_tree}
 use Rattle.zi_tree.specs.Paths.{items, node_in, placed}
@@ -46,6 +47,16 @@ AreParts told [] [] = Unit {0}
 AreParts told (f ∷ fs) (p ∷ ps) = IsPart told f p × AreParts told fs ps
 AreParts told files parts = ⊥
 
+-- these were asked for, in their order, and no call failed
+pub record AsksCalmly (files : List Word) (before after : Feeding) : Type 0 where
+  pub asked : Asks files before after
+  pub calm : after.faults ≡ before.faults
+
+-- all files were got, and these are their parts
+pub record GetsAll (files : List Word) (before after : Feeding) (parts : List Part) : Type 0 where
+  pub are : AreParts (holding before) files parts
+  pub asked : AsksCalmly files before after
+
 -- the names in the tree
 abbrev pub names_of : List Part → List (List ℕ)
 names_of parts = map part_name parts
@@ -80,66 +91,82 @@ pub record IsTreeOf (parts : List Part) (d : Dir) : Type 0 where
   pub holds : (n : List ℕ) → node_in n (items d) ≡ file_named n parts
 
 -- All files were got, no two have one last part, they are within the limits, and d is the tree of them.
-pub record Gathers (told : Option Holding) (files : List Word) (d : Dir) : Type 0 where
+pub record Gathers (files : List Word) (before after : Feeding) (d : Dir) : Type 0 where
   pub parts : List Part
-  pub got : AreParts told files parts
+  pub got : GetsAll files before after parts
   pub apart : are_apart (names_of parts) ≡ true
   pub small : sum (map part_size parts) ≤ size_limit
   pub few : length files ≤ nodes_limit
   pub tree : IsTreeOf parts d
 
--- the file is one of these, and all before it were got
-pub record Reaches (told : Option Holding) (files : List Word) (file : Word) : Type 0 where
+-- The file is one of these, all before it were got, and it was the last that was asked for.
+pub record Reaches (files : List Word) (before after : Feeding) (file : Word) : Type 0 where
   pub place : ℕ
   pub here : slice_get files place ≡ Some file
   pub parts : List Part
-  pub got : AreParts told (take place files) parts
+  pub got : AreParts (holding before) (take place files) parts
+  pub asked : Asks (take (place + 1) files) before after
 
--- Why there is no tree of the files. f and g are the feeds' counts of faults before and after.
-abbrev pub IsUnread : Option Holding → ℕ → ℕ → List Word → Word → Type 0
-IsUnread told f g files file = Reaches told files file × Rose f g
+-- Why there is no tree of the files.
 
-abbrev pub IsAbsent : Option Holding → List Word → Word → Type 0
-IsAbsent told files file = Reaches told files file × IfSome told (λ holds. holds file ≡ None)
+-- the feeds failed at this file
+abbrev pub IsUnread : List Word → Feeding → Feeding → Word → Type 0
+IsUnread files before after file = Reaches files before after file × Rose before.faults after.faults
 
-abbrev pub IsTooLong : Option Holding → List Word → Word → ℕ → Type 0
-IsTooLong told files file limit =
-    Reaches told files file × (limit ≡ file_limit) × IfSome told (λ holds. IsSomeAnd (holds file) (λ bytes. file_limit < length bytes))
+-- the feeds don't have this file
+abbrev pub IsAbsent : List Word → Feeding → Feeding → Word → Type 0
+IsAbsent files before after file =
+    Reaches files before after file × (after.faults ≡ before.faults) × IfSome (holding before) (λ holds. holds file ≡ None)
 
-abbrev pub IsTwice : Option Holding → List Word → List ℕ → Type 0
-IsTwice told files name = (parts : List Part) × AreParts told files parts × IsFirstTwice (names_of parts) name
+-- this file has more bytes than its limit
+abbrev pub IsTooLong : List Word → Feeding → Feeding → Word → ℕ → Type 0
+IsTooLong files before after file limit =
+    Reaches files before after file × (after.faults ≡ before.faults) × (limit ≡ file_limit)
+    × IfSome (holding before) (λ holds. IsSomeAnd (holds file) (λ bytes. file_limit < length bytes))
 
-abbrev pub IsTooLarge : Option Holding → List Word → TreeLimit → ℕ → Type 0
-IsTooLarge told files Size limit =
-    (parts : List Part) × AreParts told files parts × (are_apart (names_of parts) ≡ true) × (limit ≡ size_limit) × (size_limit < sum (map part_size parts))
-IsTooLarge told files Nodes limit =
-    (parts : List Part) × AreParts told files parts × (are_apart (names_of parts) ≡ true) × (sum (map part_size parts) ≤ size_limit)
+-- two files have this last part
+abbrev pub IsTwice : List Word → Feeding → Feeding → List ℕ → Type 0
+IsTwice files before after name = (parts : List Part) × GetsAll files before after parts × IsFirstTwice (names_of parts) name
+
+-- the tree passes this limit
+abbrev pub IsTooLarge : List Word → Feeding → Feeding → TreeLimit → ℕ → Type 0
+IsTooLarge files before after Size limit =
+    (parts : List Part) × GetsAll files before after parts × (are_apart (names_of parts) ≡ true) × (limit ≡ size_limit)
+    × (size_limit < sum (map part_size parts))
+IsTooLarge files before after Nodes limit =
+    (parts : List Part) × GetsAll files before after parts × (are_apart (names_of parts) ≡ true) × (sum (map part_size parts) ≤ size_limit)
     × (limit ≡ nodes_limit) × (nodes_limit < length files)
-IsTooLarge told files Depth limit = ⊥
+IsTooLarge files before after Depth limit = ⊥
 
-abbrev pub Refuses : Option Holding → ℕ → ℕ → List Word → GatherFault → Type 0
-Refuses told f g files (Read file) = IsUnread told f g files file
-Refuses told f g files (Absent file) = IsAbsent told files file
-Refuses told f g files (TooLong file limit) = IsTooLong told files file limit
-Refuses told f g files (Twice name) = IsTwice told files name
-Refuses told f g files (TooLarge what limit) = IsTooLarge told files what limit
-Refuses told f g files Memory = Unit {0}
+-- memory was refused: the first of the files were asked for, and no call failed
+abbrev pub GetsSome : List Word → Feeding → Feeding → Type 0
+GetsSome files before after = (n : ℕ) × AsksCalmly (take n files) before after
+
+abbrev pub Refuses : List Word → Feeding → Feeding → GatherFault → Type 0
+Refuses files before after (Read file) = IsUnread files before after file
+Refuses files before after (Absent file) = IsAbsent files before after file
+Refuses files before after (TooLong file limit) = IsTooLong files before after file limit
+Refuses files before after (Twice name) = IsTwice files before after name
+Refuses files before after (TooLarge what limit) = IsTooLarge files before after what limit
+Refuses files before after Memory = GetsSome files before after
 
 -- Parts of the work.
 
 -- what the get of one file gives
-abbrev pub GetsPart : Option Holding → ℕ → ℕ → Word → Result Part GatherFault → Type 0
-GetsPart told f g file (Ok p) = IsPart told file p
-GetsPart told f g file (Err (Read name)) = (name ≡ file) × Rose f g
-GetsPart told f g file (Err (Absent name)) = (name ≡ file) × IfSome told (λ holds. holds file ≡ None)
-GetsPart told f g file (Err (TooLong name limit)) = (name ≡ file) × (limit ≡ file_limit) × IfSome told (λ holds. IsSomeAnd (holds file) (λ bytes. file_limit < length bytes))
-GetsPart told f g file (Err Memory) = Unit {0}
-GetsPart told f g file (Err other) = ⊥
+abbrev pub GetsPart : Word → Feeding → Feeding → Result Part GatherFault → Type 0
+GetsPart file before after (Ok p) = IsPart (holding before) file p × AsksCalmly (file ∷ []) before after
+GetsPart file before after (Err (Read name)) = (name ≡ file) × Asks (file ∷ []) before after × Rose before.faults after.faults
+GetsPart file before after (Err (Absent name)) = (name ≡ file) × AsksCalmly (file ∷ []) before after × IfSome (holding before) (λ holds. holds file ≡ None)
+GetsPart file before after (Err (TooLong name limit)) =
+    (name ≡ file) × AsksCalmly (file ∷ []) before after × (limit ≡ file_limit)
+    × IfSome (holding before) (λ holds. IsSomeAnd (holds file) (λ bytes. file_limit < length bytes))
+GetsPart file before after (Err Memory) = (after ≡ before) ⊎ AsksCalmly (file ∷ []) before after
+GetsPart file before after (Err other) = ⊥
 
 -- what that of all gives
-abbrev pub GetsParts : Option Holding → ℕ → ℕ → List Word → Result (List Part) GatherFault → Type 0
-GetsParts told f g files (Ok parts) = AreParts told files parts
-GetsParts told f g files (Err fault) = Refuses told f g files fault
+abbrev pub GetsParts : List Word → Feeding → Feeding → Result (List Part) GatherFault → Type 0
+GetsParts files before after (Ok parts) = GetsAll files before after parts
+GetsParts files before after (Err fault) = Refuses files before after fault
 
 -- a part goes into a tree under its name, where that is free
 abbrev pub PutsPart : Part → Dir → Result (Unit {0}) GatherFault → Dir → Type 0

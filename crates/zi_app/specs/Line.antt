@@ -1,10 +1,9 @@
 -- The line on the error stream, and the exit code, of each outcome.
-use Rattle.std.specs.Prelude.{◌≡◌, ℕ, Option, Result, Ok, Err, List, [], ◌++◌, codes}
+use Rattle.std.specs.Prelude.{◌≡◌, ℕ, ◌⊎◌, List, [], ◌++◌, codes}
 use Rattle.std.specs.Fmt.{decimal}
-use Rattle.zi_outside.specs.Count.{Rose}
-use Rattle.zi_outside.specs.Outside.{gained, GainsFront}
-use Rattle.zi_outside.specs.declared.sink.SinkFault.{SinkFault as Refusal}
-use Rattle.zi_outside.specs.declared.sink.SinkFault.TheVariants as fault
+use Rattle.zi_outside.specs.Views.{Sinking}
+use Rattle.zi_outside.specs.Outside.{Writes, WritesFront}
+use Rattle.zi_app.specs.Writing.{StopsShort}
 use Rattle.zi_app.specs.declared.outcome.Outcome.{Outcome}
 use Rattle.zi_app.specs.declared.outcome.Outcome.TheVariants.{Done, Usage, FeedRead, NoRootFeed, BadFeed, FeedTooLong, TooManyFeeds, TooManyInterfaces, TooManyCandidates, NoFile, Overlap, Mismatch, MissingTree, DamagedTree, BadName, TreeTooLarge, StoreFault, Crowded, Unwritable, SinkFault, Memory, Unbuilt}
 use Rattle.zi_universe.specs.declared.fault.BadFeed.{BadFeed as Fault}
@@ -77,13 +76,9 @@ code_of SinkFault = 93
 code_of Memory = 94
 code_of Unbuilt = 95
 
--- what puts of a text piece by piece add: all of it, or after a fault a front of it
-abbrev pub PutsAll : {T : Type 0} → Option (List ℕ) → List ℕ → Result T Refusal → Option (List ℕ) → Type 0
-PutsAll old text (Ok x) new = new ≡ gained old text
-PutsAll old text (Err e) new = GainsFront old text new
-
--- putting pieces fails only where the count rose
-abbrev pub FailsWhereRose : {T : Type 0} → ℕ → Result T Refusal → ℕ → Type 0
-FailsWhereRose before (Ok x) after = Unit {0}
-FailsWhereRose before (Err fault.Failed) after = Rose before after
-FailsWhereRose before (Err fault.Memory) after = Unit {0}
+-- The line of how the work ended is told: whole, and that is the outcome; or err fails at a front of it, and that is the outcome
+-- all the same; or memory is refused at a front of it, and the outcome is Memory.
+abbrev pub Tells : Outcome → Sinking → Sinking → Outcome → Type 0
+Tells work before after outcome =
+    (Writes before (line_of work) after × (outcome ≡ work))
+    ⊎ ((WritesFront before (line_of work) after × (outcome ≡ work)) ⊎ (StopsShort before (line_of work) after × (outcome ≡ Memory)))

@@ -160,11 +160,9 @@ fn refusals_add_nothing(rt: HostRuntime) -> Result<(), Fail> {
 struct LongFeeds;
 
 impl Feeds for LongFeeds {
-    ghost use Rattle.std.specs.Prelude.{None};
+    ghost use Rattle.std.specs.Prelude.{None, []};
 
-    ghost holds = { λ _. None };
-
-    ghost faults = { λ _. 0 };
+    ghost seen = { λ _. record { told = None; faults = 0; plan = [] } };
 
     fn get(&mut self, _uri: &str, _limit: u64, _into: &mut Vec<u8>) -> Result<Got, FeedsFault> {
         Ok(Got::TooLong)

@@ -1,17 +1,20 @@
 //! The work of `store verify`.
-ghost use Rattle.std.specs.Prelude.{◌≡◌, ◌≤◌, ◌+◌, Ok, Err, Some, IfOk};
+ghost use Rattle.std.specs.Prelude.{◌≡◌, Ok, Err, IfOk};
 ghost use Rattle.zi_digest.specs.Name.{spelling};
-ghost use Rattle.zi_shelf.specs.Told.{Told, Rose};
+ghost use Rattle.zi_outside.specs.Views.{Feeding};
+ghost use Rattle.zi_shelf.specs.Told.{Rose};
 ghost use Rattle.zi_store.specs.Keeping.{Keeps, is_reading};
 ghost use Rattle.zi_store.specs.declared.verdicts.Verdict.TheVariants.{Damaged};
 ghost use Rattle.zi_store.specs.Verdicts.{Verifies};
-ghost use Rattle.zi_app.specs.Line.{PutsAll, FailsWhereRose};
-ghost use Rattle.zi_app.specs.StoreCommands.{ChecksAs, TellsCheck, Blames, Verifying, difference_text};
+ghost use Rattle.zi_app.specs.declared.outcome.Outcome.TheVariants.{DamagedTree};
+ghost use Rattle.zi_app.specs.Writing.{PutsAll, PrintsThen};
+ghost use Rattle.zi_app.specs.Shelves.{Held};
+ghost use Rattle.zi_app.specs.StoreVerify.{ChecksAs, TellsCheck, VerifiesTree, difference_text};
 
 use crate::Outcome;
 use crate::difference::{Difference, difference_of};
 use crate::line::put_around;
-use crate::select::put_text;
+use crate::writing::{put_piece, put_text};
 use std::alloc::Global;
 use zi_digest::DigestName;
 use zi_outside::{Sink, SinkFault};
@@ -49,15 +52,16 @@ fn damaged<K: Shelf>(
     name: &DigestName,
     found: DigestName,
     top: &str,
-    k: &mut K,
+    shelf: &mut K,
 ) -> Result<Checked, ShelfFault>
     requires { top.now ≡ spelling name.now }
-    ensures checks { (s : Told) → K.honest k.old → K.told k.old ≡ Some s → Verifies name.now (Ok (Damaged found)) s.shelf → IfOk result (λ c. ChecksAs name.now c s.shelf) }
-    ensures keeps { Keeps is_reading (K.honest k.old) (K.honest k.new) (K.told k.old) (K.told k.new) (K.faults k.old) (K.faults k.new) (K.sure k.old) (K.sure k.new) (K.place k.old) (K.place k.new) (K.plan k.old) (K.plan k.new) }
-    ensures cause { result ≡ Err ShelfFault.Failed → Rose (K.faults k.old) (K.faults k.new) }
-    ensures sure { K.sure k.old → result ≡ Err ShelfFault.Failed → ⊥ }
+    ensures checks { Held (K.seen shelf.old) (λ s. Verifies name.now (Ok (Damaged found)) s → IfOk result (λ c. ChecksAs name.now c s)) }
+    ensures keeps { Keeps is_reading (K.seen shelf.old) (K.seen shelf.new) }
+    ensures cause { result ≡ Err ShelfFault.Failed → Rose (K.seen shelf.old).faults (K.seen shelf.new).faults }
+    ensures count { (result ≡ Err ShelfFault.Failed → ⊥) → (K.seen shelf.new).faults ≡ (K.seen shelf.old).faults }
+    ensures sure { (K.seen shelf.old).sure → result ≡ Err ShelfFault.Failed → ⊥ }
 {
-    match difference_of(alloc, name.algorithm(), top, k) {
+    match difference_of(alloc, name.algorithm(), top, shelf) {
         Ok(difference) => Ok(Checked::Damaged { found, difference }),
         Err(fault) => Err(fault),
     }
@@ -68,16 +72,17 @@ fn check<K: Shelf>(
     alloc: Global,
     name: &DigestName,
     top: &str,
-    k: &mut K,
+    shelf: &mut K,
 ) -> Result<Checked, ShelfFault>
     requires { top.now ≡ spelling name.now }
-    ensures checks { (s : Told) → K.honest k.old → K.told k.old ≡ Some s → IfOk result (λ c. ChecksAs name.now c s.shelf) }
-    ensures keeps { Keeps is_reading (K.honest k.old) (K.honest k.new) (K.told k.old) (K.told k.new) (K.faults k.old) (K.faults k.new) (K.sure k.old) (K.sure k.new) (K.place k.old) (K.place k.new) (K.plan k.old) (K.plan k.new) }
-    ensures cause { result ≡ Err ShelfFault.Failed → Rose (K.faults k.old) (K.faults k.new) }
-    ensures sure { K.sure k.old → result ≡ Err ShelfFault.Failed → ⊥ }
+    ensures checks { Held (K.seen shelf.old) (λ s. IfOk result (λ c. ChecksAs name.now c s)) }
+    ensures keeps { Keeps is_reading (K.seen shelf.old) (K.seen shelf.new) }
+    ensures cause { result ≡ Err ShelfFault.Failed → Rose (K.seen shelf.old).faults (K.seen shelf.new).faults }
+    ensures count { (result ≡ Err ShelfFault.Failed → ⊥) → (K.seen shelf.new).faults ≡ (K.seen shelf.old).faults }
+    ensures sure { (K.seen shelf.old).sure → result ≡ Err ShelfFault.Failed → ⊥ }
 {
-    match verify(alloc, name, k) {
-        Ok(Verdict::Damaged { found }) => damaged(alloc, name, found, top, k),
+    match verify(alloc, name, shelf) {
+        Ok(Verdict::Damaged { found }) => damaged(alloc, name, found, top, shelf),
         Ok(Verdict::Sound) => Ok(Checked::Sound),
         Ok(Verdict::Missing) => Ok(Checked::Missing),
         Ok(Verdict::BadName { path }) => Ok(Checked::BadName { path }),
@@ -87,21 +92,18 @@ fn check<K: Shelf>(
 }
 
 // The line of a difference.
-#[tactic(auto, using(crate::proofs::LineLemmas::pieces))]
 fn put_difference<O: Sink>(difference: Difference, out: &mut O) -> Result<(), SinkFault>
-    ensures puts { PutsAll (O.written out.old) (difference_text difference) result (O.written out.new) }
-    ensures count { O.faults out.old ≤ O.faults out.new }
-    ensures failed { FailsWhereRose (O.faults out.old) result (O.faults out.new) }
+    ensures { PutsAll (O.seen out.old) (difference_text difference) result (O.seen out.new) }
 {
     match difference {
-        Difference::NoManifest => out.put(b"no manifest\n"),
-        Difference::Agrees => out.put(b"manifest agrees\n"),
+        Difference::NoManifest => put_piece(b"no manifest\n", out),
+        Difference::Agrees => put_piece(b"manifest agrees\n", out),
         Difference::FirstIn(line) => put_around(b"manifest line ", line, b"\n", out),
     }
 }
 
 // The line of a difference, and then the outcome of a damaged tree.
-#[tactic(auto, using(crate::proofs::StoreLemmas::writing))]
+#[tactic(auto, using(crate::proofs::WritingLemmas::printing))]
 fn blame<O: Sink>(
     alloc: Global,
     name: Text,
@@ -109,8 +111,7 @@ fn blame<O: Sink>(
     difference: Difference,
     out: &mut O,
 ) -> Outcome
-    ensures blames { Blames name (spelling found.now) (difference_text difference) (O.faults out.old) (O.faults out.new) (O.written out.old) (O.written out.new) result }
-    ensures count { O.faults out.old ≤ O.faults out.new }
+    ensures { PrintsThen (difference_text difference) (DamagedTree name (spelling found.now)) (O.seen out.old) (O.seen out.new) result }
 {
     let Ok(found) = found.text(alloc) else {
         return Outcome::Memory;
@@ -131,8 +132,7 @@ fn tell_check<O: Sink>(
     out: &mut O,
 ) -> Outcome
     requires { top ≡ spelling name.now }
-    ensures tells { TellsCheck name.now c (O.faults out.old) (O.faults out.new) (O.written out.old) (O.written out.new) result }
-    ensures count { O.faults out.old ≤ O.faults out.new }
+    ensures { TellsCheck name.now c (O.seen out.old) (O.seen out.new) result }
 {
     match c {
         Checked::Sound => put_text(b"sound\n", out),
@@ -146,21 +146,18 @@ fn tell_check<O: Sink>(
 /// Says whether a tree of the store has the digest that its name says, and where it hasn't, how the manifest that stands in it
 /// differs from the computed one. The tree is read for the digest and once more for the difference: who changes it in between gets
 /// the difference of the later one, or none.
-#[tactic(auto, using(crate::proofs::StoreLemmas::checking))]
 pub fn verify_tree<K: Shelf, O: Sink>(
     alloc: Global,
     name: DigestName,
-    k: &mut K,
+    shelf: &mut K,
     out: &mut O,
 ) -> Outcome
-    ensures verifies { Verifying name (record { honest = K.honest k.old; sure = K.sure k.old; told = K.told k.old; then_told = K.told k.new; faults = K.faults k.old; then_faults = K.faults k.new }) (O.faults out.old) (O.faults out.new) (O.written out.old) (O.written out.new) result }
-    ensures keeps { Keeps is_reading (K.honest k.old) (K.honest k.new) (K.told k.old) (K.told k.new) (K.faults k.old) (K.faults k.new) (K.sure k.old) (K.sure k.new) (K.place k.old) (K.place k.new) (K.plan k.old) (K.plan k.new) }
-    ensures out_count { O.faults out.old ≤ O.faults out.new }
+    ensures { (feeds : Feeding) → VerifiesTree name (record { feeds = feeds; shelf = K.seen shelf.old; out = O.seen out.old }) (record { feeds = feeds; shelf = K.seen shelf.new; out = O.seen out.new }) result }
 {
     let Ok(top) = name.text(alloc) else {
         return Outcome::Memory;
     };
-    match check(alloc, &name, top.as_str(), k) {
+    match check(alloc, &name, top.as_str(), shelf) {
         Ok(c) => tell_check(alloc, &name, top, c, out),
         Err(ShelfFault::Failed) => Outcome::StoreFault { name: top },
         Err(ShelfFault::Memory) => Outcome::Memory,

@@ -1,10 +1,11 @@
 //! How the manifest that stands in a stored tree differs from the computed one.
-ghost use Rattle.std.specs.Prelude.{◌≡◌, ◌≤◌, ◌∷◌, [], List, ℕ, Err, Some, None, IfOk, MatchOption};
+ghost use Rattle.std.specs.Prelude.{◌≡◌, ◌∷◌, [], List, ℕ, Err, Some, IfOk, MatchOption};
 ghost use Rattle.zi_manifest.specs.Manifest.{own_name, first_bad, as_read, manifest};
 ghost use Rattle.zi_manifest.specs.Listing.{IsManifest};
-ghost use Rattle.zi_shelf.specs.Told.{Told, Rose};
+ghost use Rattle.zi_shelf.specs.Told.{Rose};
 ghost use Rattle.zi_store.specs.Keeping.{Keeps, is_reading};
-ghost use Rattle.zi_app.specs.StoreCommands.{HasOwnManifest, HasDigest, HasComputed, Compares, DiffersBy};
+ghost use Rattle.zi_app.specs.Shelves.{Held};
+ghost use Rattle.zi_app.specs.StoreVerify.{HasOwnManifest, HasDigest, HasComputed, Compares, DiffersBy};
 
 use std::alloc::Global;
 use zi_digest::Algorithm;
@@ -56,17 +57,18 @@ fn own_manifest<K: Shelf>(
     alloc: Global,
     a: Algorithm,
     top: &str,
-    k: &mut K,
+    shelf: &mut K,
 ) -> Result<Option<Bytes>, ShelfFault>
-    ensures own { (s : Told) → K.honest k.old → K.told k.old ≡ Some s → IfOk result (λ own. MatchOption own ((bytes : List ℕ) → HasOwnManifest a top.now s.shelf bytes → ⊥) (λ bytes. HasOwnManifest a top.now s.shelf bytes)) }
-    ensures keeps { Keeps is_reading (K.honest k.old) (K.honest k.new) (K.told k.old) (K.told k.new) (K.faults k.old) (K.faults k.new) (K.sure k.old) (K.sure k.new) (K.place k.old) (K.place k.new) (K.plan k.old) (K.plan k.new) }
-    ensures cause { result ≡ Err ShelfFault.Failed → Rose (K.faults k.old) (K.faults k.new) }
-    ensures sure { K.sure k.old → result ≡ Err ShelfFault.Failed → ⊥ }
+    ensures own { Held (K.seen shelf.old) (λ s. IfOk result (λ own. MatchOption own ((bytes : List ℕ) → HasOwnManifest a top.now s bytes → ⊥) (λ bytes. HasOwnManifest a top.now s bytes))) }
+    ensures keeps { Keeps is_reading (K.seen shelf.old) (K.seen shelf.new) }
+    ensures cause { result ≡ Err ShelfFault.Failed → Rose (K.seen shelf.old).faults (K.seen shelf.new).faults }
+    ensures count { (result ≡ Err ShelfFault.Failed → ⊥) → (K.seen shelf.new).faults ≡ (K.seen shelf.old).faults }
+    ensures sure { (K.seen shelf.old).sure → result ≡ Err ShelfFault.Failed → ⊥ }
 {
     let Ok(path) = own_path(alloc) else {
         return Err(ShelfFault::Memory);
     };
-    match read_file(alloc, top, &path, MANIFEST_LIMIT, k) {
+    match read_file(alloc, top, &path, MANIFEST_LIMIT, shelf) {
         Ok(FileRead::Read(bytes)) => where_manifest(alloc, a, bytes),
         Ok(FileRead::Missing) => Ok(None),
         Ok(FileRead::TooLong) => Ok(None),
@@ -92,14 +94,15 @@ fn computed<K: Shelf>(
     alloc: Global,
     a: Algorithm,
     top: &str,
-    k: &mut K,
+    shelf: &mut K,
 ) -> Result<Option<Bytes>, ShelfFault>
-    ensures text { (s : Told) → K.honest k.old → K.told k.old ≡ Some s → HasDigest top.now s.shelf → IfOk result (λ text. MatchOption text ⊥ (λ text. HasComputed a top.now s.shelf text)) }
-    ensures keeps { Keeps is_reading (K.honest k.old) (K.honest k.new) (K.told k.old) (K.told k.new) (K.faults k.old) (K.faults k.new) (K.sure k.old) (K.sure k.new) (K.place k.old) (K.place k.new) (K.plan k.old) (K.plan k.new) }
-    ensures cause { result ≡ Err ShelfFault.Failed → Rose (K.faults k.old) (K.faults k.new) }
-    ensures sure { K.sure k.old → result ≡ Err ShelfFault.Failed → ⊥ }
+    ensures text { Held (K.seen shelf.old) (λ s. HasDigest top.now s → IfOk result (λ text. MatchOption text ⊥ (λ text. HasComputed a top.now s text))) }
+    ensures keeps { Keeps is_reading (K.seen shelf.old) (K.seen shelf.new) }
+    ensures cause { result ≡ Err ShelfFault.Failed → Rose (K.seen shelf.old).faults (K.seen shelf.new).faults }
+    ensures count { (result ≡ Err ShelfFault.Failed → ⊥) → (K.seen shelf.new).faults ≡ (K.seen shelf.old).faults }
+    ensures sure { (K.seen shelf.old).sure → result ≡ Err ShelfFault.Failed → ⊥ }
 {
-    match read_tree(alloc, top, k) {
+    match read_tree(alloc, top, shelf) {
         Ok(TreeRead::Read(tree)) => manifest_of(alloc, a, &tree),
         Ok(TreeRead::Missing) => Ok(None),
         Ok(TreeRead::TooLarge { .. }) => Ok(None),
@@ -123,14 +126,15 @@ fn against<K: Shelf>(
     a: Algorithm,
     top: &str,
     own: &[u8],
-    k: &mut K,
+    shelf: &mut K,
 ) -> Result<Difference, ShelfFault>
-    ensures differs { (s : Told) → K.honest k.old → K.told k.old ≡ Some s → HasDigest top.now s.shelf → HasOwnManifest a top.now s.shelf own.now → IfOk result (λ d. DiffersBy a top.now d s.shelf) }
-    ensures keeps { Keeps is_reading (K.honest k.old) (K.honest k.new) (K.told k.old) (K.told k.new) (K.faults k.old) (K.faults k.new) (K.sure k.old) (K.sure k.new) (K.place k.old) (K.place k.new) (K.plan k.old) (K.plan k.new) }
-    ensures cause { result ≡ Err ShelfFault.Failed → Rose (K.faults k.old) (K.faults k.new) }
-    ensures sure { K.sure k.old → result ≡ Err ShelfFault.Failed → ⊥ }
+    ensures differs { Held (K.seen shelf.old) (λ s. HasDigest top.now s → HasOwnManifest a top.now s own.now → IfOk result (λ d. DiffersBy a top.now d s)) }
+    ensures keeps { Keeps is_reading (K.seen shelf.old) (K.seen shelf.new) }
+    ensures cause { result ≡ Err ShelfFault.Failed → Rose (K.seen shelf.old).faults (K.seen shelf.new).faults }
+    ensures count { (result ≡ Err ShelfFault.Failed → ⊥) → (K.seen shelf.new).faults ≡ (K.seen shelf.old).faults }
+    ensures sure { (K.seen shelf.old).sure → result ≡ Err ShelfFault.Failed → ⊥ }
 {
-    match computed(alloc, a, top, k) {
+    match computed(alloc, a, top, shelf) {
         Ok(Some(text)) => Ok(compared(own, text.as_slice())),
         Ok(None) => Ok(Difference::NoManifest),
         Err(fault) => Err(fault),
@@ -146,15 +150,16 @@ pub fn difference_of<K: Shelf>(
     alloc: Global,
     a: Algorithm,
     top: &str,
-    k: &mut K,
+    shelf: &mut K,
 ) -> Result<Difference, ShelfFault>
-    ensures differs { (s : Told) → K.honest k.old → K.told k.old ≡ Some s → HasDigest top.now s.shelf → IfOk result (λ d. DiffersBy a top.now d s.shelf) }
-    ensures keeps { Keeps is_reading (K.honest k.old) (K.honest k.new) (K.told k.old) (K.told k.new) (K.faults k.old) (K.faults k.new) (K.sure k.old) (K.sure k.new) (K.place k.old) (K.place k.new) (K.plan k.old) (K.plan k.new) }
-    ensures cause { result ≡ Err ShelfFault.Failed → Rose (K.faults k.old) (K.faults k.new) }
-    ensures sure { K.sure k.old → result ≡ Err ShelfFault.Failed → ⊥ }
+    ensures differs { Held (K.seen shelf.old) (λ s. HasDigest top.now s → IfOk result (λ d. DiffersBy a top.now d s)) }
+    ensures keeps { Keeps is_reading (K.seen shelf.old) (K.seen shelf.new) }
+    ensures cause { result ≡ Err ShelfFault.Failed → Rose (K.seen shelf.old).faults (K.seen shelf.new).faults }
+    ensures count { (result ≡ Err ShelfFault.Failed → ⊥) → (K.seen shelf.new).faults ≡ (K.seen shelf.old).faults }
+    ensures sure { (K.seen shelf.old).sure → result ≡ Err ShelfFault.Failed → ⊥ }
 {
-    match own_manifest(alloc, a, top, k) {
-        Ok(Some(own)) => against(alloc, a, top, own.as_slice(), k),
+    match own_manifest(alloc, a, top, shelf) {
+        Ok(Some(own)) => against(alloc, a, top, own.as_slice(), shelf),
         Ok(None) => Ok(Difference::NoManifest),
         Err(fault) => Err(fault),
     }

@@ -1,5 +1,5 @@
 //! The files of `store add`: they are got in order, and a tree is made of them.
-ghost use Rattle.std.specs.Prelude.{◌≡◌, ◌≤◌, ◌<◌, true, nat_lt, sum, map, length, MatchResult};
+ghost use Rattle.std.specs.Prelude.{◌≡◌, ◌<◌, true, nat_lt, sum, map, length, MatchResult};
 ghost use Rattle.std.specs.List.{list_all};
 ghost use Rattle.zi_words.specs.Store.{last_part, is_name, is_file};
 ghost use Rattle.zi_app.specs.Gathering.{GetsPart, GetsParts, PutsPart, MakesTree, Gathers, Refuses, part_name, part_size, size_limit};
@@ -63,49 +63,42 @@ fn part_of(alloc: Global, file: &Text, bytes: Vec<u8>) -> Result<Part, GatherFau
     Ok(Part { name, bytes })
 }
 
-/// Gets a file.
+/// Gets a file. The text that names it in a refusal is made before the call, so that none lacks memory after it.
 fn get_part<F: Feeds>(alloc: Global, file: &Text, feeds: &mut F) -> Result<Part, GatherFault>
-    ensures gets { GetsPart (F.holds feeds.old) (F.faults feeds.old) (F.faults feeds.new) file.now result }
-    ensures holds { F.holds feeds.new ≡ F.holds feeds.old }
-    ensures count { F.faults feeds.old ≤ F.faults feeds.new }
+    ensures { GetsPart file.now (F.seen feeds.old) (F.seen feeds.new) result }
 {
+    let Ok(named) = file.copy(alloc) else {
+        return Err(GatherFault::Memory);
+    };
     let mut bytes = Vec::new(alloc);
     match feeds.get(file.as_str(), FILE_LIMIT, &mut bytes) {
         Ok(Got::Held) => part_of(alloc, file, bytes),
-        Ok(Got::Absent) => match file.copy(alloc) {
-            Ok(file) => Err(GatherFault::Absent { file }),
-            Err(_) => Err(GatherFault::Memory),
-        },
-        Ok(Got::TooLong) => match file.copy(alloc) {
-            Ok(file) => Err(GatherFault::TooLong {
-                file,
-                limit: FILE_LIMIT,
-            }),
-            Err(_) => Err(GatherFault::Memory),
-        },
-        Err(FeedsFault::Failed) => match file.copy(alloc) {
-            Ok(file) => Err(GatherFault::Read { file }),
-            Err(_) => Err(GatherFault::Memory),
-        },
+        Ok(Got::Absent) => Err(GatherFault::Absent { file: named }),
+        Ok(Got::TooLong) => Err(GatherFault::TooLong {
+            file: named,
+            limit: FILE_LIMIT,
+        }),
+        Err(FeedsFault::Failed) => Err(GatherFault::Read { file: named }),
         Err(FeedsFault::Memory) => Err(GatherFault::Memory),
     }
 }
 
 /// Gets the files in their order.
-#[tactic(auto, using(crate::proofs::GatheringLemmas::parts_stop))]
+#[tactic(auto, using(crate::proofs::GatheringLemmas::getting))]
 fn get_parts<F: Feeds>(
     alloc: Global,
     files: &[Text],
     feeds: &mut F,
 ) -> Result<List<Part>, GatherFault>
-    ensures gets { GetsParts (F.holds feeds.old) (F.faults feeds.old) (F.faults feeds.new) files.now result }
-    ensures holds { F.holds feeds.new ≡ F.holds feeds.old }
-    ensures count { F.faults feeds.old ≤ F.faults feeds.new }
+    ensures { GetsParts files.now (F.seen feeds.old) (F.seen feeds.new) result }
 {
     let mut parts = List::new(alloc);
     for file in files {
         match get_part(alloc, file, feeds) {
-            Ok(part) => parts.push(part)?,
+            Ok(part) => match parts.push(part) {
+                Ok(()) => {}
+                Err(_) => return Err(GatherFault::Memory),
+            },
             Err(fault) => return Err(fault),
         }
     }
@@ -174,9 +167,7 @@ pub(crate) fn gather<F: Feeds>(
     feeds: &mut F,
 ) -> Result<Tree, GatherFault>
     requires { list_all is_file files.now ≡ true }
-    ensures gathers { MatchResult result (Gathers (F.holds feeds.old) files.now) (Refuses (F.holds feeds.old) (F.faults feeds.old) (F.faults feeds.new) files.now) }
-    ensures holds { F.holds feeds.new ≡ F.holds feeds.old }
-    ensures count { F.faults feeds.old ≤ F.faults feeds.new }
+    ensures { MatchResult result (Gathers files.now (F.seen feeds.old) (F.seen feeds.new)) (Refuses files.now (F.seen feeds.old) (F.seen feeds.new)) }
 {
     let parts = match get_parts(alloc, files, feeds) {
         Ok(parts) => parts,

@@ -2,6 +2,9 @@
 ghost use Rattle.std.specs.Prelude.{◌≡◌, ℕ, List, All};
 ghost use Rattle.zi_app.specs.FileName.{file_name, IsByte};
 ghost use Rattle.zi_app.specs.Laws.{HasOneCause};
+ghost use Rattle.zi_feed.specs.IdLaws.{AreDistinct};
+ghost use Rattle.zi_feed.specs.declared.feed.Feed.{Feed};
+ghost use Rattle.zi_universe.specs.Loading.{Says};
 
 use zi_doc::one_answer;
 
@@ -12,6 +15,12 @@ pub fn one_cause()
 {
     one_answer();
 }
+
+/// In the feed that stands at an address each implementation has an id of its own.
+#[tactic(auto, using(crate::proofs::CauseLaws::ids_apart))]
+pub fn ids_differ()
+    ensures { (uri : List ℕ) (bytes : List ℕ) (feed : Feed) → Says uri bytes feed → AreDistinct feed.impls }
+{}
 
 /// No two addresses have one file.
 #[tactic(auto, using(crate::proofs::FileNameLaws::same_file))]

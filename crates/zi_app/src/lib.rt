@@ -1,5 +1,5 @@
 //! The program's work, over objects that are handed in: `run` reads the words, loads the feeds, reads and fills the store, and
-//! writes the answer. Its clauses say what each outcome means, what the two streams gained, and what became of the store.
+//! writes the answer. Its clause says what each outcome means and what became of each object (specs/Answers.antt).
 #![tactic(auto)]
 
 mod adding;
@@ -17,6 +17,7 @@ mod outcome;
 mod running;
 mod select;
 mod wanted;
+mod writing;
 
 pub use files::feed_file;
 pub use help::{HELP, VERSION};

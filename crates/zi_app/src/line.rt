@@ -1,9 +1,11 @@
-ghost use Rattle.std.specs.Prelude.{◌≡◌, ◌≤◌, ◌<◌, ◌+◌, [], ◌∷◌, ◌++◌, codes};
+ghost use Rattle.std.specs.Prelude.{◌≡◌, ◌<◌, ◌+◌, [], ◌∷◌, ◌++◌, codes};
 ghost use Rattle.std.specs.Fmt.{decimal};
 ghost use Rattle.zi_feed.specs.Faults.{number};
-ghost use Rattle.zi_app.specs.Line.{PutsAll, FailsWhereRose, line_of, blamed, measure_of};
+ghost use Rattle.zi_app.specs.Line.{line_of, blamed, measure_of};
+ghost use Rattle.zi_app.specs.Writing.{PutsAll};
 
 use crate::Outcome;
+use crate::writing::put_piece;
 use zi_feed::FeedKind;
 use zi_outside::{Sink, SinkFault};
 use zi_text::Text;
@@ -12,58 +14,48 @@ use zi_universe::BadFeed;
 
 // Two pieces, one behind the other.
 
-#[tactic(auto, using(crate::proofs::LineLemmas::pieces))]
+#[tactic(auto, using(crate::proofs::WritingLemmas::pieces))]
 fn put_two<E: Sink>(a: &[u8], b: &[u8], err: &mut E) -> Result<(), SinkFault>
-    ensures puts { PutsAll (E.written err.old) (a.now ++ b.now) result (E.written err.new) }
-    ensures count { E.faults err.old ≤ E.faults err.new }
-    ensures failed { FailsWhereRose (E.faults err.old) result (E.faults err.new) }
+    ensures { PutsAll (E.seen err.old) (a.now ++ b.now) result (E.seen err.new) }
 {
-    match err.put(a) {
-        Ok(()) => err.put(b),
+    match put_piece(a, err) {
+        Ok(()) => put_piece(b, err),
         Err(e) => Err(e),
     }
 }
 
 // Three pieces.
 
-#[tactic(auto, using(crate::proofs::LineLemmas::pieces))]
+#[tactic(auto, using(crate::proofs::WritingLemmas::pieces))]
 fn put_three<E: Sink>(a: &[u8], b: &[u8], c: &[u8], err: &mut E) -> Result<(), SinkFault>
-    ensures puts { PutsAll (E.written err.old) (a.now ++ b.now ++ c.now) result (E.written err.new) }
-    ensures count { E.faults err.old ≤ E.faults err.new }
-    ensures failed { FailsWhereRose (E.faults err.old) result (E.faults err.new) }
+    ensures { PutsAll (E.seen err.old) (a.now ++ b.now ++ c.now) result (E.seen err.new) }
 {
     match put_two(a, b, err) {
-        Ok(()) => err.put(c),
+        Ok(()) => put_piece(c, err),
         Err(e) => Err(e),
     }
 }
 
 // A name between two pieces.
 fn put_name<E: Sink>(a: &[u8], name: &Text, b: &[u8], err: &mut E) -> Result<(), SinkFault>
-    ensures puts { PutsAll (E.written err.old) (a.now ++ name.now ++ b.now) result (E.written err.new) }
-    ensures count { E.faults err.old ≤ E.faults err.new }
-    ensures failed { FailsWhereRose (E.faults err.old) result (E.faults err.new) }
+    ensures { PutsAll (E.seen err.old) (a.now ++ name.now ++ b.now) result (E.seen err.new) }
 {
     put_three(a, name.as_str().as_bytes(), b, err)
 }
 
 // A digit.
-#[tactic(auto, using(crate::proofs::LineLemmas::pieces))]
+#[tactic(auto, using(crate::proofs::WritingLemmas::pieces))]
 fn put_digit<E: Sink>(digit: u8, err: &mut E) -> Result<(), SinkFault>
     requires { digit < 10 }
-    ensures puts { PutsAll (E.written err.old) ((48 + digit) ∷ []) result (E.written err.new) }
-    ensures count { E.faults err.old ≤ E.faults err.new }
-    ensures failed { FailsWhereRose (E.faults err.old) result (E.faults err.new) }
+    ensures { PutsAll (E.seen err.old) ((48 + digit) ∷ []) result (E.seen err.new) }
 {
-    err.put(&[b'0' + digit])
+    put_piece(&[b'0' + digit], err)
 }
 
 // A number in decimal digits.
 #[tactic(auto, using(crate::proofs::LineLemmas::numbers))]
 fn put_number<E: Sink>(n: u64, err: &mut E) -> Result<(), SinkFault>
-    ensures puts { PutsAll (E.written err.old) (decimal n) result (E.written err.new) }
-    ensures count { E.faults err.old ≤ E.faults err.new }
-    ensures failed { FailsWhereRose (E.faults err.old) result (E.faults err.new) }
+    ensures { PutsAll (E.seen err.old) (decimal n) result (E.seen err.new) }
 {
     if n < 10 {
         return put_digit(n as u8, err);
@@ -75,37 +67,31 @@ fn put_number<E: Sink>(n: u64, err: &mut E) -> Result<(), SinkFault>
 }
 
 // A number behind a piece.
-#[tactic(auto, using(crate::proofs::LineLemmas::pieces))]
+#[tactic(auto, using(crate::proofs::WritingLemmas::pieces))]
 fn put_behind<E: Sink>(a: &[u8], n: u64, err: &mut E) -> Result<(), SinkFault>
-    ensures puts { PutsAll (E.written err.old) (a.now ++ decimal n) result (E.written err.new) }
-    ensures count { E.faults err.old ≤ E.faults err.new }
-    ensures failed { FailsWhereRose (E.faults err.old) result (E.faults err.new) }
+    ensures { PutsAll (E.seen err.old) (a.now ++ decimal n) result (E.seen err.new) }
 {
-    match err.put(a) {
+    match put_piece(a, err) {
         Ok(()) => put_number(n, err),
         Err(e) => Err(e),
     }
 }
 
 /// A number between two pieces.
-#[tactic(auto, using(crate::proofs::LineLemmas::pieces))]
+#[tactic(auto, using(crate::proofs::WritingLemmas::pieces))]
 pub fn put_around<E: Sink>(a: &[u8], n: u64, b: &[u8], err: &mut E) -> Result<(), SinkFault>
-    ensures puts { PutsAll (E.written err.old) (a.now ++ decimal n ++ b.now) result (E.written err.new) }
-    ensures count { E.faults err.old ≤ E.faults err.new }
-    ensures failed { FailsWhereRose (E.faults err.old) result (E.faults err.new) }
+    ensures { PutsAll (E.seen err.old) (a.now ++ decimal n ++ b.now) result (E.seen err.new) }
 {
     match put_behind(a, n, err) {
-        Ok(()) => err.put(b),
+        Ok(()) => put_piece(b, err),
         Err(e) => Err(e),
     }
 }
 
 // Two pieces with a number behind each, and the end of the line.
-#[tactic(auto, using(crate::proofs::LineLemmas::pieces))]
+#[tactic(auto, using(crate::proofs::WritingLemmas::pieces))]
 fn put_numbers<E: Sink>(a: &[u8], m: u64, b: &[u8], n: u64, err: &mut E) -> Result<(), SinkFault>
-    ensures puts { PutsAll (E.written err.old) ((a.now ++ decimal m) ++ (b.now ++ decimal n ++ codes "\n")) result (E.written err.new) }
-    ensures count { E.faults err.old ≤ E.faults err.new }
-    ensures failed { FailsWhereRose (E.faults err.old) result (E.faults err.new) }
+    ensures { PutsAll (E.seen err.old) ((a.now ++ decimal m) ++ (b.now ++ decimal n ++ codes "\n")) result (E.seen err.new) }
 {
     match put_behind(a, m, err) {
         Ok(()) => put_around(b, n, b"\n", err),
@@ -136,9 +122,7 @@ fn number_of(kind: FeedKind) -> u8
 
 // The kind and the place of a fault, and the end of the line.
 fn put_fault<E: Sink>(fault: BadFeed, err: &mut E) -> Result<(), SinkFault>
-    ensures puts { PutsAll (E.written err.old) (blamed fault ++ codes "\n") result (E.written err.new) }
-    ensures count { E.faults err.old ≤ E.faults err.new }
-    ensures failed { FailsWhereRose (E.faults err.old) result (E.faults err.new) }
+    ensures { PutsAll (E.seen err.old) (blamed fault ++ codes "\n") result (E.seen err.new) }
 {
     match fault {
         BadFeed::Doc { kind, place } => {
@@ -151,7 +135,7 @@ fn put_fault<E: Sink>(fault: BadFeed, err: &mut E) -> Result<(), SinkFault>
 }
 
 // Three pieces, and a fault.
-#[tactic(auto, using(crate::proofs::LineLemmas::pieces))]
+#[tactic(auto, using(crate::proofs::WritingLemmas::pieces))]
 fn put_bad<E: Sink>(
     a: &[u8],
     b: &[u8],
@@ -159,9 +143,7 @@ fn put_bad<E: Sink>(
     fault: BadFeed,
     err: &mut E,
 ) -> Result<(), SinkFault>
-    ensures puts { PutsAll (E.written err.old) ((a.now ++ b.now ++ c.now) ++ (blamed fault ++ codes "\n")) result (E.written err.new) }
-    ensures count { E.faults err.old ≤ E.faults err.new }
-    ensures failed { FailsWhereRose (E.faults err.old) result (E.faults err.new) }
+    ensures { PutsAll (E.seen err.old) ((a.now ++ b.now ++ c.now) ++ (blamed fault ++ codes "\n")) result (E.seen err.new) }
 {
     match put_three(a, b, c, err) {
         Ok(()) => put_fault(fault, err),
@@ -170,7 +152,7 @@ fn put_bad<E: Sink>(
 }
 
 // Two pieces, and a number between two more.
-#[tactic(auto, using(crate::proofs::LineLemmas::pieces))]
+#[tactic(auto, using(crate::proofs::WritingLemmas::pieces))]
 fn put_five<E: Sink>(
     a: &[u8],
     b: &[u8],
@@ -179,9 +161,7 @@ fn put_five<E: Sink>(
     d: &[u8],
     err: &mut E,
 ) -> Result<(), SinkFault>
-    ensures puts { PutsAll (E.written err.old) ((a.now ++ b.now) ++ (c.now ++ decimal n ++ d.now)) result (E.written err.new) }
-    ensures count { E.faults err.old ≤ E.faults err.new }
-    ensures failed { FailsWhereRose (E.faults err.old) result (E.faults err.new) }
+    ensures { PutsAll (E.seen err.old) ((a.now ++ b.now) ++ (c.now ++ decimal n ++ d.now)) result (E.seen err.new) }
 {
     match put_two(a, b, err) {
         Ok(()) => put_around(c, n, d, err),
@@ -191,15 +171,13 @@ fn put_five<E: Sink>(
 
 // The line of a limit that is passed.
 fn put_limit<E: Sink>(limit: u64, what: &[u8], err: &mut E) -> Result<(), SinkFault>
-    ensures puts { PutsAll (E.written err.old) (codes "zi: more than " ++ decimal limit ++ what.now) result (E.written err.new) }
-    ensures count { E.faults err.old ≤ E.faults err.new }
-    ensures failed { FailsWhereRose (E.faults err.old) result (E.faults err.new) }
+    ensures { PutsAll (E.seen err.old) (codes "zi: more than " ++ decimal limit ++ what.now) result (E.seen err.new) }
 {
     put_around(b"zi: more than ", limit, what, err)
 }
 
 // Two pieces with a name behind each, and the end of the line.
-#[tactic(auto, using(crate::proofs::LineLemmas::pieces))]
+#[tactic(auto, using(crate::proofs::WritingLemmas::pieces))]
 fn put_names<E: Sink>(
     a: &[u8],
     name: &Text,
@@ -207,9 +185,7 @@ fn put_names<E: Sink>(
     found: &Text,
     err: &mut E,
 ) -> Result<(), SinkFault>
-    ensures puts { PutsAll (E.written err.old) ((a.now ++ name.now) ++ (b.now ++ found.now ++ codes "\n")) result (E.written err.new) }
-    ensures count { E.faults err.old ≤ E.faults err.new }
-    ensures failed { FailsWhereRose (E.faults err.old) result (E.faults err.new) }
+    ensures { PutsAll (E.seen err.old) ((a.now ++ name.now) ++ (b.now ++ found.now ++ codes "\n")) result (E.seen err.new) }
 {
     match put_two(a, name.as_str().as_bytes(), err) {
         Ok(()) => put_three(b, found.as_str().as_bytes(), b"\n", err),
@@ -219,9 +195,7 @@ fn put_names<E: Sink>(
 
 // The line of a tree that is too large.
 fn put_measure<E: Sink>(what: TreeLimit, limit: u64, err: &mut E) -> Result<(), SinkFault>
-    ensures puts { PutsAll (E.written err.old) ((codes "zi: tree too large: " ++ measure_of what) ++ (codes " past " ++ decimal limit ++ codes "\n")) result (E.written err.new) }
-    ensures count { E.faults err.old ≤ E.faults err.new }
-    ensures failed { FailsWhereRose (E.faults err.old) result (E.faults err.new) }
+    ensures { PutsAll (E.seen err.old) ((codes "zi: tree too large: " ++ measure_of what) ++ (codes " past " ++ decimal limit ++ codes "\n")) result (E.seen err.new) }
 {
     match what {
         TreeLimit::Size => put_around(b"zi: tree too large: size past ", limit, b"\n", err),
@@ -232,15 +206,13 @@ fn put_measure<E: Sink>(what: TreeLimit, limit: u64, err: &mut E) -> Result<(), 
 
 /// Writes the line of an outcome.
 pub fn tell<E: Sink>(outcome: &Outcome, err: &mut E) -> Result<(), SinkFault>
-    ensures puts { PutsAll (E.written err.old) (line_of outcome.now) result (E.written err.new) }
-    ensures count { E.faults err.old ≤ E.faults err.new }
-    ensures failed { FailsWhereRose (E.faults err.old) result (E.faults err.new) }
+    ensures { PutsAll (E.seen err.old) (line_of outcome.now) result (E.seen err.new) }
 {
     match outcome {
         Outcome::Done => Ok(()),
         Outcome::Usage { index } => put_around(b"zi: usage at word ", *index, b"\n", err),
         Outcome::FeedRead { uri } => put_name(b"zi: cannot read ", uri, b"\n", err),
-        Outcome::NoRootFeed => err.put(b"zi: no feed for the root\n"),
+        Outcome::NoRootFeed => put_piece(b"zi: no feed for the root\n", err),
         Outcome::BadFeed { uri, fault } => {
             let uri = uri.as_str().as_bytes();
             put_bad(b"zi: bad feed ", uri, b": ", *fault, err)
@@ -270,8 +242,8 @@ pub fn tell<E: Sink>(outcome: &Outcome, err: &mut E) -> Result<(), SinkFault>
         Outcome::Unwritable { place } => {
             put_around(b"zi: cannot write element ", *place, b"\n", err)
         }
-        Outcome::SinkFault => err.put(b"zi: cannot write\n"),
-        Outcome::Memory => err.put(b"zi: out of memory\n"),
-        Outcome::Unbuilt => err.put(b"zi: not built yet\n"),
+        Outcome::SinkFault => put_piece(b"zi: cannot write\n", err),
+        Outcome::Memory => put_piece(b"zi: out of memory\n", err),
+        Outcome::Unbuilt => put_piece(b"zi: not built yet\n", err),
     }
 }

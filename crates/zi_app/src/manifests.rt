@@ -1,13 +1,14 @@
 //! The work of `manifest`.
-ghost use Rattle.std.specs.Prelude.{◌≡◌, ◌≤◌, ◌++◌, IfOk};
+ghost use Rattle.std.specs.Prelude.{◌≡◌, ◌++◌, IfOk};
 ghost use Rattle.zi_digest.specs.Name.{name_of};
-ghost use Rattle.zi_store.specs.Keeping.{Keeps, is_reading};
-ghost use Rattle.zi_app.specs.Writing.{Writes};
-ghost use Rattle.zi_app.specs.StoreCommands.{name_line, Shows, Manifests};
+ghost use Rattle.zi_outside.specs.Views.{Feeding};
+ghost use Rattle.zi_app.specs.Writing.{Prints};
+ghost use Rattle.zi_app.specs.StoreList.{name_line};
+ghost use Rattle.zi_app.specs.ManifestCommand.{Shows, Manifests};
 
 use crate::Outcome;
 use crate::names::put_name;
-use crate::select::put_text;
+use crate::writing::put_text;
 use std::alloc::Global;
 use zi_digest::{Algorithm, DigestName, Hasher};
 use zi_manifest::{ManifestOutFault, write};
@@ -37,10 +38,9 @@ fn with_digest(alloc: Global, a: Algorithm, text: Vec<u8>) -> Result<Bytes, Memo
 }
 
 // Writes a text and the line of its digest.
-#[tactic(auto, using(crate::proofs::StoreLemmas::writing))]
+#[tactic(auto, using(crate::proofs::WritingLemmas::printing))]
 fn put_digested<O: Sink>(alloc: Global, a: Algorithm, text: Vec<u8>, out: &mut O) -> Outcome
-    ensures writes { Writes (text.items ++ name_line (name_of a text.items)) (O.faults out.old) (O.faults out.new) (O.written out.old) (O.written out.new) result }
-    ensures count { O.faults out.old ≤ O.faults out.new }
+    ensures { Prints (text.items ++ name_line (name_of a text.items)) (O.seen out.old) (O.seen out.new) result }
 {
     match with_digest(alloc, a, text) {
         Ok(all) => put_text(all.as_slice(), out),
@@ -49,10 +49,9 @@ fn put_digested<O: Sink>(alloc: Global, a: Algorithm, text: Vec<u8>, out: &mut O
 }
 
 // Writes the manifest of a tree and the line of its digest.
-#[tactic(auto, using(crate::proofs::StoreLemmas::showing))]
+#[tactic(auto, using(crate::proofs::StoreLemmas::shown))]
 fn show<O: Sink>(alloc: Global, a: Algorithm, tree: &Tree, out: &mut O) -> Outcome
-    ensures shows { Shows a tree.now (O.faults out.old) (O.faults out.new) (O.written out.old) (O.written out.new) result }
-    ensures count { O.faults out.old ≤ O.faults out.new }
+    ensures { Shows a tree.now (O.seen out.old) (O.seen out.new) result }
 {
     match write(alloc, tree, a) {
         Ok(text) => put_digested(alloc, a, text, out),
@@ -62,20 +61,17 @@ fn show<O: Sink>(alloc: Global, a: Algorithm, tree: &Tree, out: &mut O) -> Outco
 }
 
 /// Writes the manifest of a stored tree by an algorithm, the name of its digest and LF.
-#[tactic(auto, using(crate::proofs::StoreLemmas::reading))]
 pub fn manifest<K: Shelf, O: Sink>(
     alloc: Global,
-    a: Algorithm,
+    algorithm: Algorithm,
     name: Text,
-    k: &mut K,
+    shelf: &mut K,
     out: &mut O,
 ) -> Outcome
-    ensures manifests { Manifests a name (record { honest = K.honest k.old; sure = K.sure k.old; told = K.told k.old; then_told = K.told k.new; faults = K.faults k.old; then_faults = K.faults k.new }) (O.faults out.old) (O.faults out.new) (O.written out.old) (O.written out.new) result }
-    ensures keeps { Keeps is_reading (K.honest k.old) (K.honest k.new) (K.told k.old) (K.told k.new) (K.faults k.old) (K.faults k.new) (K.sure k.old) (K.sure k.new) (K.place k.old) (K.place k.new) (K.plan k.old) (K.plan k.new) }
-    ensures out_count { O.faults out.old ≤ O.faults out.new }
+    ensures { (feeds : Feeding) → Manifests algorithm name (record { feeds = feeds; shelf = K.seen shelf.old; out = O.seen out.old }) (record { feeds = feeds; shelf = K.seen shelf.new; out = O.seen out.new }) result }
 {
-    match read_tree(alloc, name.as_str(), k) {
-        Ok(TreeRead::Read(tree)) => show(alloc, a, &tree, out),
+    match read_tree(alloc, name.as_str(), shelf) {
+        Ok(TreeRead::Read(tree)) => show(alloc, algorithm, &tree, out),
         Ok(TreeRead::Missing) => Outcome::MissingTree { name },
         Ok(TreeRead::TooLarge { what, limit }) => Outcome::TreeTooLarge { what, limit },
         Err(ShelfFault::Failed) => Outcome::StoreFault { name },

@@ -1,11 +1,11 @@
 //! The work of `store list`.
-ghost use Rattle.std.specs.Prelude.{◌≡◌, ◌≤◌, ◌++◌, IfOk, OnOk};
-ghost use Rattle.zi_store.specs.Keeping.{Keeps, is_names};
-ghost use Rattle.zi_app.specs.Writing.{Writes};
-ghost use Rattle.zi_app.specs.StoreCommands.{name_line, names_text, Lists};
+ghost use Rattle.std.specs.Prelude.{◌≡◌, ◌++◌, IfOk, OnOk};
+ghost use Rattle.zi_outside.specs.Views.{Feeding};
+ghost use Rattle.zi_app.specs.Writing.{Prints};
+ghost use Rattle.zi_app.specs.StoreList.{name_line, names_text, Lists};
 
 use crate::Outcome;
-use crate::select::put_text;
+use crate::writing::put_text;
 use std::alloc::Global;
 use zi_digest::DigestName;
 use zi_outside::Sink;
@@ -35,10 +35,9 @@ fn names_text(alloc: Global, names: &[DigestName]) -> Result<Vec<u8>, Memory>
 }
 
 // Writes the lines of digest names.
-#[tactic(auto, using(crate::proofs::StoreLemmas::writing))]
+#[tactic(auto, using(crate::proofs::WritingLemmas::printing))]
 fn put_names<O: Sink>(alloc: Global, names: &[DigestName], out: &mut O) -> Outcome
-    ensures writes { Writes (names_text names.now) (O.faults out.old) (O.faults out.new) (O.written out.old) (O.written out.new) result }
-    ensures count { O.faults out.old ≤ O.faults out.new }
+    ensures { Prints (names_text names.now) (O.seen out.old) (O.seen out.new) result }
 {
     match names_text(alloc, names) {
         Ok(text) => put_text(text.as_slice(), out),
@@ -47,13 +46,10 @@ fn put_names<O: Sink>(alloc: Global, names: &[DigestName], out: &mut O) -> Outco
 }
 
 /// Writes the digest names in the store, in byte order, each on a line.
-#[tactic(auto, using(crate::proofs::StoreLemmas::listing))]
-pub fn list<K: Shelf, O: Sink>(alloc: Global, k: &mut K, out: &mut O) -> Outcome
-    ensures lists { Lists (record { honest = K.honest k.old; sure = K.sure k.old; told = K.told k.old; then_told = K.told k.new; faults = K.faults k.old; then_faults = K.faults k.new }) (O.faults out.old) (O.faults out.new) (O.written out.old) (O.written out.new) result }
-    ensures keeps { Keeps is_names (K.honest k.old) (K.honest k.new) (K.told k.old) (K.told k.new) (K.faults k.old) (K.faults k.new) (K.sure k.old) (K.sure k.new) (K.place k.old) (K.place k.new) (K.plan k.old) (K.plan k.new) }
-    ensures out_count { O.faults out.old ≤ O.faults out.new }
+pub fn list<K: Shelf, O: Sink>(alloc: Global, shelf: &mut K, out: &mut O) -> Outcome
+    ensures { (feeds : Feeding) → Lists (record { feeds = feeds; shelf = K.seen shelf.old; out = O.seen out.old }) (record { feeds = feeds; shelf = K.seen shelf.new; out = O.seen out.new }) result }
 {
-    match stored_names(alloc, k) {
+    match stored_names(alloc, shelf) {
         Ok(names) => put_names(alloc, names.as_slice(), out),
         Err(ShelfFault::Failed) => Outcome::StoreFault {
             name: Text::new(alloc),

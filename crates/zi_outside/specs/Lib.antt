@@ -1,5 +1,13 @@
 pub mod Count
+pub mod Failures
+pub mod Fetched
+pub mod Launched
 pub mod Memory
+pub mod MemorySpawners
+pub mod MemoryWebs
 pub mod Outside
+pub mod Paired
 pub mod Place
+pub mod Plan
 pub mod Vars
+pub mod Views

@@ -1,32 +1,49 @@
-//! The outside as the program meets it: feeds that are read, sinks that are written, and variables.
-//! Each trait says what its object holds, where the object tells it, and counts the object's faults; beside the traits
-//! stand the objects in memory, and their twins that never fail.
+//! The outside as the program meets it: feeds and a web that are read, sinks that are written, programs that are
+//! started, and variables.
+//! Each trait has one view, a record of what is seen of its object, and each call says what that is before and after; beside
+//! the traits stand the objects in memory, which fail where it was planned, and their twins that never fail.
 #![tactic(auto)]
 
 mod failing;
 mod feeds;
+mod launch;
+mod log;
 mod memory_feeds;
 mod memory_sink;
+mod memory_spawner;
+mod memory_web;
 mod place;
 mod sink;
+mod spawner;
 mod sure_feeds;
 mod sure_sink;
+mod sure_spawner;
+mod sure_web;
 mod var;
 mod vars;
+mod web;
 
 pub use feeds::{Feeds, FeedsFault, Got};
+pub use launch::{Dir, Launch};
 pub use memory_feeds::MemoryFeeds;
 pub use memory_sink::MemorySink;
+pub use memory_spawner::MemorySpawner;
+pub use memory_web::MemoryWeb;
 pub use sink::{Sink, SinkFault};
+pub use spawner::{SpawnFault, Spawner};
 pub use sure_feeds::SureFeeds;
 pub use sure_sink::SureSink;
+pub use sure_spawner::SureSpawner;
+pub use sure_web::SureWeb;
 pub use var::Var;
 pub use vars::Vars;
+pub use web::{Web, WebFault};
 
 #[cfg(test)]
 mod tests {
     use super::*;
     use std::test::Fail;
+    use zi_text::{List, Text};
 
     #[test]
     fn feeds_hold_what_was_put_last(rt: HostRuntime) -> Result<(), Fail> {
@@ -44,11 +61,18 @@ mod tests {
     #[test]
     fn feeds_fail_at_the_calls_that_were_named(rt: HostRuntime) -> Result<(), Fail> {
         let mut feeds = MemoryFeeds::new(rt.alloc());
-        feeds.fail_at([2].as_slice())?;
+        feeds.put("/a", b"one".as_slice())?;
+        feeds.fail_at([2, 4].as_slice())?;
         let mut into = Vec::new(rt.alloc());
-        assert!(rt; feeds.get("/a", 4, &mut into) == Ok(Got::Absent));
+        assert!(rt; feeds.get("/b", 4, &mut into) == Ok(Got::Absent));
         assert!(rt; feeds.get("/a", 4, &mut into) == Err(FeedsFault::Failed));
-        assert!(rt; feeds.get("/a", 4, &mut into) == Ok(Got::Absent));
+        assert!(rt; feeds.get("/a", 4, &mut into) == Ok(Got::Held));
+        assert!(rt; feeds.get("/c", 4, &mut into) == Err(FeedsFault::Failed));
+        assert_eq!(rt; into.as_slice(), b"one".as_slice());
+        assert_eq!(rt; feeds.asked().len(), 4);
+        for (asked, key) in feeds.asked().iter().zip(["/b", "/a", "/a", "/c"].iter()) {
+            assert_eq!(rt; asked.as_str(), *key);
+        }
         Ok(())
     }
 
@@ -69,9 +93,53 @@ mod tests {
         feeds.put("/a", b"one".as_slice())?;
         let mut into = Vec::new(rt.alloc());
         assert!(rt; feeds.get("/a", 3, &mut into) == Ok(Got::Held));
+        assert_eq!(rt; feeds.asked().len(), 1);
         let mut sink = SureSink::new(rt.alloc());
         assert!(rt; sink.put(into.as_slice()) == Ok(()));
         assert_eq!(rt; sink.bytes().as_slice(), b"one".as_slice());
+        Ok(())
+    }
+
+    #[test]
+    fn a_web_is_feeds_with_faults_of_its_own(rt: HostRuntime) -> Result<(), Fail> {
+        let mut web = MemoryWeb::new(rt.alloc());
+        web.put("https://a/b", b"one".as_slice())?;
+        web.fail_at([2].as_slice())?;
+        let mut into = Vec::new(rt.alloc());
+        assert!(rt; web.get("https://a/b", 3, &mut into) == Ok(Got::Held));
+        assert!(rt; web.get("https://a/b", 3, &mut into) == Err(WebFault::Failed));
+        assert!(rt; web.get("https://a/c", 3, &mut into) == Ok(Got::Absent));
+        assert_eq!(rt; into.as_slice(), b"one".as_slice());
+        assert_eq!(rt; web.asked().len(), 3);
+        let mut sure = SureWeb::new(rt.alloc());
+        sure.put("https://a/b", b"four".as_slice())?;
+        assert!(rt; sure.get("https://a/b", 3, &mut into) == Ok(Got::TooLong));
+        Ok(())
+    }
+
+    #[test]
+    fn launches_are_answered_in_their_order(rt: HostRuntime) -> Result<(), Fail> {
+        let mut spawner = MemorySpawner::new(rt.alloc());
+        spawner.answer([7, 3].as_slice())?;
+        spawner.fail_at([2].as_slice())?;
+        let mut words = List::new(rt.alloc());
+        words.push(Text::from_str(rt.alloc(), "/bin/program")?)?;
+        let launch = Launch {
+            words,
+            vars: Vars::new(rt.alloc()),
+            dirs: List::new(rt.alloc()),
+        };
+        assert!(rt; spawner.launch(&launch) == Ok(7));
+        assert!(rt; spawner.launch(&launch) == Err(SpawnFault::Failed));
+        assert!(rt; spawner.launch(&launch) == Ok(3));
+        assert!(rt; spawner.launch(&launch) == Ok(0));
+        assert_eq!(rt; spawner.answers().as_slice(), [7, 3, 0].as_slice());
+        assert_eq!(rt; spawner.launches().len(), 3);
+        for done in spawner.launches().as_slice() {
+            assert_eq!(rt; done.words.len(), 1);
+        }
+        let mut sure = SureSpawner::new(rt.alloc());
+        assert!(rt; sure.launch(&launch) == Ok(0));
         Ok(())
     }
 

@@ -27,7 +27,7 @@ impl Model for Vars {
 }
 
 impl Vars {
-    ghost use Rattle.zi_outside.specs.Vars.{value_of, are_in_order, SetsOnly};
+    ghost use Rattle.zi_outside.specs.Vars.{value_of, are_in_order, SetsOnly, with_var};
 
     /// No variables.
     pub fn new(alloc: Global) -> Vars
@@ -83,6 +83,7 @@ impl Vars {
     /// Sets a variable, in place of a value that is there. Where memory is refused nothing changes.
     pub fn set(&mut self, name: &str, value: &str) -> Result<(), Memory>
         ensures ok { OnOk result (SetsOnly self.old name.now value.now self.new) }
+        ensures list { OnOk result (self.new ≡ with_var name.now value.now self.old) }
         ensures err { OnErr result (self.new ≡ self.old) }
     {
         let value = Text::from_str(self.alloc, value)?;
@@ -97,5 +98,38 @@ impl Vars {
                 Ok(())
             }
         }
+    }
+
+    /// The same variables once more, which grow by this allocator. Memory is its one refusal.
+    pub fn copy(&self, alloc: Global) -> Result<Vars, Memory>
+        ensures { IfOk result (λ vars. vars ≡ self.now) }
+    {
+        let mut all = Vec::new(alloc);
+        for var in self.all.iter() {
+            all.push(var.copy(alloc)?)?;
+        }
+        Ok(Vars { alloc, all })
+    }
+}
+
+#[cfg(test)]
+mod tests {
+    use super::*;
+    use std::test::Fail;
+
+    #[test]
+    fn a_copy_is_apart_from_what_it_was_made_of(rt: HostRuntime) -> Result<(), Fail> {
+        let mut vars = Vars::new(rt.alloc());
+        vars.set("PATH", "/bin")?;
+        vars.set("HOME", "/h")?;
+        let mut copy = vars.copy(rt.alloc())?;
+        copy.set("HOME", "/other")?;
+        assert_eq!(rt; copy.len(), 2);
+        assert!(rt;
+            copy.get("PATH")
+                .is_some_and(|value| value.as_str() == "/bin")
+        );
+        assert!(rt; vars.get("HOME").is_some_and(|value| value.as_str() == "/h"));
+        Ok(())
     }
 }

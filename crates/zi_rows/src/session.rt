@@ -250,6 +250,8 @@ fn each_call_fails_in_turn(rt: HostRuntime) -> Result<(), Fail> {
         assert_eq!(rt; session.residue().is_some(), is_left);
         assert_eq!(rt; shelf.top("tmp-0").is_some(), is_left);
         assert_eq!(rt; session.step(alloc, &mut shelf), Step::Over);
+        let blamed = session.into_blamed(alloc);
+        assert_eq!(rt; blamed.as_str(), if k < 6 { "tmp-0" } else { "" });
     }
     Ok(())
 }
@@ -267,6 +269,8 @@ fn a_residue_is_named_while_it_is_there(rt: HostRuntime) -> Result<(), Fail> {
         assert_eq!(rt; named, k > 0 && k < 5);
         session.step(alloc, &mut shelf);
     }
+    let blamed = session.into_blamed(alloc);
+    assert_eq!(rt; blamed.as_str(), "");
     Ok(())
 }
 

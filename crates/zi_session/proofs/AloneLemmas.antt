@@ -11,22 +11,24 @@ use Rattle.zi_shelf.specs.Names.{Name, put, IsIn}
 use Rattle.zi_shelf.specs.Shelved.{Top, Pending, Shelved, Call, MakeTop, Fill, Settle, Rename, SettleTop, RemoveTop, Reply, Did, Exists, Failed, Memory, Answers, Moves, Unknown}
 use Rattle.zi_shelf.specs.Filling.{Work, trees}
 use Rattle.zi_shelf.specs.Told.{Told, change_call, recorded}
+use Rattle.zi_shelf.specs.Shelving.{Shelving}
 use Rattle.zi_shelf.specs.declared.call.ShelfCall.{ShelfCall}
 use Rattle.zi_session.specs.Machine.{World, Phase, Making, Filling, Settling, Renaming, Storing, Removing, Leaving, Ended, Stopped, Stored, Present, Crowded, Fault, filling, next_call, next_phase}
 use Rattle.zi_session.specs.Made.{made}
-use Rattle.zi_session.specs.Places.{tmp_name, phase_of, is_over}
+use Rattle.zi_session.specs.Phases.{tmp_name, phase_of, is_over}
 use Rattle.zi_session.specs.StoreWorks.{algorithm_in, store_works}
-use Rattle.zi_session.specs.Standing.{works, phase}
-use Rattle.zi_session.specs.Stepping.{Calls, Lead, IsAsLeft, IsRun, SureRun, Says, SaysOn}
+use Rattle.zi_session.specs.Standing.{Standing, standing}
+use Rattle.zi_session.specs.Stepping.{Calls, CallsToEnd, Lead, IsAsLeft, IsRun, Says, SaysOn, moved}
 use Rattle.zi_session.specs.Begun.{IsBegun}
 use Rattle.zi_session.specs.Alone.{Tops, added, AreSame, Adds, Finds, FindsTaken, Stops, Ending, IsOwn, Grows, EndsAlone, AloneLaw, AsLeftLaw}
-use Rattle.zi_session.specs.declared.place.Place.{Place}
-use Rattle.zi_session.specs.declared.place.Place.TheVariants as place
+use Rattle.zi_session.specs.declared.phase.Phase.{Phase as SessionPhase}
+use Rattle.zi_session.specs.declared.phase.Phase.TheVariants as in_phase
 use Rattle.zi_session.specs.declared.session.Session.{Session}
 use Rattle.zi_session.specs.declared.step.Step.{Step}
 use Rattle.zi_session.specs.declared.step.Step.TheVariants.{More, Stored as SaysStored, Present as SaysPresent, Crowded as SaysCrowded, Fault as SaysFault, Memory as SaysMemory}
 use Rattle.zi_session.proofs.MapsLemmas.{put-same, put-other, same_or_not, some_none}
 use Rattle.zi_session.proofs.CallsLemmas.{fill_is, made_none, made_more, not_lt}
+use Rattle.zi_session.proofs.FittingLemmas.{left_along}
 use Rattle.zi_session.proofs.TiedLemmas.{no_tmp}
 use Rattle.zi_session.proofs.Remade.{rebuilds}
 
@@ -59,6 +61,25 @@ Alone name tree before (Ended Present) now = Finds name before now
 Alone name tree before (Ended Crowded) now = FindsTaken before now
 Alone name tree before (Ended Fault) now = Stops name tree before now
 Alone name tree before Stopped now = ⊥
+
+-- the session has this name and the calls that fill for this tree
+record IsOf (name : Name) (tree : Dir) (x : Standing) : Type 0 where
+  named : x.name ≡ name
+  makes : x.works ≡ store_works name tree
+
+of_next : (name : Name) (tree : Dir) (x : Standing) (call : Call Work) → IsOf name tree x → next_call tmp_name x.works x.name x.phase ≡ Some call
+    → next_call tmp_name (store_works name tree) name x.phase ≡ Some call
+of_next name tree x call of next = subst (λ ws. next_call tmp_name ws name x.phase ≡ Some call) of.makes (subst (λ n. next_call tmp_name x.works n x.phase ≡ Some call) of.named next)
+
+of_phase : (name : Name) (tree : Dir) (x y : Standing) (reply : Reply) → IsOf name tree x → y ≡ moved x reply → y.phase ≡ next_phase 10000 (length (store_works name tree)) x.phase reply
+of_phase name tree x y reply of goes = ap (λ (z : Standing). z.phase) goes ∙ ap (λ ws. next_phase 10000 (length ws) x.phase reply) of.makes
+
+of_moved : (name : Name) (tree : Dir) (x y : Standing) (reply : Reply) → IsOf name tree x → y ≡ moved x reply → IsOf name tree y
+of_moved name tree x y reply of goes = record { named = ap (λ (z : Standing). z.name) goes ∙ of.named; makes = ap (λ (z : Standing). z.works) goes ∙ of.makes }
+
+of_along : (name : Name) (tree : Dir) (n : ℕ) (x y : Standing) (s t : Told) → Lead n x s y t → IsOf name tree x → IsOf name tree y
+of_along name tree zero x y s t (e, f) of = subst (λ (z : Standing). IsOf name tree z) (sym e) of
+of_along name tree (suc n) x y s t (m, u, l, c) of = of_moved name tree m y c.reply (of_along name tree n x m s u l of) c.goes
 
 -- what a change leaves under a name
 top_after : (new : Shelved Dir) (tops : Tops) (pending : List (Pending Dir)) → new ≡ record { tops = tops; pending = pending } → (x : Name) → new.tops x ≡ tops x
@@ -263,25 +284,13 @@ module _ (name : Name) (tree : Dir) (before : Tops) (apart : (n : ℕ) → name 
   one_call s t (Ended a) reply call h m b = absurd (cc m)
   one_call s t Stopped reply call h m a = absurd (cc m)
 
-  one_step : (p q : Phase) (s t : Told) (step : Step) → Alone name tree before p s.shelf.tops → Calls name (store_works name tree) p s q t step → Alone name tree before q t.shelf.tops
-  one_step p q s t step h c =
-      subst (λ x. Alone name tree before x t.shelf.tops) (sym c.goes) (one_call s.shelf t.shelf p c.reply c.call h c.makes c.leads.answers)
+  one_step : (x y : Standing) (s t : Told) (step : Step) → IsOf name tree x → Alone name tree before x.phase s.shelf.tops → Calls x s step y t → Alone name tree before y.phase t.shelf.tops
+  one_step x y s t step of h c =
+      subst (λ p. Alone name tree before p t.shelf.tops) (sym (of_phase name tree x y c.reply of c.goes)) (one_call s.shelf t.shelf x.phase c.reply c.call h (of_next name tree x c.call of c.next) c.does.answers)
 
-  steps : (n : ℕ) (p q : Phase) (s t : Told) → Alone name tree before p s.shelf.tops → Lead name (store_works name tree) n p s q t → Alone name tree before q t.shelf.tops
-  steps zero p q s t h (e, f) = subst (λ x. Alone name tree before x t.shelf.tops) (sym e) (subst (λ (u : Told). Alone name tree before p u.shelf.tops) (sym f) h)
-  steps (suc n) p q s t h (m, u, l, c) = one_step m q u t More (steps n p m s u h l) c
-
-  -- the temporary entry is as the session left it
-  as_left : (p : Phase) (s : Shelved Dir) → Alone name tree before p s.tops → IsAsLeft (store_works name tree) s p
-  as_left (Making n) s h = tt
-  as_left (Filling n k) s h = (h.part, h.is, h.there)
-  as_left (Settling n) s h = (h.part, h.is, h.there)
-  as_left (Renaming n) s h = (h.part, h.is, h.there)
-  as_left Storing s h = tt
-  as_left (Removing n) s h = (h.1.part, h.1.is, h.1.there)
-  as_left Leaving s h = tt
-  as_left (Ended a) s h = tt
-  as_left Stopped s h = tt
+  steps : (n : ℕ) (x y : Standing) (s t : Told) → IsOf name tree x → Alone name tree before x.phase s.shelf.tops → Lead n x s y t → Alone name tree before y.phase t.shelf.tops
+  steps zero x y s t of h (e, f) = subst (λ (z : Standing). Alone name tree before z.phase t.shelf.tops) (sym e) (subst (λ (u : Told). Alone name tree before x.phase u.shelf.tops) (sym f) h)
+  steps (suc n) x y s t of h (m, u, l, c) = one_step m y u t More (of_along name tree n x m s u l of) (steps n x m s u of h l) c
 
   -- the ending that an answer stands for
   ending_at : (step other : Step) (now : Tops) → step ≡ other → Ending name tree before other now → Ending name tree before step now
@@ -337,112 +346,72 @@ grows_by name tree before after call Exists own e = grows_one name tree before a
 grows_by name tree before after call Failed own e = grows_one name tree before after call own e
 grows_by name tree before after call Memory own e = grows_none name tree before after e
 
-step_grows : (name : Name) (tree : Dir) (p q : Phase) (s t : Told) (step : Step) → Calls name (store_works name tree) p s q t step → Grows name tree s.calls t.calls
-step_grows name tree p q s t step c =
-    grows_by name tree s.calls t.calls (change_call c.call) c.reply (record { place = p; call = c.call; makes = c.makes; recorded = refl }) c.leads.calls
+step_grows : (name : Name) (tree : Dir) (x y : Standing) (s t : Told) (step : Step) → IsOf name tree x → Calls x s step y t → Grows name tree s.calls t.calls
+step_grows name tree x y s t step of c =
+    grows_by name tree s.calls t.calls (change_call c.call) c.reply (record { phase = x.phase; call = c.call; makes = of_next name tree x c.call of c.next; recorded = refl }) c.does.calls
 
-steps_grow : (name : Name) (tree : Dir) (n : ℕ) (p q : Phase) (s t : Told) → Lead name (store_works name tree) n p s q t → Grows name tree s.calls t.calls
-steps_grow name tree zero p q s t (e, f) = grows_none name tree s.calls t.calls (ap (λ (u : Told). u.calls) f)
-steps_grow name tree (suc n) p q s t (m, u, l, c) =
-    grows_on name tree s.calls u.calls t.calls (steps_grow name tree n p m s u l) (step_grows name tree m q u t More c)
+steps_grow : (name : Name) (tree : Dir) (n : ℕ) (x y : Standing) (s t : Told) → IsOf name tree x → Lead n x s y t → Grows name tree s.calls t.calls
+steps_grow name tree zero x y s t of (e, f) = grows_none name tree s.calls t.calls (ap (λ (u : Told). u.calls) f)
+steps_grow name tree (suc n) x y s t of (m, u, l, c) =
+    grows_on name tree s.calls u.calls t.calls (steps_grow name tree n x m s u of l) (step_grows name tree m y u t More (of_along name tree n x m s u l of) c)
 
 -- the last step of a run
-ends_after : (name : Name) (tree : Dir) (s t : Told) (q : Phase) (step : Step) → ((n : ℕ) → name ≢ tmp_name n)
+ends_after : (name : Name) (tree : Dir) (x y : Standing) (s t : Told) (step : Step) → ((n : ℕ) → name ≢ tmp_name n)
     → made trees (store_works name tree) (length (store_works name tree)) trees.empty ≡ Some (added name tree).tree → as_read (added name tree).tree ≡ tree
-    → step ≢ More → IsRun (Unit {0}) name (store_works name tree) (Making 0) (Some s) q (Some t) step → EndsAlone name tree s step t
-ends_after name tree s t q step apart makes read ne run =
-    let r = run.run s tt refl in
-    let m = r.1 in
-    let u = r.2 in
-    let start : Alone name tree s.shelf.tops (Making 0) s.shelf.tops = record { few = omega arith; taken = λ k less. absurd (omega arith); same = λ x. refl } in
-    let there : Alone name tree s.shelf.tops m u.shelf.tops = steps name tree s.shelf.tops apart makes r.0 (Making 0) m s u start r.3 in
-    let grown : Grows name tree s.calls u.calls = steps_grow name tree r.0 (Making 0) m s u r.3 in
-    elim r.4 [
-      | inl w ↦
-          let same : t ≡ u = cc w.same in
-          record {
-            tops = ending_at name tree s.shelf.tops apart makes step SaysMemory t.shelf.tops w.says
-                (stops_in name tree s.shelf.tops apart makes m t.shelf.tops (subst (λ (v : Told). Alone name tree s.shelf.tops m v.shelf.tops) (sym same) there));
-            calls = subst (λ (v : Told). Grows name tree s.calls v.calls) (sym same) grown;
-            read = read;
-          }
-      | inr l ↦
-          let same : t ≡ l.0 = cc l.1 in
-          let c' : Calls name (store_works name tree) m u q t step = subst (λ (x : Told). Calls name (store_works name tree) m u q x step) (sym same) l.2 in
-          record {
-            tops = ending_on name tree s.shelf.tops apart makes m q c'.reply step t.shelf.tops ne c'.says (one_step name tree s.shelf.tops apart makes m q u t step there c');
-            calls = grows_on name tree s.calls u.calls t.calls grown (step_grows name tree m q u t step c');
-            read = read;
-          }
-    ]
+    → IsOf name tree x → x.phase ≡ Making 0 → step ≢ More → CallsToEnd x s step y t → EndsAlone name tree s step t
+ends_after name tree x y s t step apart makes read of at ne run =
+    let m = run.there in
+    let u = run.told in
+    let c = run.last in
+    let start : Alone name tree s.shelf.tops (Making 0) s.shelf.tops = record { few = omega arith; taken = λ k less. absurd (omega arith); same = λ n. refl } in
+    let begin : Alone name tree s.shelf.tops x.phase s.shelf.tops = subst (λ p. Alone name tree s.shelf.tops p s.shelf.tops) (sym at) start in
+    let there : Alone name tree s.shelf.tops m.phase u.shelf.tops = steps name tree s.shelf.tops apart makes run.number x m s u of begin run.first in
+    let of_there : IsOf name tree m = of_along name tree run.number x m s u run.first of in
+    record {
+      tops = ending_on name tree s.shelf.tops apart makes m.phase y.phase c.reply step t.shelf.tops ne c.says (one_step name tree s.shelf.tops apart makes m y u t step of_there there c);
+      calls = grows_on name tree s.calls u.calls t.calls (steps_grow name tree run.number x m s u of run.first) (step_grows name tree m y u t step of_there c);
+      read = read;
+    }
 
 -- a session that has begun hasn't ended
-open_at : (p : Place) (n k : ℕ) → Making 0 ≡ phase_of p n k → is_over p ≡ false
-open_at place.Makes n k e = refl
-open_at place.Fills n k e = absurd (cc e)
-open_at place.Settles n k e = absurd (cc e)
-open_at place.Renames n k e = absurd (cc e)
-open_at place.Stores n k e = absurd (cc e)
-open_at place.Removes n k e = absurd (cc e)
-open_at place.Leaves n k e = absurd (cc e)
-open_at place.IsStored n k e = absurd (cc e)
-open_at place.IsPresent n k e = absurd (cc e)
-open_at place.IsCrowded n k e = absurd (cc e)
-open_at place.IsFaulty n k e = absurd (cc e)
-open_at place.IsStuck n k e = absurd (cc e)
+open_at : (p : SessionPhase) (n k : ℕ) → Making 0 ≡ phase_of p n k → is_over p ≡ false
+open_at in_phase.Makes n k e = refl
+open_at in_phase.Fills n k e = absurd (cc e)
+open_at in_phase.Settles n k e = absurd (cc e)
+open_at in_phase.Renames n k e = absurd (cc e)
+open_at in_phase.Stores n k e = absurd (cc e)
+open_at in_phase.Removes n k e = absurd (cc e)
+open_at in_phase.Leaves n k e = absurd (cc e)
+open_at in_phase.IsStored n k e = absurd (cc e)
+open_at in_phase.IsPresent n k e = absurd (cc e)
+open_at in_phase.IsCrowded n k e = absurd (cc e)
+open_at in_phase.IsUnmade n k e = absurd (cc e)
+open_at in_phase.IsStuck n k e = absurd (cc e)
+open_at in_phase.IsFaulty n k e = absurd (cc e)
 
-pub begun_open : (name : DigestName) (tree : Dir) (x : Session) → IsBegun name tree x → is_over x.place ≡ false
-begun_open name tree x b = open_at x.place x.number x.done b.stands.phase
-
--- the shelf still tells what it holds after a run
-pub run_tells : (honest : Type 0) (name : Name) (its : List Work) (p q : Phase) (before after : Option Told) (s : Told) (step : Step)
-    → honest → before ≡ Some s → IsRun honest name its p before q after step → (t : Told) × (after ≡ Some t)
-run_tells honest name its p q before after s step h is run =
-    let r = run.run s h is in
-    elim r.4 [ inl w ↦ (r.2, w.same) | inr l ↦ (l.0, l.1) ]
+pub begun_open : (name : DigestName) (tree : Dir) (x : Session) → IsBegun name tree x → is_over x.phase ≡ false
+begun_open name tree x b = open_at x.phase x.number x.done b.stands.phase
 
 pub alone_law : AloneLaw
-alone_law name tree x s t q step b ne run =
+alone_law name tree x s t step y b ne run =
     let world : World Dir = record { shelf = s.shelf; adders = [] } in
     let begins = (b.leads world).1 in
     let r = rebuilds tree (manifest (algorithm_in (spelling name)) tree) begins.0 begins.1 in
-    let named : x.name ≡ spelling name = sym b.stands.named in
-    let its : works x ≡ store_works (spelling name) tree = sym b.stands.makes in
-    let at : phase x ≡ Making 0 = sym b.stands.phase in
-    let run1 = subst (λ n. IsRun (Unit {0}) n (works x) (phase x) (Some s) q (Some t) step) named run in
-    let run2 = subst (λ ws. IsRun (Unit {0}) (spelling name) ws (phase x) (Some s) q (Some t) step) its run1 in
-    let run3 = subst (λ p. IsRun (Unit {0}) (spelling name) (store_works (spelling name) tree) p (Some s) q (Some t) step) at run2 in
-    ends_after (spelling name) tree s t q step (no_tmp name) r.makes r.read ne run3
+    let of : IsOf (spelling name) tree (standing x) = record { named = sym b.stands.named; makes = sym b.stands.makes } in
+    ends_after (spelling name) tree (standing x) y s t step (no_tmp name) r.makes r.read of (sym b.stands.phase) ne run
 
 -- the same over an honest shelf that tells what it holds
-pub ends_alone : (honest : Type 0) (name : DigestName) (tree : Dir) (x : Session) (before after : Option Told) (s t : Told) (q : Phase) (step : Step) → IsBegun name tree x
-    → honest → before ≡ Some s → after ≡ Some t → step ≢ More → IsRun honest x.name (works x) (phase x) before q after step → EndsAlone (spelling name) tree s step t
-ends_alone honest name tree x before after s t q step b h told tells ne run =
-    let over : IsRun honest x.name (works x) (phase x) before q (Some t) step = subst (λ o. IsRun honest x.name (works x) (phase x) before q o step) tells run in
-    alone_law name tree x s t q step b ne (record { run = λ v one is. over.run v h (told ∙ is) })
+pub ends_alone : (name : DigestName) (tree : Dir) (x : Session) (y : Standing) (before after : Shelving) (s : Told) (step : Step) → IsBegun name tree x
+    → before.honest → before.told ≡ Some s → step ≢ More → IsRun (standing x) before step y after → (t : Told) × (after.told ≡ Some t) × EndsAlone (spelling name) tree s step t
+ends_alone name tree x y before after s step b honest told ne run =
+    let r = run.calls s honest told in
+    (r.0, r.1, alone_law name tree x s r.0 step y b ne r.2)
 
--- where the steps of a session led that began and that runs alone
-left_after : (name : Name) (tree : Dir) (n : ℕ) (s t : Told) (q : Phase) → ((k : ℕ) → name ≢ tmp_name k)
-    → made trees (store_works name tree) (length (store_works name tree)) trees.empty ≡ Some (added name tree).tree
-    → Lead name (store_works name tree) n (Making 0) s q t → IsAsLeft (store_works name tree) t.shelf q
-left_after name tree n s t q apart makes lead =
-    let start : Alone name tree s.shelf.tops (Making 0) s.shelf.tops = record { few = omega arith; taken = λ k less. absurd (omega arith); same = λ x. refl } in
-    as_left name tree s.shelf.tops apart makes q t.shelf (steps name tree s.shelf.tops apart makes n (Making 0) q s t start lead)
+-- a session that has begun has no entry yet
+pub begun_own : (name : DigestName) (tree : Dir) (x : Session) (s : Shelved Dir) → IsBegun name tree x → IsAsLeft (standing x).works (standing x).phase s
+begun_own name tree x s b =
+    let none : IsAsLeft (standing x).works (Making 0) s = tt in
+    subst (λ p. IsAsLeft (standing x).works p s) b.stands.phase none
 
 pub as_left_law : AsLeftLaw
-as_left_law name tree x n s t q b lead =
-    let world : World Dir = record { shelf = s.shelf; adders = [] } in
-    let begins = (b.leads world).1 in
-    let r = rebuilds tree (manifest (algorithm_in (spelling name)) tree) begins.0 begins.1 in
-    let named : x.name ≡ spelling name = sym b.stands.named in
-    let its : works x ≡ store_works (spelling name) tree = sym b.stands.makes in
-    let at : phase x ≡ Making 0 = sym b.stands.phase in
-    let lead1 = subst (λ m. Lead m (works x) n (phase x) s q t) named lead in
-    let lead2 = subst (λ ws. Lead (spelling name) ws n (phase x) s q t) its lead1 in
-    let lead3 = subst (λ p. Lead (spelling name) (store_works (spelling name) tree) n p s q t) at lead2 in
-    subst (λ ws. IsAsLeft ws t.shelf q) (sym its) (left_after (spelling name) tree n s t q (no_tmp name) r.makes lead3)
-
--- so over a sure shelf the count doesn't rise in a run
-pub run_calm : (name : DigestName) (tree : Dir) (x : Session) (before : Option Told) (s : Told) (f f' : ℕ) → IsBegun name tree x → before ≡ Some s
-    → SureRun x.name (works x) (phase x) before f f' → f' ≡ f
-run_calm name tree x before s f f' b is run = run.no_rise s is (λ n q t lead. as_left_law name tree x n s t q b lead)
+as_left_law name tree x n s t y b lead = left_along n (standing x) y s t lead (begun_own name tree x s.shelf b)

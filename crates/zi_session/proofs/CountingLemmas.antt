@@ -9,10 +9,10 @@ use Rattle.zi_shelf.specs.Names.{Name}
 use Rattle.zi_shelf.specs.Shelved.{Shelved, Call, Settle, SettleTop, RemoveTop, Reply, Did, Exists, Failed, Memory, Answers}
 use Rattle.zi_shelf.specs.Filling.{Work, Append, FinishFile, trees}
 use Rattle.zi_session.specs.Machine.{Phase, Making, Filling, Settling, Renaming, Storing, Removing, Leaving, Ended, Stopped, Crowded, filling, next_call, next_phase}
-use Rattle.zi_session.specs.Places.{tmp_name}
+use Rattle.zi_session.specs.Phases.{tmp_name}
 use Rattle.zi_session.specs.Works.{pieces, file_works, below, leaf_works, folder_works, node_works, works_of}
 use Rattle.zi_session.specs.StoreWorks.{algorithm_in, store_works}
-use Rattle.zi_session.specs.Standing.{works, phase}
+use Rattle.zi_session.specs.Standing.{Standing, standing}
 use Rattle.zi_session.specs.Counting.{nodes, file_pieces, found_taken, MakesCall, MakesCalls, FewCalls}
 use Rattle.zi_session.proofs.CallsLemmas.{fill_is}
 
@@ -114,10 +114,11 @@ spends_all name ws (suc n) p q taken (m, first, last, before, call, sum) =
 
 pub few_calls : FewCalls
 few_calls name tree x n taken q b calls =
-    let its : works x ≡ store_works (spelling name) tree = sym b.stands.makes in
-    let at : phase x ≡ Making 0 = sym b.stands.phase in
-    let from = subst (λ p. MakesCalls x.name (works x) n p q taken) at calls in
-    let all : n + left_in (length (works x)) q ≤ (length (works x) + 5) + taken = spends_all x.name (works x) n (Making 0) q taken from in
-    let many : length (works x) ≡ nodes tree + file_pieces tree + (length (pieces (manifest (algorithm_in (spelling name)) tree)) + 1) =
+    let here : Standing = standing x in
+    let its : here.works ≡ store_works (spelling name) tree = sym b.stands.makes in
+    let at : here.phase ≡ Making 0 = sym b.stands.phase in
+    let from = subst (λ p. MakesCalls here.name here.works n p q taken) at calls in
+    let all : n + left_in (length here.works) q ≤ (length here.works + 5) + taken = spends_all here.name here.works n (Making 0) q taken from in
+    let many : length here.works ≡ nodes tree + file_pieces tree + (length (pieces (manifest (algorithm_in (spelling name)) tree)) + 1) =
     ap length its ∙ count_works tree (manifest (algorithm_in (spelling name)) tree) in
     omega (arith, all, many)

@@ -49,8 +49,8 @@ module _ {T W : Type 0} (r : Rules T W) where
   owned_few s name tree (Ended a) n o f = absurd (cc o)
   owned_few s name tree Stopped n o f = absurd (cc o)
 
-  part_stays : (old new : Shelved T) (place : Name) → Frame r old new place → (name : Name) (tree : T) (n k : ℕ) (mark : Bool) → r.tmp n ≢ place → HoldsPart r old name tree n k mark → HoldsPart r new name tree n k mark
-  part_stays old new place f name tree n k mark ne h = record { few = h.few; part = h.part; is = h.is; there = f.others n ne ∙ h.there }
+  part_stays : (old new : Shelved T) (place : Name) → Frame r old new place → (works : List W) (n k : ℕ) (mark : Bool) → r.tmp n ≢ place → HoldsPart r old works n k mark → HoldsPart r new works n k mark
+  part_stays old new place f works n k mark ne h = record { few = h.few; part = h.part; is = h.is; there = f.others n ne ∙ h.there }
 
   name_stays : (old new : Shelved T) (place : Name) → Frame r old new place → (name : Name) → r.is_digest name → IsSome (old.tops name) → IsSome (new.tops name)
   name_stays old new place f name is h = let found = some_of (old.tops name) h in is_some_of (new.tops name) found.0 (f.kept name found.0 is found.1)
@@ -59,11 +59,11 @@ module _ {T W : Type 0} (r : Rules T W) where
   phase_stays : (old new : Shelved T) (place : Name) → Frame r old new place → (name : Name) (tree : T) (p : Phase) → r.is_digest name
       → ((n : ℕ) → owned p ≡ Some n → r.tmp n ≢ place) → PhaseFits r old name tree p → PhaseFits r new name tree p
   phase_stays old new place f name tree (Making n) is ne h = h
-  phase_stays old new place f name tree (Filling n k) is ne h = part_stays old new place f name tree n k false (ne n refl) h
-  phase_stays old new place f name tree (Settling n) is ne h = part_stays old new place f name tree n (length (r.works name tree)) false (ne n refl) h
-  phase_stays old new place f name tree (Renaming n) is ne h = part_stays old new place f name tree n (length (r.works name tree)) true (ne n refl) h
+  phase_stays old new place f name tree (Filling n k) is ne h = part_stays old new place f (r.works name tree) n k false (ne n refl) h
+  phase_stays old new place f name tree (Settling n) is ne h = part_stays old new place f (r.works name tree) n (length (r.works name tree)) false (ne n refl) h
+  phase_stays old new place f name tree (Renaming n) is ne h = part_stays old new place f (r.works name tree) n (length (r.works name tree)) true (ne n refl) h
   phase_stays old new place f name tree Storing is ne h = name_stays old new place f name is h
-  phase_stays old new place f name tree (Removing n) is ne h = (name_stays old new place f name is h.0, part_stays old new place f name tree n (length (r.works name tree)) true (ne n refl) h.1)
+  phase_stays old new place f name tree (Removing n) is ne h = (name_stays old new place f name is h.0, part_stays old new place f (r.works name tree) n (length (r.works name tree)) true (ne n refl) h.1)
   phase_stays old new place f name tree Leaving is ne h = name_stays old new place f name is h
   phase_stays old new place f name tree (Ended Stored) is ne h = (name_stays old new place f name is h.0, f.quiet name is h.0 h.1)
   phase_stays old new place f name tree (Ended Present) is ne h = (name_stays old new place f name is h.0, f.quiet name is h.0 h.1)

@@ -11,7 +11,7 @@ use Rattle.zi_manifest.specs.Manifest.{first_bad, manifest, digest_of}
 use Rattle.zi_session.specs.Works.{works_of}
 use Rattle.zi_session.specs.Made.{made}
 use Rattle.zi_session.specs.Machine.{Making}
-use Rattle.zi_session.specs.Places.{phase_of}
+use Rattle.zi_session.specs.Phases.{phase_of, residue_of}
 use Rattle.zi_session.specs.StoreRules.{MayBegin}
 use Rattle.zi_session.specs.StoreWorks.{algorithm_in, store_works}
 use Rattle.zi_session.specs.Walk.{calls}
@@ -38,8 +38,10 @@ pub fit_of : (n : Name) (x : Dir) (ws : List Work) → MayBegin x n → ws ≡ s
 fit_of n x ws m e = ap (λ vs. is_some (made trees vs (length vs) trees.empty)) e ∙ ap is_some (rebuilds x (manifest (algorithm_in n) x) m.0 m.1).makes
 
 -- a session with these calls stands for an adder that begins
-pub begun : (d : DigestName) (x : Dir) (s : Session) → IsDigest d → MayBegin x (spelling d) → s.name ≡ spelling d → calls s.works.items ≡ store_works (spelling d) x → phase_of s.place s.number s.done ≡ Making 0 → IsBegun d x s
-begun d x s is may named e p = record {
+pub begun : (d : DigestName) (x : Dir) (s : Session) → IsDigest d → MayBegin x (spelling d) → s.name ≡ spelling d → calls s.works.items ≡ store_works (spelling d) x
+    → phase_of s.phase s.number s.done ≡ Making 0 → residue_of s.phase s.number ≡ None → IsBegun d x s
+begun d x s is may named e p none = record {
   leads = λ w. ((d, is, refl), may, refl, refl);
   stands = record { named = sym named; makes = sym e; phase = sym p };
+  starts = rw (named, e, p, none) refl;
 }

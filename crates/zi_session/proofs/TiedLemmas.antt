@@ -12,8 +12,9 @@ use Rattle.zi_shelf.specs.Filling.{trees}
 use Rattle.zi_session.specs.Machine.{Adder, Phase}
 use Rattle.zi_session.specs.Machine.{Step as StepOf}
 use Rattle.zi_session.specs.Law.{IsLawful}
-use Rattle.zi_session.specs.Places.{tmp_name}
+use Rattle.zi_session.specs.Phases.{tmp_name}
 use Rattle.zi_session.specs.Made.{made}
+use Rattle.zi_session.specs.Standing.{Standing}
 use Rattle.zi_session.specs.Rebuilding.{with_manifest}
 use Rattle.zi_session.specs.StoreRules.{rules, IsNamed, MayBegin}
 use Rattle.zi_session.specs.StoreWorks.{algorithm_in, store_works}
@@ -62,20 +63,20 @@ lawful = record {
 }
 
 pub is_event : StepIsEvent
-is_event adders i a name its p q s t step stands at c = record {
+is_event adders i a x y s t step stands at c = record {
   adder = a;
   is = at;
   call = c.call;
-  makes = rw (stands.makes, stands.named, stands.phase) c.makes;
+  makes = rw (stands.makes, stands.named, stands.phase) c.next;
   reply = c.reply;
-  answers = c.leads.answers;
-  adders = ap (λ (x : Phase). let b : Adder Dir = record a { phase = x } in slice_set adders i b) (rw (stands.makes, stands.phase) c.goes);
+  answers = c.does.answers;
+  adders = ap (λ (p : Phase). let b : Adder Dir = record a { phase = p } in slice_set adders i b) (rw (stands.makes, stands.phase) (ap (λ (z : Standing). z.phase) c.goes));
 }
 
 pub keeps : StepKeeps
-keeps adders i a name its p q s t step stands at c inv =
-    event_keeps rules lawful (record { shelf = s.shelf; adders = adders }) (record { shelf = t.shelf; adders = slice_set adders i (record a { phase = q }) }) (StepOf i) inv
-    (is_event adders i a name its p q s t step stands at c)
+keeps adders i a x y s t step stands at c inv =
+    event_keeps rules lawful (record { shelf = s.shelf; adders = adders }) (record { shelf = t.shelf; adders = slice_set adders i (record a { phase = y.phase }) }) (StepOf i) inv
+    (is_event adders i a x y s t step stands at c)
 
 pub events_keep : EventsKeep
 events_keep = is_kept rules lawful

@@ -10,11 +10,11 @@ use Rattle.zi_shelf.specs.Filling.{Work}
 use Rattle.zi_shelf.specs.Told.{Told, change_call}
 use Rattle.zi_shelf.specs.declared.call.ShelfCall.{ShelfCall}
 use Rattle.zi_session.specs.Machine.{Phase, next_call}
-use Rattle.zi_session.specs.Places.{tmp_name}
+use Rattle.zi_session.specs.Phases.{tmp_name}
 use Rattle.zi_session.specs.Rebuilding.{with_manifest}
 use Rattle.zi_session.specs.StoreWorks.{algorithm_in, store_works}
-use Rattle.zi_session.specs.Standing.{works, phase}
-use Rattle.zi_session.specs.Stepping.{Lead, IsAsLeft, IsRun}
+use Rattle.zi_session.specs.Standing.{Standing, standing}
+use Rattle.zi_session.specs.Stepping.{Lead, IsAsLeft, CallsToEnd}
 use Rattle.zi_session.specs.Begun.{IsBegun}
 use Rattle.zi_session.specs.declared.session.Session.{Session}
 use Rattle.zi_session.specs.declared.step.Step.{Step}
@@ -67,9 +67,9 @@ Ending name tree before Over after = ⊥
 
 -- the call of a step
 pub record IsOwn (name : Name) (tree : Dir) (c : ShelfCall) : Type 0 where
-  pub place : Phase
+  pub phase : Phase
   pub call : Call Work
-  pub makes : next_call tmp_name (store_works name tree) name place ≡ Some call
+  pub makes : next_call tmp_name (store_works name tree) name phase ≡ Some call
   pub recorded : c ≡ change_call call
 
 -- the record has grown by calls of steps
@@ -87,11 +87,10 @@ pub record EndsAlone (name : Name) (tree : Dir) (s : Told) (step : Step) (t : To
 
 -- a run from the beginning of a session to an answer that isn't More
 abbrev pub AloneLaw : Type 0
-AloneLaw = (name : DigestName) (tree : Dir) (x : Session) (s t : Told) (q : Phase) (step : Step)
-    → IsBegun name tree x → step ≢ More → IsRun (Unit {0}) x.name (works x) (phase x) (Some s) q (Some t) step
-    → EndsAlone (spelling name) tree s step t
+AloneLaw = (name : DigestName) (tree : Dir) (x : Session) (s t : Told) (step : Step) (y : Standing)
+    → IsBegun name tree x → step ≢ More → CallsToEnd (standing x) s step y t → EndsAlone (spelling name) tree s step t
 
 -- Each step of a session that runs alone finds its temporary entry as the session left it.
 abbrev pub AsLeftLaw : Type 0
-AsLeftLaw = (name : DigestName) (tree : Dir) (x : Session) (n : ℕ) (s t : Told) (q : Phase)
-    → IsBegun name tree x → Lead x.name (works x) n (phase x) s q t → IsAsLeft (works x) t.shelf q
+AsLeftLaw = (name : DigestName) (tree : Dir) (x : Session) (n : ℕ) (s t : Told) (y : Standing)
+    → IsBegun name tree x → Lead n (standing x) s y t → IsAsLeft y.works y.phase t.shelf

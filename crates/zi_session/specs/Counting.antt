@@ -8,10 +8,10 @@ use Rattle.zi_shelf.specs.Names.{Name}
 use Rattle.zi_shelf.specs.Shelved.{Shelved, Call, Reply, Exists, Memory, Answers}
 use Rattle.zi_shelf.specs.Filling.{Work, trees}
 use Rattle.zi_session.specs.Machine.{Phase, Making, next_call, next_phase}
-use Rattle.zi_session.specs.Places.{tmp_name}
+use Rattle.zi_session.specs.Phases.{tmp_name}
 use Rattle.zi_session.specs.Works.{pieces}
 use Rattle.zi_session.specs.StoreWorks.{algorithm_in}
-use Rattle.zi_session.specs.Standing.{works, phase}
+use Rattle.zi_session.specs.Standing.{standing}
 use Rattle.zi_session.specs.Begun.{IsBegun}
 use Rattle.zi_session.specs.declared.session.Session.{Session}
 
@@ -60,5 +60,5 @@ MakesCalls name works (suc n) p q taken =
 
 abbrev pub FewCalls : Type 0
 FewCalls = (name : DigestName) (tree : Dir) (x : Session) (n taken : ℕ) (q : Phase)
-    → IsBegun name tree x → MakesCalls x.name (works x) n (phase x) q taken
+    → IsBegun name tree x → MakesCalls (standing x).name (standing x).works n (standing x).phase q taken
     → n ≤ 6 + nodes tree + all_pieces (spelling name) tree + taken

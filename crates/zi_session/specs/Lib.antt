@@ -5,7 +5,7 @@ pub mod StoreWorks
 pub mod Machine
 pub mod Law
 pub mod Invariant
-pub mod Places
+pub mod Phases
 pub mod Standing
 pub mod Stepping
 pub mod StoreRules

@@ -9,7 +9,7 @@ use Rattle.zi_manifest.specs.Manifest.{own_name, digest_of, HasManifest}
 use Rattle.zi_shelf.specs.Names.{Name}
 use Rattle.zi_shelf.specs.Filling.{Work, trees}
 use Rattle.zi_session.specs.Machine.{Rules}
-use Rattle.zi_session.specs.Places.{tmp_name}
+use Rattle.zi_session.specs.Phases.{tmp_name}
 use Rattle.zi_session.specs.StoreWorks.{store_works}
 
 -- the text of a digest name

@@ -7,7 +7,7 @@ pub mod alone_laws;
 mod begin;
 mod files;
 pub mod laws;
-mod place;
+mod phase;
 mod put;
 mod session;
 mod step;

@@ -5,11 +5,11 @@
 ghost use Rattle.std.specs.Prelude.{◌≡◌, ◌<◌, [], true, length, map, is_some};
 ghost use Rattle.zi_shelf.specs.Filling.{trees};
 ghost use Rattle.zi_session.specs.Made.{made};
-ghost use Rattle.zi_session.specs.Places.{tmp_name, has_entry, is_filling};
+ghost use Rattle.zi_session.specs.Phases.{tmp_name, keeps_tmp, is_filling};
 ghost use Rattle.zi_session.specs.Works.{work_of};
-ghost use Rattle.zi_session.specs.declared.place.Place.TheVariants.{Makes};
+ghost use Rattle.zi_session.specs.declared.phase.Phase.TheVariants.{Makes};
 
-use crate::place::Place;
+use crate::phase::Phase;
 use crate::work::Work;
 use std::alloc::Global;
 use zi_text::Text;
@@ -21,15 +21,15 @@ pub struct Session {
     pub(crate) name: Text,
     /// The calls that fill the temporary entry, in their order.
     pub(crate) works: Vec<Work>,
-    pub(crate) place: Place,
+    pub(crate) phase: Phase,
     /// The number of the temporary name.
     pub(crate) number: u32,
     /// So many of the calls that fill are done.
     pub(crate) done: usize,
-    /// The temporary name, once an entry of that name was made.
+    /// The temporary name, once an entry of that name was made or was refused.
     pub(crate) tmp: Text,
-    ghost named: { has_entry place ≡ true → tmp ≡ tmp_name number },
-    ghost inside: { is_filling place ≡ true → done < length works.items },
+    ghost named: { keeps_tmp phase ≡ true → tmp ≡ tmp_name number },
+    ghost inside: { is_filling phase ≡ true → done < length works.items },
     ghost few: { number < 10000 },
     ghost fit: { is_some (made trees (map work_of works.items) (length (map work_of works.items)) trees.empty) ≡ true },
 }
@@ -40,13 +40,13 @@ impl Session {
         requires { is_some (made trees (map work_of works.items) (length (map work_of works.items)) trees.empty) ≡ true }
         ensures name { result.name ≡ name }
         ensures works { result.works ≡ works }
-        ensures place { result.place ≡ Makes }
+        ensures phase { result.phase ≡ Makes }
         ensures number { result.number ≡ 0 }
     {
         Session {
             name,
             works,
-            place: Place::Makes,
+            phase: Phase::Makes,
             number: 0,
             done: 0,
             tmp: Text::new(alloc),

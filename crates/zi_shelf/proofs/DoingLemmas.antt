@@ -4,15 +4,13 @@ use Rattle.std.specs.List.{list_any}
 use Rattle.std.proofs.lemmas.List.{reverse-append}
 use Rattle.zi_tree.specs.Dir.{Dir, Nothing}
 use Rattle.zi_shelf.specs.Names.{Name, put}
-use Rattle.zi_shelf.specs.Shelved.{Top, Pending, Renamed, Removed, Shelved, Call, MakeTop, Settle, Rename, RemoveTop, Reply, Did, Exists, Failed, Memory, Answers}
-use Rattle.zi_shelf.specs.declared.shelf.ShelfFault.{ShelfFault}
-use Rattle.zi_shelf.specs.declared.shelf.ShelfFault.TheVariants.{Failed as FailedCall, Memory as NoMemory}
+use Rattle.zi_shelf.specs.Shelved.{Top, Pending, Renamed, Removed, Shelved, Call, MakeTop, Settle, Rename, SettleTop, RemoveTop, Reply, Did, Exists, Answers}
 use Rattle.zi_shelf.specs.declared.top_entry.TopEntry.{TopEntry}
 use Rattle.zi_shelf.specs.declared.top_entry.Later.{Later}
 use Rattle.zi_shelf.specs.declared.top_entry.Later.TheVariants.{RenamedTop, RemovedTop}
 use Rattle.zi_shelf.specs.declared.call.ShelfCall.{ShelfCall}
 use Rattle.zi_shelf.specs.Filling.{Work, trees}
-use Rattle.zi_shelf.specs.Told.{Told, placed, FailsAsPlanned, Does, Leads, recorded, change_call, fault_reply}
+use Rattle.zi_shelf.specs.Told.{Told, placed, FailsAsPlanned, Leads, recorded, change_call}
 use Rattle.zi_shelf.specs.Memory.{top_of, tops_of, are_apart, later_of, told_of, IsAt}
 use Rattle.zi_shelf.proofs.TopsLemmas.{put_same, found_at, at_name, tops_set, tops_remove}
 
@@ -26,21 +24,15 @@ newest_first ps ps' l e = ap (λ (q : List Later). map later_of (reverse q)) e �
 pub calls_more : (cs cs' : List ShelfCall) (c d : ShelfCall) → cs' ≡ cs ++ c ∷ [] → c ≡ d → cs' ≡ cs ++ d ∷ []
 calls_more cs cs' c d e f = e ∙ ap (λ (x : ShelfCall). cs ++ x ∷ []) f
 
-pub does : (es es' : List TopEntry) (ps ps' : List Later) (cs cs' : List ShelfCall) (call : Call Work) (reply : Reply) → Answers trees (shelved es ps) call reply (shelved es' ps')
-    → cs' ≡ recorded cs (change_call call) reply → Does (Unit {0}) (Some (told_of es ps cs)) call reply (Some (told_of es' ps' cs'))
-does es es' ps ps' cs cs' call reply answers calls = record {
-  leads = λ s honest e.
-      let same : told_of es ps cs ≡ s = cc e in
-      (told_of es' ps' cs', refl, subst (λ x. Leads x call reply (told_of es' ps' cs')) same (record { answers = answers; calls = calls }));
-}
+-- what an honest shelf that told the one goes on to tell
+abbrev pub Led : Option Told → Call Work → Reply → Option Told → Type 0
+Led before call reply after = (s : Told) → Unit {0} → before ≡ Some s → (t : Told) × (after ≡ Some t) × Leads s call reply t
 
--- a call that fails, and leaves the shelf as it was
-pub fails : (es : List TopEntry) (ps : List Later) (cs cs' : List ShelfCall) (c : ShelfCall) (call : Call Work) (fault : ShelfFault) {Q R : Type 0} → c ≡ change_call call
-    → Answers trees (shelved es ps) call Failed (shelved es ps)
-    → (fault ≡ FailedCall → (cs' ≡ cs ++ c ∷ []) × Q) → (fault ≡ NoMemory → (cs' ≡ cs) × R)
-    → Does (Unit {0}) (Some (told_of es ps cs)) call (fault_reply fault) (Some (told_of es ps cs'))
-fails es ps cs cs' c call FailedCall e answers failed memory = does es es ps ps cs cs' call Failed answers (calls_more cs cs' c (change_call call) (failed refl).0 e)
-fails es ps cs cs' c call NoMemory e answers failed memory = does es es ps ps cs cs' call Memory refl (memory refl).0
+pub does : (es es' : List TopEntry) (ps ps' : List Later) (cs cs' : List ShelfCall) (call : Call Work) (reply : Reply) → Answers trees (shelved es ps) call reply (shelved es' ps')
+    → cs' ≡ recorded cs (change_call call) reply → Led (Some (told_of es ps cs)) call reply (Some (told_of es' ps' cs'))
+does es es' ps ps' cs cs' call reply answers calls = λ s honest e.
+    let same : told_of es ps cs ≡ s = cc e in
+    (told_of es' ps' cs', refl, subst (λ x. Leads x call reply (told_of es' ps' cs')) same (record { answers = answers; calls = calls }))
 
 -- an entry that may be unknown may be as it was
 pub unknown_same : (es : List TopEntry) (ps : List Later) (n : Name) → (what : Option (Top Dir)) × (shelved es ps ≡ record { tops = put (tops_of es) n what; pending = map later_of (reverse ps) })
@@ -57,7 +49,7 @@ is_free es n None h t = h
 is_free es n (Some i) h t = absurd (cc t)
 
 pub exists_does : (es : List TopEntry) (ps : List Later) (cs cs' : List ShelfCall) (c : ShelfCall) (n : Name) → IsSome (tops_of es n) → cs' ≡ cs ++ c ∷ [] → c ≡ change_call (MakeTop n)
-    → Does (Unit {0}) (Some (told_of es ps cs)) (MakeTop n) Exists (Some (told_of es ps cs'))
+    → Led (Some (told_of es ps cs)) (MakeTop n) Exists (Some (told_of es ps cs'))
 exists_does es ps cs cs' c n there e f = does es es ps ps cs cs' (MakeTop n) Exists (there, refl) (calls_more cs cs' c (change_call (MakeTop n)) e f)
 
 -- shelves with equal maps are equal
@@ -66,26 +58,31 @@ same_shelf ps f g e = ap (λ (h : Name → Option (Top Dir)). let s : Shelved Di
 
 pub made_does : (es es' : List TopEntry) (ps : List Later) (cs cs' : List ShelfCall) (c : ShelfCall) (n m : Name) (tree : Dir) → tops_of es n ≡ None → m ≡ n → tree ≡ Nothing
     → tops_of es' ≡ put (tops_of es) m (Some (record { tree = tree; settled = false })) → cs' ≡ cs ++ c ∷ [] → c ≡ change_call (MakeTop n)
-    → Does (Unit {0}) (Some (told_of es ps cs)) (MakeTop n) Did (Some (told_of es' ps cs'))
+    → Led (Some (told_of es ps cs)) (MakeTop n) Did (Some (told_of es' ps cs'))
 made_does es es' ps cs cs' c n m tree free en et ee e f =
     let map_is : tops_of es' ≡ put (tops_of es) n (Some (record { tree = Nothing; settled = false })) = ee ∙ ap (λ k. put (tops_of es) k (Some (record { tree = tree; settled = false }))) en ∙ ap (λ (t : Dir). put (tops_of es) n (Some (record { tree = t; settled = false }))) et in
     does es es' ps ps cs cs' (MakeTop n) Did (free, same_shelf (map later_of (reverse ps)) (tops_of es') (put (tops_of es) n (Some (record { tree = Nothing; settled = false }))) map_is) (calls_more cs cs' c (change_call (MakeTop n)) e f)
 
 pub settled_does : (es : List TopEntry) (ps : List Later) (cs cs' : List ShelfCall) (c : ShelfCall) (n : Name) (i : ℕ) (x : TopEntry) → IsAt n es i → x ≡ get_or es i x → cs' ≡ cs ++ c ∷ [] → c ≡ change_call (Settle n)
-    → Does (Unit {0}) (Some (told_of es ps cs)) (Settle n) Did (Some (told_of (slice_set es i (record { name = x.name; tree = x.tree; settled = true })) ps cs'))
+    → Led (Some (told_of es ps cs)) (Settle n) Did (Some (told_of (slice_set es i (record { name = x.name; tree = x.tree; settled = true })) ps cs'))
 settled_does es ps cs cs' c n i x at is e f =
     let y : TopEntry = record { name = x.name; tree = x.tree; settled = true } in
     let name : x.name ≡ n = ap (λ (t : TopEntry). t.name) is ∙ at_name es n i x at in
     let there : tops_of es n ≡ Some (top_of x) = found_at es n i x at ∙ ap (λ (t : TopEntry). Some (top_of t)) (sym is) in
     does es (slice_set es i y) ps ps cs cs' (Settle n) Did (top_of x, there, same_shelf (map later_of (reverse ps)) (tops_of (slice_set es i y)) (put (tops_of es) n (Some (top_of y))) (tops_set es n i y at name)) (calls_more cs cs' c (change_call (Settle n)) e f)
 
+pub settled_top_does : (es : List TopEntry) (ps ps' : List Later) (cs cs' : List ShelfCall) (c : ShelfCall) → ps' ≡ [] → cs' ≡ cs ++ c ∷ [] → c ≡ change_call SettleTop
+    → Led (Some (told_of es ps cs)) SettleTop Did (Some (told_of es ps' cs'))
+settled_top_does es ps ps' cs cs' c none e f =
+    does es es ps ps' cs cs' SettleTop Did (ap (λ (q : List Later). shelved es q) none) (calls_more cs cs' c (change_call SettleTop) e f)
+
 pub exists_name_does : (es : List TopEntry) (ps : List Later) (cs cs' : List ShelfCall) (c : ShelfCall) (a b : Name) → IsSome (tops_of es a) → IsSome (tops_of es b) → cs' ≡ cs ++ c ∷ [] → c ≡ change_call (Rename a b)
-    → Does (Unit {0}) (Some (told_of es ps cs)) (Rename a b) Exists (Some (told_of es ps cs'))
+    → Led (Some (told_of es ps cs)) (Rename a b) Exists (Some (told_of es ps cs'))
 exists_name_does es ps cs cs' c a b from there e f = does es es ps ps cs cs' (Rename a b) Exists (from, there, refl) (calls_more cs cs' c (change_call (Rename a b)) e f)
 
 pub renamed_does : (es es' : List TopEntry) (ps ps' : List Later) (cs cs' : List ShelfCall) (c : ShelfCall) (a b m a' b' : Name) (i : ℕ) (x : TopEntry) → IsAt a es i → are_apart es ≡ true → tops_of es b ≡ None → m ≡ b → a' ≡ a → b' ≡ b → x ≡ get_or es i x
     → tops_of es' ≡ put (tops_of (remove es i)) m (Some (top_of x)) → ps' ≡ ps ++ RenamedTop a' b' ∷ [] → cs' ≡ cs ++ c ∷ [] → c ≡ change_call (Rename a b)
-    → Does (Unit {0}) (Some (told_of es ps cs)) (Rename a b) Did (Some (told_of es' ps' cs'))
+    → Led (Some (told_of es ps cs)) (Rename a b) Did (Some (told_of es' ps' cs'))
 renamed_does es es' ps ps' cs cs' c a b m a' b' i x at apart free em ea eb is ee ep e f =
     let there : tops_of es a ≡ Some (top_of x) = found_at es a i x at ∙ ap (λ (t : TopEntry). Some (top_of t)) (sym is) in
     let map_is : tops_of es' ≡ put (put (tops_of es) a None) b (Some (top_of x)) =
@@ -98,7 +95,7 @@ renamed_does es es' ps ps' cs cs' c a b m a' b' i x at apart free em ea eb is ee
 
 pub removed_does : (es es' : List TopEntry) (ps ps' : List Later) (cs cs' : List ShelfCall) (c : ShelfCall) (n : Name) (i : ℕ) (x : TopEntry) → IsAt n es i → are_apart es ≡ true → x ≡ get_or es i x
     → es' ≡ remove es i → ps' ≡ ps ++ RemovedTop x ∷ [] → cs' ≡ cs ++ c ∷ [] → c ≡ change_call (RemoveTop n)
-    → Does (Unit {0}) (Some (told_of es ps cs)) (RemoveTop n) Did (Some (told_of es' ps' cs'))
+    → Led (Some (told_of es ps cs)) (RemoveTop n) Did (Some (told_of es' ps' cs'))
 removed_does es es' ps ps' cs cs' c n i x at apart is ee ep e f =
     let name : x.name ≡ n = ap (λ (t : TopEntry). t.name) is ∙ at_name es n i x at in
     let there : tops_of es n ≡ Some (top_of x) = found_at es n i x at ∙ ap (λ (t : TopEntry). Some (top_of t)) (sym is) in

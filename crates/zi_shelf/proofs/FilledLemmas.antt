@@ -1,5 +1,5 @@
 -- What a shelf in memory tells after a call that fills an entry.
-use Rattle.std.proofs.Common.{◌≡◌, ℕ, true, false, List, [], ◌∷◌, ◌++◌, map, reverse, Option, Some, Result, Ok, Err, OnOk, Bool, is_some, is_err, sym, ◌∙◌, ap, subst, get_or, slice_set}
+use Rattle.std.proofs.Common.{◌≡◌, ℕ, true, false, List, [], ◌∷◌, ◌++◌, map, reverse, Option, Some, Result, Ok, Err, OnOk, Bool, is_some, is_err, sym, ◌∙◌, ap, get_or, slice_set}
 use Rattle.zi_tree.specs.Dir.{Dir}
 use Rattle.zi_shelf.specs.Names.{Name, put}
 use Rattle.zi_shelf.specs.Shelved.{Top, Fill, Did, Fits}
@@ -7,10 +7,10 @@ use Rattle.zi_shelf.specs.declared.top_entry.TopEntry.{TopEntry}
 use Rattle.zi_shelf.specs.declared.top_entry.Later.{Later}
 use Rattle.zi_shelf.specs.declared.call.ShelfCall.{ShelfCall}
 use Rattle.zi_shelf.specs.Filling.{Work, trees, filled}
-use Rattle.zi_shelf.specs.Told.{Told, Does, SureCall, change_call}
+use Rattle.zi_shelf.specs.Told.{change_call}
 use Rattle.zi_shelf.specs.Memory.{top_of, tops_of, later_of, told_of, IsAt}
 use Rattle.zi_shelf.proofs.TopsLemmas.{found_at, at_name, tops_set}
-use Rattle.zi_shelf.proofs.DoingLemmas.{does, same_shelf, calls_more}
+use Rattle.zi_shelf.proofs.DoingLemmas.{Led, shelved, does, same_shelf, calls_more}
 
 -- the entry that was found is the shelf's
 there_is : (es : List TopEntry) (n : Name) (i : ℕ) (x : TopEntry) → IsAt n es i → x ≡ get_or es i x → tops_of es n ≡ Some (top_of x)
@@ -22,7 +22,7 @@ name_is es n i x y at is e = e ∙ ap (λ (t : TopEntry). t.name) is ∙ at_name
 -- the entry with its new tree, without the mark
 pub filled_does : (es : List TopEntry) (ps : List Later) (cs cs' : List ShelfCall) (c : ShelfCall) (n : Name) (work : Work) (i : ℕ) (x y : TopEntry) → IsAt n es i → x ≡ get_or es i x
     → y.name ≡ x.name → y.settled ≡ false → filled work x.tree ≡ Some y.tree → cs' ≡ cs ++ c ∷ [] → c ≡ change_call (Fill n work)
-    → Does (Unit {0}) (Some (told_of es ps cs)) (Fill n work) Did (Some (told_of (slice_set es i y) ps cs'))
+    → Led (Some (told_of es ps cs)) (Fill n work) Did (Some (told_of (slice_set es i y) ps cs'))
 filled_does es ps cs cs' c n work i x y at is en em ef e f =
     let new : Top Dir = record { tree = y.tree; settled = false } in
     let map_is : tops_of (slice_set es i y) ≡ put (tops_of es) n (Some new) =
@@ -30,15 +30,11 @@ filled_does es ps cs cs' c n work i x y at is en em ef e f =
     does es (slice_set es i y) ps ps cs cs' (Fill n work) Did (top_of x, y.tree, there_is es n i x at is, ef, same_shelf (map later_of (reverse ps)) (tops_of (slice_set es i y)) (put (tops_of es) n (Some new)) map_is) (calls_more cs cs' c (change_call (Fill n work)) e f)
 
 -- a call that doesn't fit the tree doesn't fit the shelf
-pub misfits : (es : List TopEntry) (ps : List Later) (cs : List ShelfCall) (n : Name) (work : Work) (i : ℕ) (x : TopEntry) (old new : ℕ) → IsAt n es i → x ≡ get_or es i x → is_some (filled work x.tree) ≡ false
-    → SureCall (Some (told_of es ps cs)) (Fill n work) old new
-misfits es ps cs n work i x old new at is misfit = record {
-  no_rise = λ s e fits.
-      let same : told_of es ps cs ≡ s = cc e in
-      let fit : Fits trees (told_of es ps cs).shelf (Fill n work) = subst (λ (t : Told). Fits trees t.shelf (Fill n work)) (sym same) fits in
-      let tree : x.tree ≡ fit.0.tree = same_tree (top_of x) fit.0 (tops_of es n) (there_is es n i x at is) fit.1 in
-      absurd (no_tree (is_some (filled work x.tree)) misfit (ap (λ t. is_some (filled work t)) tree ∙ fit.2));
-}
+pub misfits : (es : List TopEntry) (ps : List Later) (n : Name) (work : Work) (i : ℕ) (x : TopEntry) → IsAt n es i → x ≡ get_or es i x → is_some (filled work x.tree) ≡ false
+    → Fits trees (shelved es ps) (Fill n work) → ⊥
+misfits es ps n work i x at is misfit fit =
+    let tree : x.tree ≡ fit.0.tree = same_tree (top_of x) fit.0 (tops_of es n) (there_is es n i x at is) fit.1 in
+    no_tree (is_some (filled work x.tree)) misfit (ap (λ t. is_some (filled work t)) tree ∙ fit.2)
   where
     same_tree : (a b : Top Dir) (o : Option (Top Dir)) → o ≡ Some a → o ≡ Some b → a.tree ≡ b.tree
     same_tree a b o h k = cc (h, k)

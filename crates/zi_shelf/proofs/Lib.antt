@@ -5,3 +5,4 @@ pub mod ReadingLemmas
 pub mod FillingLemmas
 pub mod FilledLemmas
 pub mod WholeLemmas
+pub mod SeenLemmas

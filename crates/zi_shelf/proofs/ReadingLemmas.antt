@@ -1,5 +1,5 @@
 -- What each call that reads a shelf in memory answers, as the shelf tells it.
-use Rattle.std.proofs.Common.{nat_eq, ◌≡◌, ℕ, zero, suc, ◌+◌, ◌<◌, ◌≤◌, ◌↔◌, Bool, true, false, ◌&&◌, List, [], ◌∷◌, ◌++◌, map, take, drop, length, option_map, ℤ, Some, None, Ok, ◌⊎◌, inl, inr, refl, sym, ◌∙◌, ap, subst, IsSome, bytes_eq, arith, append_assoc, add-one, get_or, if◌then◌else◌}
+use Rattle.std.proofs.Common.{nat_eq, ◌≡◌, ℕ, zero, suc, ◌+◌, ◌<◌, ◌≤◌, ◌↔◌, Bool, true, false, ◌&&◌, List, [], ◌∷◌, ◌++◌, map, take, drop, length, option_map, ℤ, Option, Some, None, Ok, ◌⊎◌, inl, inr, refl, sym, ◌∙◌, ap, subst, IsSome, bytes_eq, arith, append_assoc, add-one, get_or, if◌then◌else◌}
 use Rattle.std.specs.List.{list_any}
 use Rattle.std.proofs.lemmas.List.{length-take, length-drop, length-map}
 use Rattle.std.proofs.Math.Seq.{take-suc}
@@ -12,9 +12,7 @@ use Rattle.zi_tree.specs.Order.{is_tree, is_before}
 use Rattle.std.specs.Ordering.{is_lt}
 use Rattle.zi_tree.proofs.Order.{cmp, lt_apart, parts}
 use Rattle.zi_shelf.specs.Names.{Name, IsIn}
-use Rattle.zi_shelf.specs.Shelved.{Top, Shelved, Reply, Did, Failed, Memory}
-use Rattle.zi_shelf.specs.declared.shelf.ShelfFault.{ShelfFault}
-use Rattle.zi_shelf.specs.declared.shelf.ShelfFault.TheVariants.{Failed as FailedCall, Memory as NoMemory}
+use Rattle.zi_shelf.specs.Shelved.{Top, Shelved, Reply, Did}
 use Rattle.zi_shelf.specs.declared.shelf.Entry.{Entry}
 use Rattle.zi_shelf.specs.declared.shelf.EntryKind.{EntryKind}
 use Rattle.zi_shelf.specs.declared.top_entry.TopEntry.{TopEntry}
@@ -22,44 +20,34 @@ use Rattle.zi_shelf.specs.declared.top_entry.Later.{Later}
 use Rattle.zi_shelf.specs.declared.call.ShelfCall.{ShelfCall}
 use Rattle.zi_shelf.specs.declared.call.CallKind.TheVariants as kind
 use Rattle.zi_shelf.specs.declared.shelf.Listed.TheVariants as listed_as
-use Rattle.zi_shelf.specs.Told.{Told, FailsAsPlanned, recorded, fault_reply, spelled, plain_call}
-use Rattle.zi_shelf.specs.Reading.{Question, Names, Entries, Read, Target, question_call, Reads, FitsReading, SureReading, NamesAnswer, EntriesAnswer, ReadAnswer, TargetAnswer, AreDistinct, ListsAll, IsPiece, kind_of, folder_at}
+use Rattle.zi_shelf.specs.Told.{Told, FailsAsPlanned, recorded, spelled, plain_call}
+use Rattle.zi_shelf.specs.Reading.{Question, Names, Entries, Read, Target, question_call, NamesAnswer, EntriesAnswer, ReadAnswer, WholeAnswer, TargetAnswer, AreDistinct, ListsAll, IsPiece, kind_of, folder_at}
 use Rattle.zi_shelf.specs.Memory.{top_of, tops_of, are_apart, told_of, IsAt}
 use Rattle.zi_shelf.proofs.TopsLemmas.{test_true, test_false, test_refl, apart_parts, is_apart, and_parts, found_at}
 use Rattle.zi_shelf.proofs.DoingLemmas.{shelved, calls_more, not_planned}
 
+-- what an honest shelf goes on to tell after a call that reads
+abbrev pub Answered : Option Told → Question → Reply → (Shelved Dir → Type 0) → Option Told → Type 0
+Answered before q reply answer after =
+    (s : Told) → Unit {0} → before ≡ Some s → (t : Told) × (after ≡ Some t) × (t.shelf ≡ s.shelf) × (t.calls ≡ recorded s.calls (question_call q) reply) × answer s.shelf
+
 -- a call that reads leaves the shelf, and is recorded
 pub reads : (es : List TopEntry) (ps : List Later) (cs cs' : List ShelfCall) (q : Question) (reply : Reply) (answer : Shelved Dir → Type 0) → answer (shelved es ps)
-    → cs' ≡ recorded cs (question_call q) reply → Reads (Unit {0}) (Some (told_of es ps cs)) q reply answer (Some (told_of es ps cs'))
-reads es ps cs cs' q reply answer holds calls = record {
-  leads = λ s honest e.
-      let same : told_of es ps cs ≡ s = cc e in (
-        told_of es ps cs',
-        refl,
-        ap (λ (x : Told). x.shelf) same,
-        subst (λ (x : Told). cs' ≡ recorded x.calls (question_call q) reply) same calls,
-        subst (λ (x : Told). answer x.shelf) same holds,
-      );
-}
-
--- a call that reads and fails
-pub reads_fault : (es : List TopEntry) (ps : List Later) (cs cs' : List ShelfCall) (c : ShelfCall) (q : Question) (fault : ShelfFault) (answer : Shelved Dir → Type 0) {Q R : Type 0} → c ≡ question_call q → answer (shelved es ps)
-    → (fault ≡ FailedCall → (cs' ≡ cs ++ c ∷ []) × Q) → (fault ≡ NoMemory → (cs' ≡ cs) × R)
-    → Reads (Unit {0}) (Some (told_of es ps cs)) q (fault_reply fault) answer (Some (told_of es ps cs'))
-reads_fault es ps cs cs' c q FailedCall answer e holds failed memory = reads es ps cs cs' q Failed answer holds (calls_more cs cs' c (question_call q) (failed refl).0 e)
-reads_fault es ps cs cs' c q NoMemory answer e holds failed memory = reads es ps cs cs' q Memory answer holds (memory refl).0
+    → cs' ≡ recorded cs (question_call q) reply → Answered (Some (told_of es ps cs)) q reply answer (Some (told_of es ps cs'))
+reads es ps cs cs' q reply answer holds calls = λ s honest e.
+    let same : told_of es ps cs ≡ s = cc e in (
+      told_of es ps cs',
+      refl,
+      ap (λ (x : Told). x.shelf) same,
+      subst (λ (x : Told). cs' ≡ recorded x.calls (question_call q) reply) same calls,
+      subst (λ (x : Told). answer x.shelf) same holds,
+    )
 
 -- a call that isn't among those that are to fail
 pub unplanned : (plan plan' : List ℕ) (es : List TopEntry) (ps : List Later) (cs cs' : List ShelfCall) (test : Bool) (reply : Reply) → plan' ≡ plan → cs' ≡ cs → test ≡ list_any (λ k. nat_eq k (length cs' + 1)) plan' → test ≡ false
     → FailsAsPlanned plan (Some (told_of es ps cs)) reply
 unplanned plan plan' es ps cs cs' test reply ep ec et off =
     not_planned plan es ps cs (length cs' + 1) reply (ap (λ (l : List ShelfCall). length l + 1) ec) (subst (λ (l : List ℕ). list_any (λ k. nat_eq k (length cs' + 1)) l ≡ false) ep (sym et ∙ off))
-
--- a call that doesn't fit may raise the count of a sure shelf
-pub no_fit : (es : List TopEntry) (ps : List Later) (cs : List ShelfCall) (q : Question) (before now : ℕ) → (FitsReading (shelved es ps) q → ⊥) → SureReading (Some (told_of es ps cs)) q before now
-no_fit es ps cs q before now wrong = record {
-  no_rise = λ s e fits. let same : told_of es ps cs ≡ s = cc e in absurd (wrong (subst (λ (x : Told). FitsReading x.shelf q) (sym same) fits));
-}
 
 -- the entry that was found
 pub top_at : (es : List TopEntry) (n : Name) (i : ℕ) (x : TopEntry) → IsAt n es i → x ≡ get_or es i x → tops_of es n ≡ Some (top_of x)
@@ -231,29 +219,37 @@ piece_is bytes offset max = record { number = max; is = refl; few = piece_few (d
 
 -- the answers of the calls that read
 pub names_read : (es : List TopEntry) (ps : List Later) (cs cs' : List ShelfCall) (c : ShelfCall) (ns : List Name) → are_apart es ≡ true → ns ≡ names es → cs' ≡ cs ++ c ∷ [] → c ≡ question_call Names
-    → Reads (Unit {0}) (Some (told_of es ps cs)) Names Did (NamesAnswer (Ok ns)) (Some (told_of es ps cs'))
+    → Answered (Some (told_of es ps cs)) Names Did (NamesAnswer (Ok ns)) (Some (told_of es ps cs'))
 names_read es ps cs cs' c ns apart is e f =
     reads es ps cs cs' Names Did (NamesAnswer (Ok ns)) (subst (λ (l : List Name). NamesAnswer (Ok l) (shelved es ps)) (sym is) (names_answer es apart)) (calls_more cs cs' c (question_call Names) e f)
 
 pub entries_read : (es : List TopEntry) (ps : List Later) (cs cs' : List ShelfCall) (c : ShelfCall) (n place : Name) (path : List Name) (i : ℕ) (x : TopEntry) (d : Dir) (ls : List Entry) → IsAt n es i → x ≡ get_or es i x → Some d ≡ folder_at path x.tree → ListsAll ls d
     → cs' ≡ cs ++ c ∷ [] → c ≡ plain_call kind.Entries n place → place ≡ spelled path
-    → Reads (Unit {0}) (Some (told_of es ps cs)) (Entries n path) Did (EntriesAnswer n path (Ok (listed_as.Entries ls))) (Some (told_of es ps cs'))
+    → Answered (Some (told_of es ps cs)) (Entries n path) Did (EntriesAnswer n path (Ok (listed_as.Entries ls))) (Some (told_of es ps cs'))
 entries_read es ps cs cs' c n place path i x d ls at is there all e f g =
     reads es ps cs cs' (Entries n path) Did (EntriesAnswer n path (Ok (listed_as.Entries ls))) (top_of x, d, top_at es n i x at is, sym there, all) (calls_more cs cs' c (question_call (Entries n path)) e (f ∙ ap (λ p. plain_call kind.Entries n p) g))
 
 pub file_read : (es : List TopEntry) (ps : List Later) (cs cs' : List ShelfCall) (c : ShelfCall) (n place : Name) (path : List Name) (offset max i : ℕ) (x : TopEntry) (bytes piece old new : List ℕ) → IsAt n es i → x ≡ get_or es i x
     → (exec : Bool) × (mtime : ℤ) × (found path x.tree ≡ Some (File bytes exec mtime)) → piece ≡ take max (drop offset bytes) → new ≡ old ++ piece
     → cs' ≡ cs ++ record c { offset = offset; max = max } ∷ [] → c ≡ plain_call kind.Read n place → place ≡ spelled path
-    → Reads (Unit {0}) (Some (told_of es ps cs)) (Read n path offset max) Did (ReadAnswer {T = Unit {0}} n path offset max old (Ok tt) new) (Some (told_of es ps cs'))
+    → Answered (Some (told_of es ps cs)) (Read n path offset max) Did (ReadAnswer {T = Unit {0}} (Read n path offset max) old (Ok tt) new) (Some (told_of es ps cs'))
 file_read es ps cs cs' c n place path offset max i x bytes piece old new at is (exec, mtime, there) cut made e f g =
     let whole : IsPiece bytes offset max piece = subst (λ (l : List ℕ). IsPiece bytes offset max l) (sym cut) (piece_is bytes offset max) in
     let call : record c { offset = offset; max = max } ≡ question_call (Read n path offset max) = ap (λ (k : ShelfCall). let l : ShelfCall = record k { offset = offset; max = max } in l) (f ∙ ap (λ p. plain_call kind.Read n p) g) in
-    reads es ps cs cs' (Read n path offset max) Did (ReadAnswer {T = Unit {0}} n path offset max old (Ok tt) new) (top_of x, bytes, exec, mtime, piece, top_at es n i x at is, there, made, whole)
+    reads es ps cs cs' (Read n path offset max) Did (ReadAnswer {T = Unit {0}} (Read n path offset max) old (Ok tt) new) (top_of x, bytes, exec, mtime, piece, top_at es n i x at is, there, made, whole)
     (calls_more cs cs' (record c { offset = offset; max = max }) (question_call (Read n path offset max)) e call)
 
 pub link_read : (es : List TopEntry) (ps : List Later) (cs cs' : List ShelfCall) (c : ShelfCall) (n place : Name) (path : List Name) (i : ℕ) (x : TopEntry) (text text' : List ℕ) → IsAt n es i → x ≡ get_or es i x
     → found path x.tree ≡ Some (Link text) → text' ≡ text → cs' ≡ cs ++ c ∷ [] → c ≡ plain_call kind.Target n place → place ≡ spelled path
-    → Reads (Unit {0}) (Some (told_of es ps cs)) (Target n path) Did (TargetAnswer n path (Ok text')) (Some (told_of es ps cs'))
+    → Answered (Some (told_of es ps cs)) (Target n path) Did (TargetAnswer n path (Ok text')) (Some (told_of es ps cs'))
 link_read es ps cs cs' c n place path i x text text' at is there copied e f g =
     let there' : found path x.tree ≡ Some (Link text') = there ∙ ap (λ (t : List ℕ). Some (Link t)) (sym copied) in
     reads es ps cs cs' (Target n path) Did (TargetAnswer n path (Ok text')) (top_of x, top_at es n i x at is, there') (calls_more cs cs' c (question_call (Target n path)) e (f ∙ ap (λ p. plain_call kind.Target n p) g))
+
+-- every byte that there is, up to so many
+pub whole_read : (es : List TopEntry) (ps : List Later) (cs : List ShelfCall) (n : Name) (path : List Name) (offset max i : ℕ) (x : TopEntry) (bytes piece old new : List ℕ) → IsAt n es i → x ≡ get_or es i x
+    → (exec : Bool) × (mtime : ℤ) × (found path x.tree ≡ Some (File bytes exec mtime)) → piece ≡ take max (drop offset bytes) → new ≡ old ++ piece
+    → (s : Told) → Unit {0} → Some (told_of es ps cs) ≡ Some s → WholeAnswer {T = Unit {0}} (Read n path offset max) old (Ok tt) new s.shelf
+whole_read es ps cs n path offset max i x bytes piece old new at is (exec, mtime, there) cut made s memory e =
+    let same : told_of es ps cs ≡ s = cc e in
+    subst (λ (t : Told). WholeAnswer {T = Unit {0}} (Read n path offset max) old (Ok tt) new t.shelf) same (top_of x, bytes, exec, mtime, top_at es n i x at is, there, made ∙ ap (λ (l : List ℕ). old ++ l) cut)

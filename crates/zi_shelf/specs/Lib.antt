@@ -5,6 +5,7 @@ pub mod Filling
 pub mod Fillings
 pub mod Told
 pub mod Reading
+pub mod Shelving
 pub mod Memory
 pub mod InMemory
 pub mod FittingLaw

@@ -1,5 +1,5 @@
 -- What a shelf tells of itself, and what a call does to that.
-use Rattle.std.specs.Prelude.{◌≡◌, ℕ, ◌+◌, ◌-◌, ◌^◌, ◌<◌, ◌≤◌, List, [], ◌∷◌, ◌++◌, length, true, false, nat_eq, pos, Option, Some, None, option_map, Result, Ok, Err, IsSome, ◌⊎◌}
+use Rattle.std.specs.Prelude.{◌≡◌, ℕ, ◌+◌, ◌-◌, ◌^◌, ◌<◌, ◌≤◌, Bool, List, [], ◌∷◌, ◌++◌, length, true, false, nat_eq, pos, Option, Some, None, option_map, Result, Ok, Err, ◌⊎◌}
 use Rattle.std.specs.List.{list_any}
 use Rattle.zi_tree.specs.Dir.{Dir}
 use Rattle.zi_tree.specs.Order.{is_tree}
@@ -95,29 +95,25 @@ pub record Leads (before : Told) (call : Call Work) (reply : Reply) (after : Tol
   pub answers : Answers trees before.shelf call reply after.shelf
   pub calls : after.calls ≡ recorded before.calls (change_call call) reply
 
--- where the shelf is honest and tells what it holds, it goes on to tell it, by the rules
-pub record Does (honest : Type 0) (before : Option Told) (call : Call Work) (reply : Reply) (after : Option Told) : Type 0 where
-  pub leads : (s : Told) → honest → before ≡ Some s → (t : Told) × (after ≡ Some t) × Leads s call reply t
-
 -- the count of faults rose, or stands at its end
 abbrev pub Rose : ℕ → ℕ → Type 0
 Rose before now = (before < now) ⊎ (2 ^ 64 - 1 ≤ now)
 
--- the count doesn't fall; Failed is answered only where it rose, and Memory only where it stayed
+-- the count doesn't fall; Failed is answered only where it rose, and every other reply only where it stayed
 pub record HasCause (before now : ℕ) (reply : Reply) : Type 0 where
   pub later : before ≤ now
   pub failed : reply ≡ Failed → Rose before now
+  pub did : reply ≡ Did → now ≡ before
+  pub exists : reply ≡ Exists → now ≡ before
   pub memory : reply ≡ Memory → now ≡ before
 
--- the call after those that the record has is among those that are to fail, and so it does, if it gets memory
-pub record FailsAsPlanned (plan : List ℕ) (before : Option Told) (reply : Reply) : Type 0 where
-  pub fails : (s : Told) → before ≡ Some s → list_any (λ n. nat_eq n (length s.calls + 1)) plan ≡ true → (reply ≡ Failed) ⊎ (reply ≡ Memory)
+-- the call after those that the record has is among those that are to fail
+abbrev pub is_planned : List ℕ → Told → Bool
+is_planned plan s = list_any (λ n. nat_eq n (length s.calls + 1)) plan
 
--- a sure shelf is honest and tells what it holds, and its count isn't at its end
-pub record IsSure (honest : Type 0) (told : Option Told) (faults : ℕ) : Type 0 where
-  pub keeps : honest
-  pub tells : IsSome told
-  pub below_end : faults < 2 ^ 64 - 1
+-- a call that is to fail does, if it gets memory
+pub record FailsAsPlanned (plan : List ℕ) (before : Option Told) (reply : Reply) : Type 0 where
+  pub fails : (s : Told) → before ≡ Some s → is_planned plan s ≡ true → (reply ≡ Failed) ⊎ (reply ≡ Memory)
 
 -- a call that fits doesn't raise the count of a sure shelf
 pub record SureCall (before : Option Told) (call : Call Work) (old_faults new_faults : ℕ) : Type 0 where

@@ -8,8 +8,9 @@ ghost use Rattle.zi_tree.specs.Paths.{inserted};
 ghost use Rattle.zi_shelf.specs.Shelved.{Fill};
 ghost use Rattle.zi_shelf.specs.Filling.{filled, Append, FinishFile};
 ghost use Rattle.zi_shelf.specs.Fillings.{work_at, is_file, grown_file, finished_file};
-ghost use Rattle.zi_shelf.specs.Memory.{told_of, StaysSure};
-ghost use Rattle.zi_shelf.specs.Told.{plain_reply, work_call, Does, HasCause, FailsAsPlanned, SureCall};
+ghost use Rattle.zi_shelf.specs.InMemory.{held_seen};
+ghost use Rattle.zi_shelf.specs.Shelving.{Does};
+ghost use Rattle.zi_shelf.specs.Told.{plain_reply, work_call};
 
 use crate::call::ShelfCall;
 use crate::held::{Held, fail, is_to_fail};
@@ -43,13 +44,7 @@ impl Held {
         filling: Filling,
     ) -> Result<(), ShelfFault>
         requires { call ≡ work_call top.now (work_at path.now filling) }
-        ensures does { Does (Unit {0}) (Some (told_of self.old.entries.items self.old.pending.items self.old.calls)) (Fill top.now (work_at path.now filling.entry)) (plain_reply result) (Some (told_of self.new.entries.items self.new.pending.items self.new.calls)) }
-        ensures cause { HasCause self.old.faults self.new.faults (plain_reply result) }
-        ensures planned { FailsAsPlanned self.old.fail.items (Some (told_of self.old.entries.items self.old.pending.items self.old.calls)) (plain_reply result) }
-        ensures plan { self.new.fail.items ≡ self.old.fail.items }
-        ensures place { self.new.root ≡ self.old.root }
-        ensures sure { StaysSure self.old.sure self.old.fail.items self.old.faults → StaysSure self.new.sure self.new.fail.items self.new.faults }
-        ensures no_rise { StaysSure self.old.sure self.old.fail.items self.old.faults → SureCall (Some (told_of self.old.entries.items self.old.pending.items self.old.calls)) (Fill top.now (work_at path.now filling.entry)) self.old.faults self.new.faults }
+        ensures { Does (held_seen self.old) (Fill top.now (work_at path.now filling.entry)) (plain_reply result) (held_seen self.new) }
     {
         if is_to_fail(self.fail.as_slice(), self.calls.as_slice().len() + 1) {
             return Err(fail(&mut self.calls, &mut self.faults, self.sure, call));

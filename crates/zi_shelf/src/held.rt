@@ -156,19 +156,10 @@ pub fn fail(
 }
 
 impl Shelf for Held {
+    ghost use Rattle.zi_shelf.specs.InMemory.{held_seen};
     ghost use Rattle.zi_shelf.specs.Whole.{tells_trees};
 
-    ghost told = { λ m. Some (told_of m.entries.items m.pending.items m.calls) };
-
-    ghost honest = { λ m. Unit {0} };
-
-    ghost faults = { λ m. m.faults };
-
-    ghost sure = { λ m. StaysSure m.sure m.fail.items m.faults };
-
-    ghost place = { λ m. root_of m.root };
-
-    ghost plan = { λ m. m.fail.items };
+    ghost seen = { held_seen };
 
     ghost sure_is = { λ s h. record { keeps = tt; tells = refl; below_end = h.below_end } };
 

@@ -1,7 +1,7 @@
 //! The shelf in memory, whose calls fail where it was told so.
 
 ghost use Rattle.std.specs.Prelude.{◌≡◌, [], Some, IfOk, OnErr, OnOk, option_copied, codes};
-ghost use Rattle.zi_shelf.specs.InMemory.{shelf_told, shelf_faults, shelf_plan, shelf_root};
+ghost use Rattle.zi_shelf.specs.InMemory.{shelf_told, shelf_faults, shelf_plan, shelf_root, shelf_seen};
 ghost use Rattle.zi_shelf.specs.Told.{nothing_told, placed, tree_at};
 
 use crate::call::ShelfCall;
@@ -86,17 +86,7 @@ impl MemoryShelf {
 impl Shelf for MemoryShelf {
     ghost use Rattle.zi_shelf.specs.Whole.{tells_trees};
 
-    ghost told = { λ m. Some (shelf_told m) };
-
-    ghost honest = { λ m. Unit {0} };
-
-    ghost faults = { shelf_faults };
-
-    ghost sure = { λ m. ⊥ };
-
-    ghost place = { shelf_root };
-
-    ghost plan = { shelf_plan };
+    ghost seen = { shelf_seen };
 
     ghost sure_is = { λ s h. absurd h };
 

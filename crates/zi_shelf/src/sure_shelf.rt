@@ -75,20 +75,10 @@ impl SureShelf {
 
 impl Shelf for SureShelf {
     ghost use Rattle.std.specs.Prelude.{Some, refl};
-    ghost use Rattle.zi_shelf.specs.InMemory.{sure_told, sure_faults, sure_root};
+    ghost use Rattle.zi_shelf.specs.InMemory.{sure_seen};
     ghost use Rattle.zi_shelf.specs.Whole.{tells_trees};
 
-    ghost told = { λ s. Some (sure_told s) };
-
-    ghost honest = { λ s. Unit {0} };
-
-    ghost faults = { sure_faults };
-
-    ghost sure = { λ s. Unit {0} };
-
-    ghost place = { sure_root };
-
-    ghost plan = { λ s. [] };
+    ghost seen = { sure_seen };
 
     ghost sure_is = { λ s h. record { keeps = tt; tells = refl; below_end = s.below_end } };
 

@@ -8,7 +8,7 @@ use Rattle.zi_tree.specs.declared.tree.TreeNode.TheVariants.{File}
 use Rattle.zi_shelf.specs.Names.{Name}
 use Rattle.zi_shelf.specs.Shelved.{Top}
 use Rattle.zi_shelf.specs.Told.{Told}
-use Rattle.zi_shelf.specs.Reading.{ReadAnswer, IsPiece}
+use Rattle.zi_shelf.specs.Reading.{Read, ReadAnswer, IsPiece}
 use Rattle.zi_store.specs.Standing.{StandsNode}
 use Rattle.zi_store.specs.Entries.{IsFront}
 
@@ -47,7 +47,7 @@ piece_end old new all max piece e p h short (rest, f) =
 
 -- what a read of a file that stands there says
 pub read_front : {T h : Type 0} {told : Option Told} {top : Name} {path : List Name} (all : List ℕ) (exec : Bool) (mtime : ℤ) (st : StandsNode h told top path (File all exec mtime)) (max : ℕ) (old new : List ℕ) (x : T)
-    → ReadAnswer top path (length old) max old (Ok x) new st.state.shelf → 1 ≤ max → IsFront old all → (more : Bool) → (more ≡ false → length new ≤ length old) → MatchBool more (IsFront new all) (old ≡ all)
+    → ReadAnswer (Read top path (length old) max) old (Ok x) new st.state.shelf → 1 ≤ max → IsFront old all → (more : Bool) → (more ≡ false → length new ≤ length old) → MatchBool more (IsFront new all) (old ≡ all)
 read_front {top = top} {path = path} all exec mtime st max old new x (e, bytes, exec', mtime', piece, tops, there, is, p) h front more short =
     let one : st.entry ≡ e = let t = st.is_top in cc (t, tops) in
     let here : found path st.entry.tree ≡ Some (File bytes exec' mtime') = subst (λ (y : Top Dir). found path y.tree ≡ Some (File bytes exec' mtime')) (sym one) there in

@@ -12,7 +12,8 @@ use Rattle.zi_tree.specs.declared.tree.TreeNode.{TreeNode}
 use Rattle.zi_tree.specs.declared.tree.TreeNode.TheVariants.{File, Link, Folder}
 use Rattle.zi_shelf.specs.Names.{Name, IsIn}
 use Rattle.zi_shelf.specs.Shelved.{Shelved, Top}
-use Rattle.zi_shelf.specs.Told.{Told, IsSure}
+use Rattle.zi_shelf.specs.Told.{Told}
+use Rattle.zi_shelf.specs.Shelving.{Shelving, IsSure}
 use Rattle.zi_shelf.proofs.TopsLemmas.{test_true, test_refl, and_parts}
 use Rattle.zi_shelf.specs.Reading.{Entries, EntriesAnswer, folder_at, kind_of, ListsAll}
 use Rattle.zi_shelf.specs.declared.shelf.Listed.{Listed}
@@ -79,14 +80,14 @@ reaches_next top path i part s r before at e is inside there =
     )
 
 -- the folders are entered one after another
-pub goes_on : {kinds : CallKind → Bool} {h0 h1 : Type 0} {t0 t1 : Option Told} {f0 f1 : ℕ} {s0 s1 : Type 0} {p0 p1 : Name} {q0 q1 : List ℕ} (top : Name) (path : List Name) (i : ℕ) (part : Name) (folder inner : List Name) (w : Way)
-    → Keeps kinds h0 h1 t0 t1 f0 f1 s0 s1 p0 p1 q0 q1 → folder ≡ take i path → i < length path → part ≡ get_or path i part → w ≡ way.Into inner
-    → ((d : Dir) → Stands h1 t1 top folder d → Leads (node_in part (items d)) w)
-    → ((s : Told) → h0 → t0 ≡ Some s → Reaches top path i s.shelf) → (s : Told) → h0 → t0 ≡ Some s → Reaches top path (i + 1) s.shelf
-goes_on {h0 = h0} {h1 = h1} {t0 = t0} {t1 = t1} top path i part folder inner w keeps front before at into leads reaches s honest tells = λ e is.
+pub goes_on : {kinds : CallKind → Bool} {before after : Shelving} (top : Name) (path : List Name) (i : ℕ) (part : Name) (folder inner : List Name) (w : Way)
+    → Keeps kinds before after → folder ≡ take i path → i < length path → part ≡ get_or path i part → w ≡ way.Into inner
+    → ((d : Dir) → Stands after.honest after.told top folder d → Leads (node_in part (items d)) w)
+    → ((s : Told) → before.honest → before.told ≡ Some s → Reaches top path i s.shelf) → (s : Told) → before.honest → before.told ≡ Some s → Reaches top path (i + 1) s.shelf
+goes_on {before = was} {after = is_now} top path i part folder inner w keeps front before at into leads reaches s honest tells = λ e is.
     let r = reaches s honest tells in
-    let st = reached {h = h0} {told = t0} top path i s r honest tells e is in
-    let led = leads (r e is).0 (subst (λ (p : List Name). Stands h1 t1 top p (r e is).0) (sym front) (stands_later keeps st)) in
+    let st = reached {h = was.honest} {told = was.told} top path i s r honest tells e is in
+    let led = leads (r e is).0 (subst (λ (p : List Name). Stands is_now.honest is_now.told top p (r e is).0) (sym front) (stands_later keeps st)) in
     let folder_led : Leads (node_in part (items (r e is).0)) (way.Into inner) = subst (λ (x : Way). Leads (node_in part (items (r e is).0)) x) into led in
     reaches_next top path i part s.shelf r before at e is folder_led.0 folder_led.1
 
@@ -113,18 +114,18 @@ ends path i part d w r t is before at led end = by_end w end led (is ∙ ap (λ 
     by_end (way.Into p) (inr end) led is = absurd (cc end.0)
 
 -- the way ends at a file, or before one
-pub way_ends : {kinds : CallKind → Bool} {h0 h1 : Type 0} {t0 t1 : Option Told} {f0 f1 : ℕ} {s0 s1 : Type 0} {p0 p1 : Name} {q0 q1 : List ℕ} (top : Name) (path : List Name) (i : ℕ) (part : Name) (folder : List Name) (w : Way) (r : Bool)
-    → Keeps kinds h0 h1 t0 t1 f0 f1 s0 s1 p0 p1 q0 q1 → folder ≡ take i path → i < length path → part ≡ get_or path i part
+pub way_ends : {kinds : CallKind → Bool} {before after : Shelving} (top : Name) (path : List Name) (i : ℕ) (part : Name) (folder : List Name) (w : Way) (r : Bool)
+    → Keeps kinds before after → folder ≡ take i path → i < length path → part ≡ get_or path i part
     → ((w ≡ way.File) × (r ≡ nat_eq (i + 1) (length path))) ⊎ ((w ≡ way.Nowhere) × (r ≡ false))
-    → ((d : Dir) → Stands h1 t1 top folder d → Leads (node_in part (items d)) w)
-    → ((s : Told) → h1 → t1 ≡ Some s → s.shelf.tops top ≡ None → w ≡ way.Nowhere)
-    → ((s : Told) → h0 → t0 ≡ Some s → Reaches top path i s.shelf) → (s : Told) → h0 → t0 ≡ Some s → r ≡ is_some (file_at top path s.shelf)
-way_ends {h0 = h0} {h1 = h1} {t0 = t0} {t1 = t1} top path i part folder w r keeps front before at end leads none reaches s honest tells = by_top (s.shelf.tops top) refl
+    → ((d : Dir) → Stands after.honest after.told top folder d → Leads (node_in part (items d)) w)
+    → ((s : Told) → after.honest → after.told ≡ Some s → s.shelf.tops top ≡ None → w ≡ way.Nowhere)
+    → ((s : Told) → before.honest → before.told ≡ Some s → Reaches top path i s.shelf) → (s : Told) → before.honest → before.told ≡ Some s → r ≡ is_some (file_at top path s.shelf)
+way_ends {before = was} {after = is_now} top path i part folder w r keeps front before at end leads none reaches s honest tells = by_top (s.shelf.tops top) refl
   where
     by_top : (o : Option (Top Dir)) → s.shelf.tops top ≡ o → r ≡ is_some (file_at top path s.shelf)
     by_top None is =
         let m = keeps.holds s honest tells in
-        let nowhere = none m.0 (keeps.honest honest) m.1 (ap (λ (x : Shelved Dir). x.tops top) m.2 ∙ is) in
+        let nowhere = none m.0 (keeps.stays.honest honest) m.1 (ap (λ (x : Shelved Dir). x.tops top) m.2 ∙ is) in
         by_end end nowhere ∙ sym (ap (λ (o : Option (Top Dir)). is_some (bytes_under path o)) is)
       where
         by_end : ((w ≡ way.File) × (r ≡ nat_eq (i + 1) (length path))) ⊎ ((w ≡ way.Nowhere) × (r ≡ false)) → w ≡ way.Nowhere → r ≡ false
@@ -132,8 +133,8 @@ way_ends {h0 = h0} {h1 = h1} {t0 = t0} {t1 = t1} top path i part folder w r keep
         by_end (inr off) nowhere = off.1
     by_top (Some e) is =
         let q = reaches s honest tells in
-        let st = reached {h = h0} {told = t0} top path i s q honest tells e is in
-        let led = leads (q e is).0 (subst (λ (p : List Name). Stands h1 t1 top p (q e is).0) (sym front) (stands_later keeps st)) in
+        let st = reached {h = was.honest} {told = was.told} top path i s q honest tells e is in
+        let led = leads (q e is).0 (subst (λ (p : List Name). Stands is_now.honest is_now.told top p (q e is).0) (sym front) (stands_later keeps st)) in
         ends path i part (q e is).0 w r (bytes_in (found path e.tree)) (q e is).2 before at led end ∙ sym (ap (λ (o : Option (Top Dir)). is_some (bytes_under path o)) is)
 
 -- no part of the path is left
@@ -148,10 +149,10 @@ some_is : {X : Type 0} (o : Option X) (x : X) → o ≡ Some x → IsSome o
 some_is o x e = rw e refl
 
 -- the listing of the next folder fits
-pub fits_next : {kinds : CallKind → Bool} {h0 h1 : Type 0} {t0 t1 : Option Told} {f0 f1 f2 : ℕ} {s0 s1 : Type 0} {p0 p1 : Name} {q0 q1 : List ℕ} (top : Name) (path : List Name) (i : ℕ) (folder : List Name)
-    → Keeps kinds h0 h1 t0 t1 f0 f1 s0 s1 p0 p1 q0 q1 → folder ≡ take i path → IsSure h0 t0 f2 → ((s : Told) → h0 → t0 ≡ Some s → Reaches top path i s.shelf) → Fits t1 (Entries top folder)
-fits_next {t0 = t0} {t1 = t1} top path i folder keeps front sure reaches s tells e is =
-    let had = some_of t0 sure.tells in
+pub fits_next : {kinds : CallKind → Bool} {before after : Shelving} (top : Name) (path : List Name) (i : ℕ) (folder : List Name)
+    → Keeps kinds before after → folder ≡ take i path → IsSure before → ((s : Told) → before.honest → before.told ≡ Some s → Reaches top path i s.shelf) → Fits after.told (Entries top folder)
+fits_next {before = before} top path i folder keeps front sure reaches s tells e is =
+    let had = some_of before.told sure.tells in
     let m = keeps.holds had.0 sure.keeps had.1 in
     let one : m.0 ≡ s = cc (m.1, tells) in
     let there : had.0.shelf.tops top ≡ Some e =
@@ -252,38 +253,38 @@ plain_part (n ∷ ns) zero part all h e = let both = and_parts (is_name n) (list
 plain_part (n ∷ ns) (suc i) part all h e = plain_part ns i part (and_parts (is_name n) (list_all is_name ns) all).1 (omega arith) e
 
 -- the file that was found stands there
-pub file_stands : {kinds : CallKind → Bool} {h0 h1 : Type 0} {t0 t1 : Option Told} {f0 f1 : ℕ} {s0 s1 : Type 0} {p0 p1 : Name} {q0 q1 : List ℕ} (top : Name) (path : List Name) (there : Bool)
-    → Keeps kinds h0 h1 t0 t1 f0 f1 s0 s1 p0 p1 q0 q1 → (s : Told) → h0 → t0 ≡ Some s → there ≡ is_some (file_at top path s.shelf) → there ≡ true
-    → (bytes : List ℕ) × (exec : Bool) × (mtime : ℤ) × StandsNode h1 t1 top path (File bytes exec mtime) × (file_at top path s.shelf ≡ Some bytes)
-file_stands {h1 = h1} {t1 = t1} top path there keeps s honest tells is holds = by_top (s.shelf.tops top) refl
+pub file_stands : {kinds : CallKind → Bool} {before after : Shelving} (top : Name) (path : List Name) (there : Bool)
+    → Keeps kinds before after → (s : Told) → before.honest → before.told ≡ Some s → there ≡ is_some (file_at top path s.shelf) → there ≡ true
+    → (bytes : List ℕ) × (exec : Bool) × (mtime : ℤ) × StandsNode after.honest after.told top path (File bytes exec mtime) × (file_at top path s.shelf ≡ Some bytes)
+file_stands {after = after} top path there keeps s honest tells is holds = by_top (s.shelf.tops top) refl
   where
-    by_top : (o : Option (Top Dir)) → s.shelf.tops top ≡ o → (bytes : List ℕ) × (exec : Bool) × (mtime : ℤ) × StandsNode h1 t1 top path (File bytes exec mtime) × (file_at top path s.shelf ≡ Some bytes)
+    by_top : (o : Option (Top Dir)) → s.shelf.tops top ≡ o → (bytes : List ℕ) × (exec : Bool) × (mtime : ℤ) × StandsNode after.honest after.told top path (File bytes exec mtime) × (file_at top path s.shelf ≡ Some bytes)
     by_top None e = let no : false ≡ true = sym (ap (λ (o : Option (Top Dir)). is_some (bytes_under path o)) e) ∙ sym is ∙ holds in absurd (cc no)
     by_top (Some x) e = by_node (found path x.tree) refl
       where
         some_there : is_some (bytes_in (found path x.tree)) ≡ true
         some_there = sym (ap (λ (o : Option (Top Dir)). is_some (bytes_under path o)) e) ∙ sym is ∙ holds
 
-        by_node : (o : Option TreeNode) → found path x.tree ≡ o → (bytes : List ℕ) × (exec : Bool) × (mtime : ℤ) × StandsNode h1 t1 top path (File bytes exec mtime) × (file_at top path s.shelf ≡ Some bytes)
+        by_node : (o : Option TreeNode) → found path x.tree ≡ o → (bytes : List ℕ) × (exec : Bool) × (mtime : ℤ) × StandsNode after.honest after.told top path (File bytes exec mtime) × (file_at top path s.shelf ≡ Some bytes)
         by_node None n = let no : false ≡ true = sym (ap (λ (o : Option TreeNode). is_some (bytes_in o)) n) ∙ some_there in absurd (cc no)
         by_node (Some (Link t)) n = let no : false ≡ true = sym (ap (λ (o : Option TreeNode). is_some (bytes_in o)) n) ∙ some_there in absurd (cc no)
         by_node (Some (Folder i)) n = let no : false ≡ true = sym (ap (λ (o : Option TreeNode). is_some (bytes_in o)) n) ∙ some_there in absurd (cc no)
         by_node (Some (File bytes exec mtime)) n =
             let m = keeps.holds s honest tells in
-            (bytes, exec, mtime, record { keeps = keeps.honest honest; state = m.0; tells = m.1; entry = x; is_top = ap (λ (y : Shelved Dir). y.tops top) m.2 ∙ e; is_there = n }, ap (λ (o : Option (Top Dir)). bytes_under path o) e ∙ ap bytes_in n)
+            (bytes, exec, mtime, record { keeps = keeps.stays.honest honest; state = m.0; tells = m.1; entry = x; is_top = ap (λ (y : Shelved Dir). y.tops top) m.2 ∙ e; is_there = n }, ap (λ (o : Option (Top Dir)). bytes_under path o) e ∙ ap bytes_in n)
 
 -- so its bytes are those that were read
-pub file_read : {kinds : CallKind → Bool} {h0 h1 : Type 0} {t0 t1 : Option Told} {f0 f1 : ℕ} {s0 s1 : Type 0} {p0 p1 : Name} {q0 q1 : List ℕ} (top : Name) (path : List Name) (there : Bool) (limit : ℕ) (o : Option (List ℕ)) (read : List ℕ)
-    → Keeps kinds h0 h1 t0 t1 f0 f1 s0 s1 p0 p1 q0 q1 → (s : Told) → h0 → t0 ≡ Some s → there ≡ is_some (file_at top path s.shelf) → there ≡ true → o ≡ Some read
-    → ((bytes : List ℕ) (exec : Bool) (mtime : ℤ) → StandsNode h1 t1 top path (File bytes exec mtime) → ReadsBytes {E = ShelfFault} bytes limit (Ok o)) → (file_at top path s.shelf ≡ Some read) × (length read ≤ limit)
+pub file_read : {kinds : CallKind → Bool} {before after : Shelving} (top : Name) (path : List Name) (there : Bool) (limit : ℕ) (o : Option (List ℕ)) (read : List ℕ)
+    → Keeps kinds before after → (s : Told) → before.honest → before.told ≡ Some s → there ≡ is_some (file_at top path s.shelf) → there ≡ true → o ≡ Some read
+    → ((bytes : List ℕ) (exec : Bool) (mtime : ℤ) → StandsNode after.honest after.told top path (File bytes exec mtime) → ReadsBytes {E = ShelfFault} bytes limit (Ok o)) → (file_at top path s.shelf ≡ Some read) × (length read ≤ limit)
 file_read top path there limit o read keeps s honest tells is holds some reads =
     let f = file_stands top path there keeps s honest tells is holds in
     let r = subst (λ (x : Option (List ℕ)). ReadsBytes {E = ShelfFault} f.0 limit (Ok x)) some (reads f.0 f.1 f.2 f.3) in
     (f.4 ∙ ap Some (sym r.0), subst (λ (l : List ℕ). length l ≤ limit) (sym r.0) r.1)
 
-pub file_long : {kinds : CallKind → Bool} {h0 h1 : Type 0} {t0 t1 : Option Told} {f0 f1 : ℕ} {s0 s1 : Type 0} {p0 p1 : Name} {q0 q1 : List ℕ} (top : Name) (path : List Name) (there : Bool) (limit : ℕ) (o : Option (List ℕ))
-    → Keeps kinds h0 h1 t0 t1 f0 f1 s0 s1 p0 p1 q0 q1 → (s : Told) → h0 → t0 ≡ Some s → there ≡ is_some (file_at top path s.shelf) → there ≡ true → o ≡ None
-    → ((bytes : List ℕ) (exec : Bool) (mtime : ℤ) → StandsNode h1 t1 top path (File bytes exec mtime) → ReadsBytes {E = ShelfFault} bytes limit (Ok o)) → (bytes : List ℕ) × (file_at top path s.shelf ≡ Some bytes) × (limit < length bytes)
+pub file_long : {kinds : CallKind → Bool} {before after : Shelving} (top : Name) (path : List Name) (there : Bool) (limit : ℕ) (o : Option (List ℕ))
+    → Keeps kinds before after → (s : Told) → before.honest → before.told ≡ Some s → there ≡ is_some (file_at top path s.shelf) → there ≡ true → o ≡ None
+    → ((bytes : List ℕ) (exec : Bool) (mtime : ℤ) → StandsNode after.honest after.told top path (File bytes exec mtime) → ReadsBytes {E = ShelfFault} bytes limit (Ok o)) → (bytes : List ℕ) × (file_at top path s.shelf ≡ Some bytes) × (limit < length bytes)
 file_long top path there limit o keeps s honest tells is holds none reads =
     let f = file_stands top path there keeps s honest tells is holds in
     (f.0, f.4, subst (λ (x : Option (List ℕ)). ReadsBytes {E = ShelfFault} f.0 limit (Ok x)) none (reads f.0 f.1 f.2 f.3))
@@ -293,10 +294,10 @@ file_missing None there is off = refl
 file_missing (Some x) there is off = absurd (cc (is, off))
 
 -- a sure shelf reads a file that was found
-pub file_sure : {kinds : CallKind → Bool} {h0 h1 : Type 0} {t0 t1 : Option Told} {f0 f1 f2 : ℕ} {s0 s1 : Type 0} {p0 p1 : Name} {q0 q1 : List ℕ} (top : Name) (path : List Name) (there : Bool) (P : Type 0)
-    → Keeps kinds h0 h1 t0 t1 f0 f1 s0 s1 p0 p1 q0 q1 → IsSure h0 t0 f2 → ((s : Told) → h0 → t0 ≡ Some s → there ≡ is_some (file_at top path s.shelf)) → there ≡ true
-    → ((bytes : List ℕ) (exec : Bool) (mtime : ℤ) → StandsNode h1 t1 top path (File bytes exec mtime) → P) → P
-file_sure {t0 = t0} top path there P keeps sure is holds reads =
-    let s = some_of t0 sure.tells in
+pub file_sure : {kinds : CallKind → Bool} {before after : Shelving} (top : Name) (path : List Name) (there : Bool) (P : Type 0)
+    → Keeps kinds before after → IsSure before → ((s : Told) → before.honest → before.told ≡ Some s → there ≡ is_some (file_at top path s.shelf)) → there ≡ true
+    → ((bytes : List ℕ) (exec : Bool) (mtime : ℤ) → StandsNode after.honest after.told top path (File bytes exec mtime) → P) → P
+file_sure {before = before} top path there P keeps sure is holds reads =
+    let s = some_of before.told sure.tells in
     let f = file_stands top path there keeps s.0 sure.keeps s.1 (is s.0 sure.keeps s.1) holds in
     reads f.0 f.1 f.2 f.3

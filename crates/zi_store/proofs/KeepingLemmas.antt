@@ -6,8 +6,9 @@ use Rattle.zi_tree.specs.Dir.{Dir}
 use Rattle.zi_tree.specs.declared.tree.TreeNode.{TreeNode}
 use Rattle.zi_shelf.specs.Names.{Name}
 use Rattle.zi_shelf.specs.Shelved.{Shelved, Reply, Did, Exists, Failed, Memory}
-use Rattle.zi_shelf.specs.Told.{Told, HasCause, Rose, IsSure, recorded}
-use Rattle.zi_shelf.specs.Reading.{Question, question_call, Reads, SureReading}
+use Rattle.zi_shelf.specs.Told.{Told, Rose, recorded}
+use Rattle.zi_shelf.specs.Shelving.{Shelving, Stays, Reads, IsSure}
+use Rattle.zi_shelf.specs.Reading.{Question, question_call}
 use Rattle.zi_shelf.specs.declared.call.ShelfCall.{ShelfCall}
 use Rattle.zi_shelf.specs.declared.call.CallKind.{CallKind}
 use Rattle.zi_store.specs.Keeping.{Grows, Keeps}
@@ -22,24 +23,33 @@ all_append p (x ∷ xs) ys h k = by_test (p x) refl h (all_append p xs ys)
     by_test true e g rest = rw e (rest g k)
     by_test false e g rest = absurd (cc g)
 
+-- what no call changes, call after call
+stays_none : (seen : Shelving) → Stays seen seen
+stays_none seen = record { honest = λ x. x; sure = λ x. x; in_memory = λ x. x; root = refl; plan = refl }
+
+stays_then : {a b c : Shelving} → Stays a b → Stays b c → Stays a c
+stays_then p q = record {
+  honest = λ x. q.honest (p.honest x);
+  sure = λ x. q.sure (p.sure x);
+  in_memory = λ x. q.in_memory (p.in_memory x);
+  root = q.root ∙ p.root;
+  plan = q.plan ∙ p.plan;
+}
+
 -- no call
-pub keeps_none : (kinds : CallKind → Bool) (h : Type 0) (told : Option Told) (faults : ℕ) (sure : Type 0) (place : Name) (plan : List ℕ) → Keeps kinds h h told told faults faults sure sure place place plan plan
-keeps_none kinds h told faults sure place plan = record {
+pub keeps_none : (kinds : CallKind → Bool) (seen : Shelving) → Keeps kinds seen seen
+keeps_none kinds seen = record {
   holds = λ s keeps e. (s, e, refl, record { more = []; is = sym (append-nil s.calls); of_kind = refl });
-  honest = λ x. x;
   later = omega arith;
-  sure = λ x. x;
-  place = refl;
-  plan = refl;
+  stays = stays_none seen;
 }
 
 -- some calls, and then others
-pub keeps_then : {kinds : CallKind → Bool} {h0 h1 h2 : Type 0} {t0 t1 t2 : Option Told} {f0 f1 f2 : ℕ} {s0 s1 s2 : Type 0} {p0 p1 p2 : Name} {q0 q1 q2 : List ℕ}
-    → Keeps kinds h0 h1 t0 t1 f0 f1 s0 s1 p0 p1 q0 q1 → Keeps kinds h1 h2 t1 t2 f1 f2 s1 s2 p1 p2 q1 q2 → Keeps kinds h0 h2 t0 t2 f0 f2 s0 s2 p0 p2 q0 q2
+pub keeps_then : {kinds : CallKind → Bool} {before between after : Shelving} → Keeps kinds before between → Keeps kinds between after → Keeps kinds before after
 keeps_then {kinds = kinds} a b = record {
   holds = λ s keeps e.
       let m = a.holds s keeps e in
-      let n = b.holds m.0 (a.honest keeps) m.1 in (
+      let n = b.holds m.0 (a.stays.honest keeps) m.1 in (
         n.0,
         n.1,
         n.2 ∙ m.2,
@@ -49,11 +59,8 @@ keeps_then {kinds = kinds} a b = record {
           of_kind = all_append (λ (c : ShelfCall). kinds c.kind) m.3.more n.3.more m.3.of_kind n.3.of_kind;
         },
       );
-  honest = λ x. b.honest (a.honest x);
   later = omega (arith, a.later, b.later);
-  sure = λ x. b.sure (a.sure x);
-  place = b.place ∙ a.place;
-  plan = b.plan ∙ a.plan;
+  stays = stays_then a.stays b.stays;
 }
 
 and_true : (b : Bool) → b ≡ true → (b && true) ≡ true
@@ -66,19 +73,23 @@ grown kinds old new c Exists h e = record { more = c ∷ []; is = e; of_kind = a
 grown kinds old new c Failed h e = record { more = c ∷ []; is = e; of_kind = and_true (kinds c.kind) h }
 
 -- one call that reads
-pub keeps_call : (kinds : CallKind → Bool) {h0 h1 : Type 0} {t0 t1 : Option Told} {f0 f1 : ℕ} {s0 s1 : Type 0} {p0 p1 : Name} {q0 q1 : List ℕ} (question : Question) (reply : Reply) (answer : Shelved Dir → Type 0)
-    → Reads h0 t0 question reply answer t1 → kinds (question_call question).kind ≡ true → (h0 → h1) → HasCause f0 f1 reply → (s0 → s1) → p1 ≡ p0 → q1 ≡ q0 → Keeps kinds h0 h1 t0 t1 f0 f1 s0 s1 p0 p1 q0 q1
-keeps_call kinds question reply answer reads kind honest cause sure place plan = record {
+pub keeps_call : (kinds : CallKind → Bool) {before after : Shelving} (question : Question) (reply : Reply) (answer : Shelved Dir → Type 0)
+    → Reads before question reply answer after → kinds (question_call question).kind ≡ true → Keeps kinds before after
+keeps_call kinds question reply answer reads kind = record {
   holds = λ s keeps e. let r = reads.leads s keeps e in (r.0, r.1, r.2, grown kinds s.calls r.0.calls (question_call question) reply kind r.3);
-  honest = honest;
-  later = cause.later;
-  sure = sure;
-  place = place;
-  plan = plan;
+  later = reads.cause.later;
+  stays = reads.stays;
 }
 
-pub answers_call : {h0 : Type 0} {t0 t1 : Option Told} (question : Question) (reply : Reply) (answer : Shelved Dir → Type 0) → Reads h0 t0 question reply answer t1 → (s : Told) → h0 → t0 ≡ Some s → answer s.shelf
+pub answers_call : {before after : Shelving} (question : Question) (reply : Reply) (answer : Shelved Dir → Type 0) → Reads before question reply answer after → (s : Told) → before.honest → before.told ≡ Some s → answer s.shelf
 answers_call question reply answer reads s keeps e = (reads.leads s keeps e).4
+
+-- where it doesn't fail the count stays
+pub count_call : {before after : Shelving} (question : Question) (reply : Reply) (answer : Shelved Dir → Type 0) → Reads before question reply answer after → (reply ≡ Failed → ⊥) → after.faults ≡ before.faults
+count_call question Did answer reads h = reads.cause.did refl
+count_call question Exists answer reads h = reads.cause.exists refl
+count_call question Memory answer reads h = reads.cause.memory refl
+count_call question Failed answer reads h = absurd (h refl)
 
 pub some_of : {X : Type 0} (o : Option X) → IsSome o → (x : X) × (o ≡ Some x)
 some_of None h = absurd (cc h)
@@ -89,10 +100,10 @@ not_risen f0 f1 e h (inl r) = absurd (omega (arith, e, r))
 not_risen f0 f1 e h (inr r) = absurd (omega (arith, h, r))
 
 -- a call that fits doesn't fail on a sure shelf
-pub sure_call : {h0 h1 : Type 0} {t0 t1 : Option Told} {f0 f1 : ℕ} (question : Question) (reply : Reply) → IsSure h0 t0 f0 → IsSure h1 t1 f1 → SureReading t0 question f0 f1 → HasCause f0 f1 reply → Fits t0 question → reply ≡ Failed → ⊥
-sure_call {t0 = t0} {f0 = f0} {f1 = f1} question reply before after no_rise cause fits e =
-    let s = some_of t0 before.tells in
-    not_risen f0 f1 (no_rise.no_rise s.0 s.1 (fits s.0 s.1)) after.below_end (cause.failed e)
+pub sure_call : {before after : Shelving} (question : Question) (reply : Reply) (answer : Shelved Dir → Type 0) → before.sure → IsSure before → IsSure after → Reads before question reply answer after → Fits before.told question → reply ≡ Failed → ⊥
+sure_call {before = before} {after = after} question reply answer sure was is reads fits e =
+    let s = some_of before.told was.tells in
+    not_risen before.faults after.faults ((reads.no_rise sure).no_rise s.0 s.1 (fits s.0 s.1)) is.below_end (reads.cause.failed e)
 
 -- a count that rose in a later call rose
 pub rose_later : (f0 f1 f2 : ℕ) → f0 ≤ f1 → Rose f1 f2 → Rose f0 f2
@@ -104,11 +115,11 @@ rose_before f0 f1 f2 h (inl r) = inl (omega (arith, h, r))
 rose_before f0 f1 f2 h (inr r) = inr (omega (arith, h, r))
 
 -- what stood there stands there still
-pub stands_later : {kinds : CallKind → Bool} {h0 h1 : Type 0} {t0 t1 : Option Told} {f0 f1 : ℕ} {s0 s1 : Type 0} {p0 p1 : Name} {q0 q1 : List ℕ} {top : Name} {path : List Name} {d : Dir}
-    → Keeps kinds h0 h1 t0 t1 f0 f1 s0 s1 p0 p1 q0 q1 → Stands h0 t0 top path d → Stands h1 t1 top path d
+pub stands_later : {kinds : CallKind → Bool} {before after : Shelving} {top : Name} {path : List Name} {d : Dir}
+    → Keeps kinds before after → Stands before.honest before.told top path d → Stands after.honest after.told top path d
 stands_later {top = top} a st =
     let m = a.holds st.state st.keeps st.tells in record {
-      keeps = a.honest st.keeps;
+      keeps = a.stays.honest st.keeps;
       state = m.0;
       tells = m.1;
       entry = st.entry;
@@ -116,11 +127,11 @@ stands_later {top = top} a st =
       is_there = st.is_there;
     }
 
-pub node_later : {kinds : CallKind → Bool} {h0 h1 : Type 0} {t0 t1 : Option Told} {f0 f1 : ℕ} {s0 s1 : Type 0} {p0 p1 : Name} {q0 q1 : List ℕ} {top : Name} {path : List Name} {x : TreeNode}
-    → Keeps kinds h0 h1 t0 t1 f0 f1 s0 s1 p0 p1 q0 q1 → StandsNode h0 t0 top path x → StandsNode h1 t1 top path x
+pub node_later : {kinds : CallKind → Bool} {before after : Shelving} {top : Name} {path : List Name} {x : TreeNode}
+    → Keeps kinds before after → StandsNode before.honest before.told top path x → StandsNode after.honest after.told top path x
 node_later {top = top} a st =
     let m = a.holds st.state st.keeps st.tells in record {
-      keeps = a.honest st.keeps;
+      keeps = a.stays.honest st.keeps;
       state = m.0;
       tells = m.1;
       entry = st.entry;

@@ -25,10 +25,11 @@ pub(crate) fn read_bytes<K: Shelf>(
     limit: u64,
     k: &mut K,
 ) -> Result<Option<Bytes>, ShelfFault>
-    ensures bytes { (bytes : List ℕ) (exec : Bool) (mtime : ℤ) → StandsNode (K.honest k.old) (K.told k.old) top.now path.now (File bytes exec mtime) → ReadsBytes bytes limit result }
-    ensures keeps { Keeps is_reading (K.honest k.old) (K.honest k.new) (K.told k.old) (K.told k.new) (K.faults k.old) (K.faults k.new) (K.sure k.old) (K.sure k.new) (K.place k.old) (K.place k.new) (K.plan k.old) (K.plan k.new) }
-    ensures cause { result ≡ Err ShelfFault.Failed → Rose (K.faults k.old) (K.faults k.new) }
-    ensures sure { K.sure k.old → (bytes : List ℕ) (exec : Bool) (mtime : ℤ) → StandsNode (K.honest k.old) (K.told k.old) top.now path.now (File bytes exec mtime) → result ≡ Err ShelfFault.Failed → ⊥ }
+    ensures bytes { (bytes : List ℕ) (exec : Bool) (mtime : ℤ) → StandsNode ((K.seen k.old).honest) ((K.seen k.old).told) top.now path.now (File bytes exec mtime) → ReadsBytes bytes limit result }
+    ensures keeps { Keeps is_reading (K.seen k.old) (K.seen k.new) }
+    ensures cause { result ≡ Err ShelfFault.Failed → Rose ((K.seen k.old).faults) ((K.seen k.new).faults) }
+    ensures count { (result ≡ Err ShelfFault.Failed → ⊥) → (K.seen k.new).faults ≡ (K.seen k.old).faults }
+    ensures sure { (K.seen k.old).sure → (bytes : List ℕ) (exec : Bool) (mtime : ℤ) → StandsNode ((K.seen k.old).honest) ((K.seen k.old).told) top.now path.now (File bytes exec mtime) → result ≡ Err ShelfFault.Failed → ⊥ }
 {
     let mut bytes = Vec::new(alloc);
     while bytes.len() as u64 <= limit {
@@ -48,11 +49,12 @@ fn read_more<K: Shelf>(
     k: &mut K,
 ) -> Result<bool, ShelfFault>
     requires { vec_len bytes.old ≤ limit }
-    ensures front { (all : List ℕ) (exec : Bool) (mtime : ℤ) → StandsNode (K.honest k.old) (K.told k.old) top.now path.now (File all exec mtime) → IsFront bytes.old.items all → IfOk result (λ more. MatchBool more (IsFront bytes.new.items all) (bytes.old.items ≡ all)) }
+    ensures front { (all : List ℕ) (exec : Bool) (mtime : ℤ) → StandsNode ((K.seen k.old).honest) ((K.seen k.old).told) top.now path.now (File all exec mtime) → IsFront bytes.old.items all → IfOk result (λ more. MatchBool more (IsFront bytes.new.items all) (bytes.old.items ≡ all)) }
     ensures more { IfOk result (λ more. MatchBool more (vec_len bytes.old < vec_len bytes.new) (bytes.new.items ≡ bytes.old.items)) }
-    ensures keeps { Keeps is_reading (K.honest k.old) (K.honest k.new) (K.told k.old) (K.told k.new) (K.faults k.old) (K.faults k.new) (K.sure k.old) (K.sure k.new) (K.place k.old) (K.place k.new) (K.plan k.old) (K.plan k.new) }
-    ensures cause { result ≡ Err ShelfFault.Failed → Rose (K.faults k.old) (K.faults k.new) }
-    ensures sure { K.sure k.old → (all : List ℕ) (exec : Bool) (mtime : ℤ) → StandsNode (K.honest k.old) (K.told k.old) top.now path.now (File all exec mtime) → result ≡ Err ShelfFault.Failed → ⊥ }
+    ensures keeps { Keeps is_reading (K.seen k.old) (K.seen k.new) }
+    ensures cause { result ≡ Err ShelfFault.Failed → Rose ((K.seen k.old).faults) ((K.seen k.new).faults) }
+    ensures count { (result ≡ Err ShelfFault.Failed → ⊥) → (K.seen k.new).faults ≡ (K.seen k.old).faults }
+    ensures sure { (K.seen k.old).sure → (all : List ℕ) (exec : Bool) (mtime : ℤ) → StandsNode ((K.seen k.old).honest) ((K.seen k.old).told) top.now path.now (File all exec mtime) → result ≡ Err ShelfFault.Failed → ⊥ }
 {
     let had = bytes.len();
     let room = (limit - had as u64).saturating_add(1).min(PIECE);

@@ -12,10 +12,11 @@ use zi_tree::RelPath;
 
 /// The names of all top entries.
 pub(crate) fn ask_names<K: Shelf>(k: &mut K) -> Result<List<Text>, ShelfFault>
-    ensures answer { (s : Told) → K.honest k.old → K.told k.old ≡ Some s → NamesAnswer result s.shelf }
-    ensures keeps { Keeps is_names (K.honest k.old) (K.honest k.new) (K.told k.old) (K.told k.new) (K.faults k.old) (K.faults k.new) (K.sure k.old) (K.sure k.new) (K.place k.old) (K.place k.new) (K.plan k.old) (K.plan k.new) }
-    ensures cause { result ≡ Err ShelfFault.Failed → Rose (K.faults k.old) (K.faults k.new) }
-    ensures sure { K.sure k.old → result ≡ Err ShelfFault.Failed → ⊥ }
+    ensures answer { (s : Told) → (K.seen k.old).honest → (K.seen k.old).told ≡ Some s → NamesAnswer result s.shelf }
+    ensures keeps { Keeps is_names (K.seen k.old) (K.seen k.new) }
+    ensures cause { result ≡ Err ShelfFault.Failed → Rose ((K.seen k.old).faults) ((K.seen k.new).faults) }
+    ensures count { (result ≡ Err ShelfFault.Failed → ⊥) → (K.seen k.new).faults ≡ (K.seen k.old).faults }
+    ensures sure { (K.seen k.old).sure → result ≡ Err ShelfFault.Failed → ⊥ }
 {
     k.names()
 }
@@ -26,10 +27,11 @@ pub(crate) fn ask_entries<K: Shelf>(
     path: &RelPath,
     k: &mut K,
 ) -> Result<Listed, ShelfFault>
-    ensures answer { (s : Told) → K.honest k.old → K.told k.old ≡ Some s → EntriesAnswer top.now path.now result s.shelf }
-    ensures keeps { Keeps is_reading (K.honest k.old) (K.honest k.new) (K.told k.old) (K.told k.new) (K.faults k.old) (K.faults k.new) (K.sure k.old) (K.sure k.new) (K.place k.old) (K.place k.new) (K.plan k.old) (K.plan k.new) }
-    ensures cause { result ≡ Err ShelfFault.Failed → Rose (K.faults k.old) (K.faults k.new) }
-    ensures sure { K.sure k.old → Fits (K.told k.old) (Entries top.now path.now) → result ≡ Err ShelfFault.Failed → ⊥ }
+    ensures answer { (s : Told) → (K.seen k.old).honest → (K.seen k.old).told ≡ Some s → EntriesAnswer top.now path.now result s.shelf }
+    ensures keeps { Keeps is_reading (K.seen k.old) (K.seen k.new) }
+    ensures cause { result ≡ Err ShelfFault.Failed → Rose ((K.seen k.old).faults) ((K.seen k.new).faults) }
+    ensures count { (result ≡ Err ShelfFault.Failed → ⊥) → (K.seen k.new).faults ≡ (K.seen k.old).faults }
+    ensures sure { (K.seen k.old).sure → Fits ((K.seen k.old).told) (Entries top.now path.now) → result ≡ Err ShelfFault.Failed → ⊥ }
 {
     k.entries(top, path)
 }
@@ -43,21 +45,23 @@ pub(crate) fn ask_bytes<K: Shelf>(
     into: &mut Vec<u8>,
     k: &mut K,
 ) -> Result<(), ShelfFault>
-    ensures answer { (s : Told) → K.honest k.old → K.told k.old ≡ Some s → ReadAnswer top.now path.now offset max into.old.items result into.new.items s.shelf }
+    ensures answer { (s : Told) → (K.seen k.old).honest → (K.seen k.old).told ≡ Some s → ReadAnswer (Read top.now path.now offset max) into.old.items result into.new.items s.shelf }
     ensures grows { Grows max into.old.items result into.new.items }
-    ensures keeps { Keeps is_reading (K.honest k.old) (K.honest k.new) (K.told k.old) (K.told k.new) (K.faults k.old) (K.faults k.new) (K.sure k.old) (K.sure k.new) (K.place k.old) (K.place k.new) (K.plan k.old) (K.plan k.new) }
-    ensures cause { result ≡ Err ShelfFault.Failed → Rose (K.faults k.old) (K.faults k.new) }
-    ensures sure { K.sure k.old → Fits (K.told k.old) (Read top.now path.now offset max) → result ≡ Err ShelfFault.Failed → ⊥ }
+    ensures keeps { Keeps is_reading (K.seen k.old) (K.seen k.new) }
+    ensures cause { result ≡ Err ShelfFault.Failed → Rose ((K.seen k.old).faults) ((K.seen k.new).faults) }
+    ensures count { (result ≡ Err ShelfFault.Failed → ⊥) → (K.seen k.new).faults ≡ (K.seen k.old).faults }
+    ensures sure { (K.seen k.old).sure → Fits ((K.seen k.old).told) (Read top.now path.now offset max) → result ≡ Err ShelfFault.Failed → ⊥ }
 {
     k.read(top, path, offset, max, into)
 }
 
 /// The text of a link.
 pub(crate) fn ask_target<K: Shelf>(top: &str, path: &RelPath, k: &mut K) -> Result<Text, ShelfFault>
-    ensures answer { (s : Told) → K.honest k.old → K.told k.old ≡ Some s → TargetAnswer top.now path.now result s.shelf }
-    ensures keeps { Keeps is_reading (K.honest k.old) (K.honest k.new) (K.told k.old) (K.told k.new) (K.faults k.old) (K.faults k.new) (K.sure k.old) (K.sure k.new) (K.place k.old) (K.place k.new) (K.plan k.old) (K.plan k.new) }
-    ensures cause { result ≡ Err ShelfFault.Failed → Rose (K.faults k.old) (K.faults k.new) }
-    ensures sure { K.sure k.old → Fits (K.told k.old) (Target top.now path.now) → result ≡ Err ShelfFault.Failed → ⊥ }
+    ensures answer { (s : Told) → (K.seen k.old).honest → (K.seen k.old).told ≡ Some s → TargetAnswer top.now path.now result s.shelf }
+    ensures keeps { Keeps is_reading (K.seen k.old) (K.seen k.new) }
+    ensures cause { result ≡ Err ShelfFault.Failed → Rose ((K.seen k.old).faults) ((K.seen k.new).faults) }
+    ensures count { (result ≡ Err ShelfFault.Failed → ⊥) → (K.seen k.new).faults ≡ (K.seen k.old).faults }
+    ensures sure { (K.seen k.old).sure → Fits ((K.seen k.old).told) (Target top.now path.now) → result ≡ Err ShelfFault.Failed → ⊥ }
 {
     k.target(top, path)
 }

@@ -42,10 +42,11 @@ pub fn read_file<K: Shelf>(
     limit: u64,
     k: &mut K,
 ) -> Result<FileRead, ShelfFault>
-    ensures file { (s : Told) → K.honest k.old → K.told k.old ≡ Some s → ReadsFile top.now path.now limit result s.shelf }
-    ensures keeps { Keeps is_reading (K.honest k.old) (K.honest k.new) (K.told k.old) (K.told k.new) (K.faults k.old) (K.faults k.new) (K.sure k.old) (K.sure k.new) (K.place k.old) (K.place k.new) (K.plan k.old) (K.plan k.new) }
-    ensures cause { result ≡ Err ShelfFault.Failed → Rose (K.faults k.old) (K.faults k.new) }
-    ensures sure { K.sure k.old → result ≡ Err ShelfFault.Failed → ⊥ }
+    ensures file { (s : Told) → (K.seen k.old).honest → (K.seen k.old).told ≡ Some s → ReadsFile top.now path.now limit result s.shelf }
+    ensures keeps { Keeps is_reading (K.seen k.old) (K.seen k.new) }
+    ensures cause { result ≡ Err ShelfFault.Failed → Rose ((K.seen k.old).faults) ((K.seen k.new).faults) }
+    ensures count { (result ≡ Err ShelfFault.Failed → ⊥) → (K.seen k.new).faults ≡ (K.seen k.old).faults }
+    ensures sure { (K.seen k.old).sure → result ≡ Err ShelfFault.Failed → ⊥ }
 {
     if !is_file(alloc, top, path, k)? {
         return Ok(FileRead::Missing);
@@ -63,10 +64,11 @@ fn is_file<K: Shelf>(
     path: &RelPath,
     k: &mut K,
 ) -> Result<bool, ShelfFault>
-    ensures file { (s : Told) → K.honest k.old → K.told k.old ≡ Some s → IfOk result (λ there. there ≡ is_some (file_at top.now path.now s.shelf)) }
-    ensures keeps { Keeps is_reading (K.honest k.old) (K.honest k.new) (K.told k.old) (K.told k.new) (K.faults k.old) (K.faults k.new) (K.sure k.old) (K.sure k.new) (K.place k.old) (K.place k.new) (K.plan k.old) (K.plan k.new) }
-    ensures cause { result ≡ Err ShelfFault.Failed → Rose (K.faults k.old) (K.faults k.new) }
-    ensures sure { K.sure k.old → result ≡ Err ShelfFault.Failed → ⊥ }
+    ensures file { (s : Told) → (K.seen k.old).honest → (K.seen k.old).told ≡ Some s → IfOk result (λ there. there ≡ is_some (file_at top.now path.now s.shelf)) }
+    ensures keeps { Keeps is_reading (K.seen k.old) (K.seen k.new) }
+    ensures cause { result ≡ Err ShelfFault.Failed → Rose ((K.seen k.old).faults) ((K.seen k.new).faults) }
+    ensures count { (result ≡ Err ShelfFault.Failed → ⊥) → (K.seen k.new).faults ≡ (K.seen k.old).faults }
+    ensures sure { (K.seen k.old).sure → result ≡ Err ShelfFault.Failed → ⊥ }
 {
     let parts = path.parts().as_slice();
     let mut folder = RelPath::root(alloc);
@@ -99,12 +101,13 @@ fn way_from<K: Shelf>(
     k: &mut K,
 ) -> Result<Way, ShelfFault>
     requires { is_plain name.now ≡ true }
-    ensures way { (d : Dir) → Stands (K.honest k.old) (K.told k.old) top.now folder.now d → IfOk result (λ way. Leads (node_in name.now (items d)) way) }
-    ensures none { (s : Told) → K.honest k.old → K.told k.old ≡ Some s → s.shelf.tops top.now ≡ None → IfOk result (λ way. way ≡ Way.Nowhere) }
+    ensures way { (d : Dir) → Stands ((K.seen k.old).honest) ((K.seen k.old).told) top.now folder.now d → IfOk result (λ way. Leads (node_in name.now (items d)) way) }
+    ensures none { (s : Told) → (K.seen k.old).honest → (K.seen k.old).told ≡ Some s → s.shelf.tops top.now ≡ None → IfOk result (λ way. way ≡ Way.Nowhere) }
     ensures path { (inner : List Name) → result ≡ Ok (Way.Into inner) → inner ≡ folder.now ++ name.now ∷ [] }
-    ensures keeps { Keeps is_reading (K.honest k.old) (K.honest k.new) (K.told k.old) (K.told k.new) (K.faults k.old) (K.faults k.new) (K.sure k.old) (K.sure k.new) (K.place k.old) (K.place k.new) (K.plan k.old) (K.plan k.new) }
-    ensures cause { result ≡ Err ShelfFault.Failed → Rose (K.faults k.old) (K.faults k.new) }
-    ensures sure { K.sure k.old → Fits (K.told k.old) (Entries top.now folder.now) → result ≡ Err ShelfFault.Failed → ⊥ }
+    ensures keeps { Keeps is_reading (K.seen k.old) (K.seen k.new) }
+    ensures cause { result ≡ Err ShelfFault.Failed → Rose ((K.seen k.old).faults) ((K.seen k.new).faults) }
+    ensures count { (result ≡ Err ShelfFault.Failed → ⊥) → (K.seen k.new).faults ≡ (K.seen k.old).faults }
+    ensures sure { (K.seen k.old).sure → Fits ((K.seen k.old).told) (Entries top.now folder.now) → result ≡ Err ShelfFault.Failed → ⊥ }
 {
     match kind_under(top, folder, name, k)? {
         Some(EntryKind::Folder) => match folder.child(alloc, name)? {
@@ -123,11 +126,12 @@ fn kind_under<K: Shelf>(
     name: &str,
     k: &mut K,
 ) -> Result<Option<EntryKind>, ShelfFault>
-    ensures kind { (d : Dir) → Stands (K.honest k.old) (K.told k.old) top.now path.now d → IfOk result (λ kind. kind ≡ option_map kind_of (node_in name.now (items d))) }
-    ensures none { (s : Told) → K.honest k.old → K.told k.old ≡ Some s → s.shelf.tops top.now ≡ None → IfOk result (λ kind. kind ≡ None) }
-    ensures keeps { Keeps is_reading (K.honest k.old) (K.honest k.new) (K.told k.old) (K.told k.new) (K.faults k.old) (K.faults k.new) (K.sure k.old) (K.sure k.new) (K.place k.old) (K.place k.new) (K.plan k.old) (K.plan k.new) }
-    ensures cause { result ≡ Err ShelfFault.Failed → Rose (K.faults k.old) (K.faults k.new) }
-    ensures sure { K.sure k.old → Fits (K.told k.old) (Entries top.now path.now) → result ≡ Err ShelfFault.Failed → ⊥ }
+    ensures kind { (d : Dir) → Stands ((K.seen k.old).honest) ((K.seen k.old).told) top.now path.now d → IfOk result (λ kind. kind ≡ option_map kind_of (node_in name.now (items d))) }
+    ensures none { (s : Told) → (K.seen k.old).honest → (K.seen k.old).told ≡ Some s → s.shelf.tops top.now ≡ None → IfOk result (λ kind. kind ≡ None) }
+    ensures keeps { Keeps is_reading (K.seen k.old) (K.seen k.new) }
+    ensures cause { result ≡ Err ShelfFault.Failed → Rose ((K.seen k.old).faults) ((K.seen k.new).faults) }
+    ensures count { (result ≡ Err ShelfFault.Failed → ⊥) → (K.seen k.new).faults ≡ (K.seen k.old).faults }
+    ensures sure { (K.seen k.old).sure → Fits ((K.seen k.old).told) (Entries top.now path.now) → result ≡ Err ShelfFault.Failed → ⊥ }
 {
     match ask_entries(top, path, k)? {
         Listed::Absent => Ok(None),

@@ -35,10 +35,11 @@ pub(crate) fn read_folder<K: Shelf>(
     k: &mut K,
 ) -> Result<Tree, Stop>
     requires { depth ≤ 64 }
-    ensures walks { (whole : Bool) (d : Dir) → Stands (K.honest k.old) (K.told k.old) top.now path.now d → is_tree d ≡ true → entries.now ≡ entries_of (shown whole d) → Walks (shown whole d) (met depth (shown whole d)) counts.old.nodes counts.old.bytes result counts.new.nodes counts.new.bytes }
-    ensures keeps { Keeps is_reading (K.honest k.old) (K.honest k.new) (K.told k.old) (K.told k.new) (K.faults k.old) (K.faults k.new) (K.sure k.old) (K.sure k.new) (K.place k.old) (K.place k.new) (K.plan k.old) (K.plan k.new) }
-    ensures cause { result ≡ Err (Stop.Fault ShelfFault.Failed) → Rose (K.faults k.old) (K.faults k.new) }
-    ensures sure { K.sure k.old → (whole : Bool) (d : Dir) → Stands (K.honest k.old) (K.told k.old) top.now path.now d → is_tree d ≡ true → entries.now ≡ entries_of (shown whole d) → result ≡ Err (Stop.Fault ShelfFault.Failed) → ⊥ }
+    ensures walks { (whole : Bool) (d : Dir) → Stands ((K.seen k.old).honest) ((K.seen k.old).told) top.now path.now d → is_tree d ≡ true → entries.now ≡ entries_of (shown whole d) → Walks (shown whole d) (met depth (shown whole d)) counts.old.nodes counts.old.bytes result counts.new.nodes counts.new.bytes }
+    ensures keeps { Keeps is_reading (K.seen k.old) (K.seen k.new) }
+    ensures cause { result ≡ Err (Stop.Fault ShelfFault.Failed) → Rose ((K.seen k.old).faults) ((K.seen k.new).faults) }
+    ensures count { (result ≡ Err (Stop.Fault ShelfFault.Failed) → ⊥) → (K.seen k.new).faults ≡ (K.seen k.old).faults }
+    ensures sure { (K.seen k.old).sure → (whole : Bool) (d : Dir) → Stands ((K.seen k.old).honest) ((K.seen k.old).told) top.now path.now d → is_tree d ≡ true → entries.now ≡ entries_of (shown whole d) → result ≡ Err (Stop.Fault ShelfFault.Failed) → ⊥ }
 {
     let mut tree = read_leaves(alloc, top, path, entries, counts, k)?;
     for entry in entries {
@@ -61,11 +62,12 @@ fn read_inner<K: Shelf>(
     k: &mut K,
 ) -> Result<(), Stop>
     requires { depth ≤ 64 }
-    ensures walks { (x : Node) → IsListed (K.honest k.old) (K.told k.old) top.now path.now entry.now x → node_is_tree x ≡ true → node_in entry.now.name (items tree.old) ≡ Some (bare x) → Walks tt (inner_met depth x) counts.old.nodes counts.old.bytes result counts.new.nodes counts.new.bytes }
-    ensures tree { (x : Node) → IsListed (K.honest k.old) (K.told k.old) top.now path.now entry.now x → node_is_tree x ≡ true → node_in entry.now.name (items tree.old) ≡ Some (bare x) → OnOk result (tree.new ≡ dir (replaced entry.now.name x (items tree.old))) }
-    ensures keeps { Keeps is_reading (K.honest k.old) (K.honest k.new) (K.told k.old) (K.told k.new) (K.faults k.old) (K.faults k.new) (K.sure k.old) (K.sure k.new) (K.place k.old) (K.place k.new) (K.plan k.old) (K.plan k.new) }
-    ensures cause { result ≡ Err (Stop.Fault ShelfFault.Failed) → Rose (K.faults k.old) (K.faults k.new) }
-    ensures sure { K.sure k.old → (x : Node) → IsListed (K.honest k.old) (K.told k.old) top.now path.now entry.now x → node_is_tree x ≡ true → result ≡ Err (Stop.Fault ShelfFault.Failed) → ⊥ }
+    ensures walks { (x : Node) → IsListed ((K.seen k.old).honest) ((K.seen k.old).told) top.now path.now entry.now x → node_is_tree x ≡ true → node_in entry.now.name (items tree.old) ≡ Some (bare x) → Walks tt (inner_met depth x) counts.old.nodes counts.old.bytes result counts.new.nodes counts.new.bytes }
+    ensures tree { (x : Node) → IsListed ((K.seen k.old).honest) ((K.seen k.old).told) top.now path.now entry.now x → node_is_tree x ≡ true → node_in entry.now.name (items tree.old) ≡ Some (bare x) → OnOk result (tree.new ≡ dir (replaced entry.now.name x (items tree.old))) }
+    ensures keeps { Keeps is_reading (K.seen k.old) (K.seen k.new) }
+    ensures cause { result ≡ Err (Stop.Fault ShelfFault.Failed) → Rose ((K.seen k.old).faults) ((K.seen k.new).faults) }
+    ensures count { (result ≡ Err (Stop.Fault ShelfFault.Failed) → ⊥) → (K.seen k.new).faults ≡ (K.seen k.old).faults }
+    ensures sure { (K.seen k.old).sure → (x : Node) → IsListed ((K.seen k.old).honest) ((K.seen k.old).told) top.now path.now entry.now x → node_is_tree x ≡ true → result ≡ Err (Stop.Fault ShelfFault.Failed) → ⊥ }
 {
     if !is_folder(entry) {
         return Ok(());
@@ -93,10 +95,11 @@ fn read_deeper<K: Shelf>(
     k: &mut K,
 ) -> Result<Tree, Stop>
     requires { depth ≤ 65 }
-    ensures walks { (inside : Dir) → Stands (K.honest k.old) (K.told k.old) top.now path.now inside → is_tree inside ≡ true → Walks inside (record { depth = depth; size = 0 } ∷ met depth inside) counts.old.nodes counts.old.bytes result counts.new.nodes counts.new.bytes }
-    ensures keeps { Keeps is_reading (K.honest k.old) (K.honest k.new) (K.told k.old) (K.told k.new) (K.faults k.old) (K.faults k.new) (K.sure k.old) (K.sure k.new) (K.place k.old) (K.place k.new) (K.plan k.old) (K.plan k.new) }
-    ensures cause { result ≡ Err (Stop.Fault ShelfFault.Failed) → Rose (K.faults k.old) (K.faults k.new) }
-    ensures sure { K.sure k.old → (inside : Dir) → Stands (K.honest k.old) (K.told k.old) top.now path.now inside → is_tree inside ≡ true → result ≡ Err (Stop.Fault ShelfFault.Failed) → ⊥ }
+    ensures walks { (inside : Dir) → Stands ((K.seen k.old).honest) ((K.seen k.old).told) top.now path.now inside → is_tree inside ≡ true → Walks inside (record { depth = depth; size = 0 } ∷ met depth inside) counts.old.nodes counts.old.bytes result counts.new.nodes counts.new.bytes }
+    ensures keeps { Keeps is_reading (K.seen k.old) (K.seen k.new) }
+    ensures cause { result ≡ Err (Stop.Fault ShelfFault.Failed) → Rose ((K.seen k.old).faults) ((K.seen k.new).faults) }
+    ensures count { (result ≡ Err (Stop.Fault ShelfFault.Failed) → ⊥) → (K.seen k.new).faults ≡ (K.seen k.old).faults }
+    ensures sure { (K.seen k.old).sure → (inside : Dir) → Stands ((K.seen k.old).honest) ((K.seen k.old).told) top.now path.now inside → is_tree inside ≡ true → result ≡ Err (Stop.Fault ShelfFault.Failed) → ⊥ }
 {
     counts.folder(depth)?;
     let entries = listing(top, path, false, k)?;

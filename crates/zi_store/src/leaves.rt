@@ -33,10 +33,11 @@ pub(crate) fn read_leaves<K: Shelf>(
     counts: &mut Counts,
     k: &mut K,
 ) -> Result<Tree, Stop>
-    ensures walks { (whole : Bool) (d : Dir) → Stands (K.honest k.old) (K.told k.old) top.now path.now d → is_tree d ≡ true → entries.now ≡ entries_of (shown whole d) → Walks (emptied (shown whole d)) (leaves_met (shown whole d)) counts.old.nodes counts.old.bytes result counts.new.nodes counts.new.bytes }
-    ensures keeps { Keeps is_reading (K.honest k.old) (K.honest k.new) (K.told k.old) (K.told k.new) (K.faults k.old) (K.faults k.new) (K.sure k.old) (K.sure k.new) (K.place k.old) (K.place k.new) (K.plan k.old) (K.plan k.new) }
-    ensures cause { result ≡ Err (Stop.Fault ShelfFault.Failed) → Rose (K.faults k.old) (K.faults k.new) }
-    ensures sure { K.sure k.old → (whole : Bool) (d : Dir) → Stands (K.honest k.old) (K.told k.old) top.now path.now d → is_tree d ≡ true → entries.now ≡ entries_of (shown whole d) → result ≡ Err (Stop.Fault ShelfFault.Failed) → ⊥ }
+    ensures walks { (whole : Bool) (d : Dir) → Stands ((K.seen k.old).honest) ((K.seen k.old).told) top.now path.now d → is_tree d ≡ true → entries.now ≡ entries_of (shown whole d) → Walks (emptied (shown whole d)) (leaves_met (shown whole d)) counts.old.nodes counts.old.bytes result counts.new.nodes counts.new.bytes }
+    ensures keeps { Keeps is_reading (K.seen k.old) (K.seen k.new) }
+    ensures cause { result ≡ Err (Stop.Fault ShelfFault.Failed) → Rose ((K.seen k.old).faults) ((K.seen k.new).faults) }
+    ensures count { (result ≡ Err (Stop.Fault ShelfFault.Failed) → ⊥) → (K.seen k.new).faults ≡ (K.seen k.old).faults }
+    ensures sure { (K.seen k.old).sure → (whole : Bool) (d : Dir) → Stands ((K.seen k.old).honest) ((K.seen k.old).told) top.now path.now d → is_tree d ≡ true → entries.now ≡ entries_of (shown whole d) → result ≡ Err (Stop.Fault ShelfFault.Failed) → ⊥ }
 {
     let mut tree = Tree::new(alloc);
     for entry in entries {
@@ -56,11 +57,12 @@ fn add_leaf<K: Shelf>(
     tree: &mut Tree,
     k: &mut K,
 ) -> Result<(), Stop>
-    ensures walks { (x : Node) → IsListed (K.honest k.old) (K.told k.old) top.now path.now entry.now x → node_in entry.now.name (items tree.old) ≡ None → Walks tt (leaf_met x) counts.old.nodes counts.old.bytes result counts.new.nodes counts.new.bytes }
-    ensures tree { (x : Node) → IsListed (K.honest k.old) (K.told k.old) top.now path.now entry.now x → node_in entry.now.name (items tree.old) ≡ None → OnOk result (tree.new ≡ dir (placed entry.now.name (bare x) (items tree.old))) }
-    ensures keeps { Keeps is_reading (K.honest k.old) (K.honest k.new) (K.told k.old) (K.told k.new) (K.faults k.old) (K.faults k.new) (K.sure k.old) (K.sure k.new) (K.place k.old) (K.place k.new) (K.plan k.old) (K.plan k.new) }
-    ensures cause { result ≡ Err (Stop.Fault ShelfFault.Failed) → Rose (K.faults k.old) (K.faults k.new) }
-    ensures sure { K.sure k.old → (x : Node) → IsListed (K.honest k.old) (K.told k.old) top.now path.now entry.now x → result ≡ Err (Stop.Fault ShelfFault.Failed) → ⊥ }
+    ensures walks { (x : Node) → IsListed ((K.seen k.old).honest) ((K.seen k.old).told) top.now path.now entry.now x → node_in entry.now.name (items tree.old) ≡ None → Walks tt (leaf_met x) counts.old.nodes counts.old.bytes result counts.new.nodes counts.new.bytes }
+    ensures tree { (x : Node) → IsListed ((K.seen k.old).honest) ((K.seen k.old).told) top.now path.now entry.now x → node_in entry.now.name (items tree.old) ≡ None → OnOk result (tree.new ≡ dir (placed entry.now.name (bare x) (items tree.old))) }
+    ensures keeps { Keeps is_reading (K.seen k.old) (K.seen k.new) }
+    ensures cause { result ≡ Err (Stop.Fault ShelfFault.Failed) → Rose ((K.seen k.old).faults) ((K.seen k.new).faults) }
+    ensures count { (result ≡ Err (Stop.Fault ShelfFault.Failed) → ⊥) → (K.seen k.new).faults ≡ (K.seen k.old).faults }
+    ensures sure { (K.seen k.old).sure → (x : Node) → IsListed ((K.seen k.old).honest) ((K.seen k.old).told) top.now path.now entry.now x → result ≡ Err (Stop.Fault ShelfFault.Failed) → ⊥ }
 {
     let Some(within) = free_place(alloc, tree, entry.name.as_str())? else {
         return Ok(());
@@ -92,10 +94,11 @@ fn read_leaf<K: Shelf>(
     counts: &mut Counts,
     k: &mut K,
 ) -> Result<TreeNode, Stop>
-    ensures walks { (x : Node) → StandsNode (K.honest k.old) (K.told k.old) top.now place.now x → kind ≡ kind_of x → Walks (bare x) (leaf_met x) counts.old.nodes counts.old.bytes result counts.new.nodes counts.new.bytes }
-    ensures keeps { Keeps is_reading (K.honest k.old) (K.honest k.new) (K.told k.old) (K.told k.new) (K.faults k.old) (K.faults k.new) (K.sure k.old) (K.sure k.new) (K.place k.old) (K.place k.new) (K.plan k.old) (K.plan k.new) }
-    ensures cause { result ≡ Err (Stop.Fault ShelfFault.Failed) → Rose (K.faults k.old) (K.faults k.new) }
-    ensures sure { K.sure k.old → (x : Node) → StandsNode (K.honest k.old) (K.told k.old) top.now place.now x → kind ≡ kind_of x → result ≡ Err (Stop.Fault ShelfFault.Failed) → ⊥ }
+    ensures walks { (x : Node) → StandsNode ((K.seen k.old).honest) ((K.seen k.old).told) top.now place.now x → kind ≡ kind_of x → Walks (bare x) (leaf_met x) counts.old.nodes counts.old.bytes result counts.new.nodes counts.new.bytes }
+    ensures keeps { Keeps is_reading (K.seen k.old) (K.seen k.new) }
+    ensures cause { result ≡ Err (Stop.Fault ShelfFault.Failed) → Rose ((K.seen k.old).faults) ((K.seen k.new).faults) }
+    ensures count { (result ≡ Err (Stop.Fault ShelfFault.Failed) → ⊥) → (K.seen k.new).faults ≡ (K.seen k.old).faults }
+    ensures sure { (K.seen k.old).sure → (x : Node) → StandsNode ((K.seen k.old).honest) ((K.seen k.old).told) top.now place.now x → kind ≡ kind_of x → result ≡ Err (Stop.Fault ShelfFault.Failed) → ⊥ }
 {
     match kind {
         EntryKind::Folder => Ok(TreeNode::Folder(Tree::new(alloc))),
@@ -121,10 +124,11 @@ fn read_counted<K: Shelf>(
     k: &mut K,
 ) -> Result<Bytes, Stop>
     requires { counts.old.nodes < 100000 }
-    ensures walks { (bytes : List ℕ) (exec : Bool) (mtime : ℤ) → StandsNode (K.honest k.old) (K.told k.old) top.now path.now (File bytes exec mtime) → Walks bytes (record { depth = 0; size = length bytes } ∷ []) counts.old.nodes counts.old.bytes result counts.new.nodes counts.new.bytes }
-    ensures keeps { Keeps is_reading (K.honest k.old) (K.honest k.new) (K.told k.old) (K.told k.new) (K.faults k.old) (K.faults k.new) (K.sure k.old) (K.sure k.new) (K.place k.old) (K.place k.new) (K.plan k.old) (K.plan k.new) }
-    ensures cause { result ≡ Err (Stop.Fault ShelfFault.Failed) → Rose (K.faults k.old) (K.faults k.new) }
-    ensures sure { K.sure k.old → (bytes : List ℕ) (exec : Bool) (mtime : ℤ) → StandsNode (K.honest k.old) (K.told k.old) top.now path.now (File bytes exec mtime) → result ≡ Err (Stop.Fault ShelfFault.Failed) → ⊥ }
+    ensures walks { (bytes : List ℕ) (exec : Bool) (mtime : ℤ) → StandsNode ((K.seen k.old).honest) ((K.seen k.old).told) top.now path.now (File bytes exec mtime) → Walks bytes (record { depth = 0; size = length bytes } ∷ []) counts.old.nodes counts.old.bytes result counts.new.nodes counts.new.bytes }
+    ensures keeps { Keeps is_reading (K.seen k.old) (K.seen k.new) }
+    ensures cause { result ≡ Err (Stop.Fault ShelfFault.Failed) → Rose ((K.seen k.old).faults) ((K.seen k.new).faults) }
+    ensures count { (result ≡ Err (Stop.Fault ShelfFault.Failed) → ⊥) → (K.seen k.new).faults ≡ (K.seen k.old).faults }
+    ensures sure { (K.seen k.old).sure → (bytes : List ℕ) (exec : Bool) (mtime : ℤ) → StandsNode ((K.seen k.old).honest) ((K.seen k.old).told) top.now path.now (File bytes exec mtime) → result ≡ Err (Stop.Fault ShelfFault.Failed) → ⊥ }
 {
     let limit = SIZE_LIMIT - counts.bytes;
     match read_bytes(alloc, top, path, limit, k)? {

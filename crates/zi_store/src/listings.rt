@@ -25,13 +25,14 @@ pub(crate) fn listing<K: Shelf>(
     whole: bool,
     k: &mut K,
 ) -> Result<Vec<Entry>, Stop>
-    ensures entries { (d : Dir) → Stands (K.honest k.old) (K.told k.old) top.now path.now d → is_tree d ≡ true → IfOk result (λ v. v.items ≡ entries_of (shown whole d)) }
-    ensures missing { (s : Told) → K.honest k.old → K.told k.old ≡ Some s → result ≡ Err Stop.Missing → s.shelf.tops top.now ≡ None }
-    ensures there { (s : Told) → K.honest k.old → K.told k.old ≡ Some s → IfOk result (λ v. IsSome (s.shelf.tops top.now)) }
+    ensures entries { (d : Dir) → Stands ((K.seen k.old).honest) ((K.seen k.old).told) top.now path.now d → is_tree d ≡ true → IfOk result (λ v. v.items ≡ entries_of (shown whole d)) }
+    ensures missing { (s : Told) → (K.seen k.old).honest → (K.seen k.old).told ≡ Some s → result ≡ Err Stop.Missing → s.shelf.tops top.now ≡ None }
+    ensures there { (s : Told) → (K.seen k.old).honest → (K.seen k.old).told ≡ Some s → IfOk result (λ v. IsSome (s.shelf.tops top.now)) }
     ensures limit { (what : Limit) → result ≡ Err (Stop.TooLarge what) → ⊥ }
-    ensures keeps { Keeps is_reading (K.honest k.old) (K.honest k.new) (K.told k.old) (K.told k.new) (K.faults k.old) (K.faults k.new) (K.sure k.old) (K.sure k.new) (K.place k.old) (K.place k.new) (K.plan k.old) (K.plan k.new) }
-    ensures cause { result ≡ Err (Stop.Fault ShelfFault.Failed) → Rose (K.faults k.old) (K.faults k.new) }
-    ensures sure { K.sure k.old → Fits (K.told k.old) (Entries top.now path.now) → result ≡ Err (Stop.Fault ShelfFault.Failed) → ⊥ }
+    ensures keeps { Keeps is_reading (K.seen k.old) (K.seen k.new) }
+    ensures cause { result ≡ Err (Stop.Fault ShelfFault.Failed) → Rose ((K.seen k.old).faults) ((K.seen k.new).faults) }
+    ensures count { (result ≡ Err (Stop.Fault ShelfFault.Failed) → ⊥) → (K.seen k.new).faults ≡ (K.seen k.old).faults }
+    ensures sure { (K.seen k.old).sure → Fits ((K.seen k.old).told) (Entries top.now path.now) → result ≡ Err (Stop.Fault ShelfFault.Failed) → ⊥ }
 {
     match ask_entries(top, path, k)? {
         Listed::Absent => Err(Stop::Missing),

@@ -22,10 +22,11 @@ use zi_text::{List, Memory, Text};
 ///
 /// Failed comes only where the shelf's count of faults rose, Memory where memory is refused.
 pub fn stored_names<K: Shelf>(alloc: Global, k: &mut K) -> Result<List<DigestName>, ShelfFault>
-    ensures names { (s : Told) → K.honest k.old → K.told k.old ≡ Some s → NamesStored result s.shelf }
-    ensures keeps { Keeps is_names (K.honest k.old) (K.honest k.new) (K.told k.old) (K.told k.new) (K.faults k.old) (K.faults k.new) (K.sure k.old) (K.sure k.new) (K.place k.old) (K.place k.new) (K.plan k.old) (K.plan k.new) }
-    ensures cause { result ≡ Err ShelfFault.Failed → Rose (K.faults k.old) (K.faults k.new) }
-    ensures sure { K.sure k.old → result ≡ Err ShelfFault.Failed → ⊥ }
+    ensures names { (s : Told) → (K.seen k.old).honest → (K.seen k.old).told ≡ Some s → NamesStored result s.shelf }
+    ensures keeps { Keeps is_names (K.seen k.old) (K.seen k.new) }
+    ensures cause { result ≡ Err ShelfFault.Failed → Rose ((K.seen k.old).faults) ((K.seen k.new).faults) }
+    ensures count { (result ≡ Err ShelfFault.Failed → ⊥) → (K.seen k.new).faults ≡ (K.seen k.old).faults }
+    ensures sure { (K.seen k.old).sure → result ≡ Err ShelfFault.Failed → ⊥ }
 {
     spelling_is_one_to_one();
     let names = sorted_names(k)?;
@@ -47,10 +48,11 @@ pub fn lookup<K: Shelf>(
     digests: &[DigestName],
     k: &mut K,
 ) -> Result<Option<DigestName>, ShelfFault>
-    ensures first { (s : Told) → K.honest k.old → K.told k.old ≡ Some s → FirstStored digests.now result s.shelf }
-    ensures keeps { Keeps is_names (K.honest k.old) (K.honest k.new) (K.told k.old) (K.told k.new) (K.faults k.old) (K.faults k.new) (K.sure k.old) (K.sure k.new) (K.place k.old) (K.place k.new) (K.plan k.old) (K.plan k.new) }
-    ensures cause { result ≡ Err ShelfFault.Failed → Rose (K.faults k.old) (K.faults k.new) }
-    ensures sure { K.sure k.old → result ≡ Err ShelfFault.Failed → ⊥ }
+    ensures first { (s : Told) → (K.seen k.old).honest → (K.seen k.old).told ≡ Some s → FirstStored digests.now result s.shelf }
+    ensures keeps { Keeps is_names (K.seen k.old) (K.seen k.new) }
+    ensures cause { result ≡ Err ShelfFault.Failed → Rose ((K.seen k.old).faults) ((K.seen k.new).faults) }
+    ensures count { (result ≡ Err ShelfFault.Failed → ⊥) → (K.seen k.new).faults ≡ (K.seen k.old).faults }
+    ensures sure { (K.seen k.old).sure → result ≡ Err ShelfFault.Failed → ⊥ }
 {
     let names = sorted_names(k)?;
     let names = names.as_slice();
@@ -109,11 +111,12 @@ fn has(names: &[Text], text: &Text) -> bool
 
 /// The names of all top entries, in byte order.
 fn sorted_names<K: Shelf>(k: &mut K) -> Result<Vec<Text>, ShelfFault>
-    ensures names { (s : Told) → K.honest k.old → K.told k.old ≡ Some s → IfOk result (λ v. NamesAnswer (Ok v.items) s.shelf) }
+    ensures names { (s : Told) → (K.seen k.old).honest → (K.seen k.old).told ≡ Some s → IfOk result (λ v. NamesAnswer (Ok v.items) s.shelf) }
     ensures sorted { IfOk result (λ v. IsSorted (slice_cmp nat_cmp) v.items) }
-    ensures keeps { Keeps is_names (K.honest k.old) (K.honest k.new) (K.told k.old) (K.told k.new) (K.faults k.old) (K.faults k.new) (K.sure k.old) (K.sure k.new) (K.place k.old) (K.place k.new) (K.plan k.old) (K.plan k.new) }
-    ensures cause { result ≡ Err ShelfFault.Failed → Rose (K.faults k.old) (K.faults k.new) }
-    ensures sure { K.sure k.old → result ≡ Err ShelfFault.Failed → ⊥ }
+    ensures keeps { Keeps is_names (K.seen k.old) (K.seen k.new) }
+    ensures cause { result ≡ Err ShelfFault.Failed → Rose ((K.seen k.old).faults) ((K.seen k.new).faults) }
+    ensures count { (result ≡ Err ShelfFault.Failed → ⊥) → (K.seen k.new).faults ≡ (K.seen k.old).faults }
+    ensures sure { (K.seen k.old).sure → result ≡ Err ShelfFault.Failed → ⊥ }
 {
     let mut names = ask_names(k)?.into_vec();
     names.sort_unstable();

@@ -32,10 +32,11 @@ pub enum TreeRead {
 /// limit that is passed: the entries are counted in the order of the manifest, and at each the depth goes first, then the
 /// number of entries, then the bytes. Failed comes only where the shelf's count of faults rose, Memory where memory is refused.
 pub fn read_tree<K: Shelf>(alloc: Global, top: &str, k: &mut K) -> Result<TreeRead, ShelfFault>
-    ensures tree { (s : Told) → K.honest k.old → K.told k.old ≡ Some s → ReadsTree top.now result s.shelf }
-    ensures keeps { Keeps is_reading (K.honest k.old) (K.honest k.new) (K.told k.old) (K.told k.new) (K.faults k.old) (K.faults k.new) (K.sure k.old) (K.sure k.new) (K.place k.old) (K.place k.new) (K.plan k.old) (K.plan k.new) }
-    ensures cause { result ≡ Err ShelfFault.Failed → Rose (K.faults k.old) (K.faults k.new) }
-    ensures sure { K.sure k.old → result ≡ Err ShelfFault.Failed → ⊥ }
+    ensures tree { (s : Told) → (K.seen k.old).honest → (K.seen k.old).told ≡ Some s → ReadsTree top.now result s.shelf }
+    ensures keeps { Keeps is_reading (K.seen k.old) (K.seen k.new) }
+    ensures cause { result ≡ Err ShelfFault.Failed → Rose ((K.seen k.old).faults) ((K.seen k.new).faults) }
+    ensures count { (result ≡ Err ShelfFault.Failed → ⊥) → (K.seen k.new).faults ≡ (K.seen k.old).faults }
+    ensures sure { (K.seen k.old).sure → result ≡ Err ShelfFault.Failed → ⊥ }
 {
     match whole_tree(alloc, top, k) {
         Ok(tree) => Ok(TreeRead::Read(tree)),
@@ -50,10 +51,11 @@ pub fn read_tree<K: Shelf>(alloc: Global, top: &str, k: &mut K) -> Result<TreeRe
 
 /// The tree of a top entry, or why there is none.
 fn whole_tree<K: Shelf>(alloc: Global, top: &str, k: &mut K) -> Result<Tree, Stop>
-    ensures tree { (s : Told) → K.honest k.old → K.told k.old ≡ Some s → ReadsWhole top.now result s.shelf }
-    ensures keeps { Keeps is_reading (K.honest k.old) (K.honest k.new) (K.told k.old) (K.told k.new) (K.faults k.old) (K.faults k.new) (K.sure k.old) (K.sure k.new) (K.place k.old) (K.place k.new) (K.plan k.old) (K.plan k.new) }
-    ensures cause { result ≡ Err (Stop.Fault ShelfFault.Failed) → Rose (K.faults k.old) (K.faults k.new) }
-    ensures sure { K.sure k.old → result ≡ Err (Stop.Fault ShelfFault.Failed) → ⊥ }
+    ensures tree { (s : Told) → (K.seen k.old).honest → (K.seen k.old).told ≡ Some s → ReadsWhole top.now result s.shelf }
+    ensures keeps { Keeps is_reading (K.seen k.old) (K.seen k.new) }
+    ensures cause { result ≡ Err (Stop.Fault ShelfFault.Failed) → Rose ((K.seen k.old).faults) ((K.seen k.new).faults) }
+    ensures count { (result ≡ Err (Stop.Fault ShelfFault.Failed) → ⊥) → (K.seen k.new).faults ≡ (K.seen k.old).faults }
+    ensures sure { (K.seen k.old).sure → result ≡ Err (Stop.Fault ShelfFault.Failed) → ⊥ }
 {
     let path = RelPath::root(alloc);
     let entries = listing(top, &path, true, k)?;

@@ -33,10 +33,11 @@ pub enum Verdict {
 ///
 /// Failed comes only where the shelf's count of faults rose, Memory where memory is refused.
 pub fn verify<K: Shelf>(alloc: Global, name: &DigestName, k: &mut K) -> Result<Verdict, ShelfFault>
-    ensures verdict { (s : Told) → K.honest k.old → K.told k.old ≡ Some s → Verifies name.now result s.shelf }
-    ensures keeps { Keeps is_reading (K.honest k.old) (K.honest k.new) (K.told k.old) (K.told k.new) (K.faults k.old) (K.faults k.new) (K.sure k.old) (K.sure k.new) (K.place k.old) (K.place k.new) (K.plan k.old) (K.plan k.new) }
-    ensures cause { result ≡ Err ShelfFault.Failed → Rose (K.faults k.old) (K.faults k.new) }
-    ensures sure { K.sure k.old → result ≡ Err ShelfFault.Failed → ⊥ }
+    ensures verdict { (s : Told) → (K.seen k.old).honest → (K.seen k.old).told ≡ Some s → Verifies name.now result s.shelf }
+    ensures keeps { Keeps is_reading (K.seen k.old) (K.seen k.new) }
+    ensures cause { result ≡ Err ShelfFault.Failed → Rose ((K.seen k.old).faults) ((K.seen k.new).faults) }
+    ensures count { (result ≡ Err ShelfFault.Failed → ⊥) → (K.seen k.new).faults ≡ (K.seen k.old).faults }
+    ensures sure { (K.seen k.old).sure → result ≡ Err ShelfFault.Failed → ⊥ }
 {
     let spelled = name.text(alloc)?;
     match read_tree(alloc, spelled.as_str(), k)? {

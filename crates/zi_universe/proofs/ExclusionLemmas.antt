@@ -14,7 +14,7 @@ use Rattle.zi_forest.specs.Forest.{element_view}
 use Rattle.zi_doc.specs.Laws.{IsSettled}
 use Rattle.zi_feed.specs.declared.feed.Feed.{Feed}
 use Rattle.zi_feed.specs.Feeds.{feed_fault}
-use Rattle.zi_outside.specs.Outside.{Holding}
+use Rattle.zi_outside.specs.Views.{Holding}
 use Rattle.zi_universe.specs.declared.types.Requirement.{Requirement}
 use Rattle.zi_universe.specs.declared.types.Candidate.{Candidate}
 use Rattle.zi_universe.specs.declared.types.Interface.{Interface}
@@ -392,17 +392,17 @@ module _ (strict : RanksAreStrict) (one : (w : List ℕ) → IsSettled w) (holds
       omega (arith, m, l, n, a.universe.few_interfaces)
 
 pub excludes : RanksAreStrict → ((w : List ℕ) → IsSettled w) → UniverseExcludes
-excludes strict one holds f g req p stored is (fault.FeedRead uri) a t r = true≢false (sym t)
-excludes strict one holds f g req p stored is fault.Memory a t r = true≢false (sym t)
-excludes strict one holds f g req p stored is fault.NoRootFeed a t r =
+excludes strict one holds req p stored is (fault.FeedRead uri) a t r = true≢false (sym t)
+excludes strict one holds req p stored is fault.Memory a t r = true≢false (sym t)
+excludes strict one holds req p stored is fault.NoRootFeed a t r =
     not_absent strict one holds req p stored is a req.interface r.0.0 r.0.1 r.1 refl
-excludes strict one holds f g req p stored is (fault.BadFeed uri why) a t r =
+excludes strict one holds req p stored is (fault.BadFeed uri why) a t r =
     not_bad strict one holds req p stored is a uri r.0.0 r.0.1 why r.1.0 r.1.1 r.1.3
-excludes strict one holds f g req p stored is (fault.FeedTooLong uri limit) a t r =
+excludes strict one holds req p stored is (fault.FeedTooLong uri limit) a t r =
     not_long strict one holds req p stored is a uri r.0.0 r.0.1 r.2
-excludes strict one holds f g req p stored is (fault.TooManyFeeds limit) a t r =
+excludes strict one holds req p stored is (fault.TooManyFeeds limit) a t r =
     not_full strict one holds req p stored is a r.1.0 r.1.1 r.1.2 r.1.3
-excludes strict one holds f g req p stored is (fault.TooManyCandidates limit) a t r =
+excludes strict one holds req p stored is (fault.TooManyCandidates limit) a t r =
     not_many_candidates strict one holds req p stored is a r.1.0 r.1.1 r.1.2 r.1.3 r.1.4 r.1.5
-excludes strict one holds f g req p stored is (fault.TooManyInterfaces limit) a t r =
+excludes strict one holds req p stored is (fault.TooManyInterfaces limit) a t r =
     not_many_interfaces strict one holds req p stored is a r.1.0 r.1.1 r.1.2 r.1.3 r.1.5 r.1.4 r.1.6 r.1.8

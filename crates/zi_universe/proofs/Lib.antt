@@ -14,3 +14,5 @@ pub mod PointLemmas
 pub mod RefusedOnceLemmas
 pub mod RankingLemmas
 pub mod SomeLemmas
+pub mod AskedLemmas
+pub mod StopsLemmas

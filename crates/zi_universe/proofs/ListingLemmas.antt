@@ -1,21 +1,20 @@
 -- The feeds of an interface, one after the other.
-use Rattle.std.proofs.Common.{Option, Some, slice_get, ◌≡◌, ℕ, zero, suc, ◌+◌, ◌<◌, ◌≤◌, inl, inr, true, false, List, [], ◌∷◌, ◌++◌, length, map, take, get_or, refl, sym, ap, subst, ◌∙◌, arith, append_assoc, length-append, if◌then◌else◌}
+use Rattle.std.proofs.Common.{Option, Some, slice_get, ◌≡◌, ℕ, zero, suc, ◌+◌, ◌<◌, ◌≤◌, true, false, List, [], ◌∷◌, ◌++◌, length, map, take, get_or, refl, sym, ap, subst, ◌∙◌, arith, append_assoc, length-append, if◌then◌else◌}
 use Rattle.std.proofs.lemmas.List.{append-nil, take_all}
 use Rattle.std.proofs.lemmas.Option.{slice_get_within, get_or_from_slice_get}
 use Rattle.std.proofs.lemmas.List.Elements.{All-append}
 use Rattle.zi_policy.specs.declared.types.Policy.{Policy}
 use Rattle.zi_policy.specs.Platform.{listed}
 use Rattle.zi_feed.specs.declared.feed.Feed.{Feed}
-use Rattle.zi_outside.specs.Outside.{Holding}
+use Rattle.zi_outside.specs.Views.{Holding}
 use Rattle.zi_universe.specs.Naming.{Uri, Uris, with_one, joined, IsNamed}
 use Rattle.zi_universe.specs.Candidates.{imports_of}
 use Rattle.zi_universe.specs.Whole.{most_feeds}
 use Rattle.zi_universe.specs.Loading.{IsRead, Reading}
 use Rattle.zi_universe.specs.Tables.{addresses, imports_at, Agrees, AllRead}
-use Rattle.zi_outside.specs.Count.{Rose}
 use Rattle.zi_universe.specs.declared.fault.LoadFault.{LoadFault}
 use Rattle.zi_universe.specs.declared.fault.LoadFault.TheVariants as fault
-use Rattle.zi_universe.specs.Stages.{UnlessMemory, RefusesFeed, RefusesNext, GetsOnce, HasListed, StopsListing}
+use Rattle.zi_universe.specs.Stages.{RefusesFeed, RefusesNext, GetsOnce, HasListed, StopsListing}
 use Rattle.zi_universe.specs.Listing.{ListsNext, StopsNext}
 use Rattle.zi_universe.proofs.NamingLemmas.{joined-append, named_begins, member_names, map-append, listed-with_one, take_joined}
 use Rattle.zi_universe.proofs.TableLemmas.{All-front, imports_agreed}
@@ -52,62 +51,15 @@ gets_one told root uri fs gs f new room place read grown = record {
     one (suc k) d lt h = absurd (omega (arith, lt))
 
 -- it may be got, and is refused
-pub refused_next : (told : Option Holding) (f g : ℕ) (root uri : Uri) (got : ℕ) (e : LoadFault) → got < most_feeds → RefusesFeed told f g root uri e → RefusesNext told f g root got uri e
-refused_next told f g root uri got (fault.FeedRead u) few r = (few, r)
-refused_next told f g root uri got fault.NoRootFeed few r = (few, r)
-refused_next told f g root uri got (fault.BadFeed u why) few r = (few, r)
-refused_next told f g root uri got (fault.FeedTooLong u limit) few r = (few, r)
-refused_next told f g root uri got (fault.TooManyInterfaces limit) few r = (few, r)
-refused_next told f g root uri got (fault.TooManyCandidates limit) few r = (few, r)
-refused_next told f g root uri got (fault.TooManyFeeds limit) few r = absurd r
-refused_next told f g root uri got fault.Memory few r = (few, r)
-
--- want of memory says nothing, and so nothing less
-pub unless_less : (e : LoadFault) (P Q : Type 0) → (P → Q) → UnlessMemory e P → UnlessMemory e Q
-unless_less (fault.FeedRead u) P Q less x = less x
-unless_less fault.NoRootFeed P Q less x = less x
-unless_less (fault.BadFeed u why) P Q less x = less x
-unless_less (fault.FeedTooLong u limit) P Q less x = less x
-unless_less (fault.TooManyInterfaces limit) P Q less x = less x
-unless_less (fault.TooManyCandidates limit) P Q less x = less x
-unless_less (fault.TooManyFeeds limit) P Q less x = less x
-unless_less fault.Memory P Q less x = tt
-
-pub unless_sure : (e : LoadFault) (P : Type 0) → P → UnlessMemory e P
-unless_sure (fault.FeedRead u) P x = x
-unless_sure fault.NoRootFeed P x = x
-unless_sure (fault.BadFeed u why) P x = x
-unless_sure (fault.FeedTooLong u limit) P x = x
-unless_sure (fault.TooManyInterfaces limit) P x = x
-unless_sure (fault.TooManyCandidates limit) P x = x
-unless_sure (fault.TooManyFeeds limit) P x = x
-unless_sure fault.Memory P x = tt
-
--- Counts of faults at an earlier time.
-
-rose_before : (f f' g : ℕ) → f ≤ f' → Rose f' g → Rose f g
-rose_before f f' g le (inl lt) = inl (omega (arith, le, lt))
-rose_before f f' g le (inr top) = inr top
-
-feed_refused_before : (told : Option Holding) (f f' g : ℕ) (root uri : Uri) (e : LoadFault) → f ≤ f' → RefusesFeed told f' g root uri e → RefusesFeed told f g root uri e
-feed_refused_before told f f' g root uri (fault.FeedRead u) le r = (r.0, rose_before f f' g le r.1)
-feed_refused_before told f f' g root uri fault.NoRootFeed le r = r
-feed_refused_before told f f' g root uri (fault.BadFeed u why) le r = r
-feed_refused_before told f f' g root uri (fault.FeedTooLong u limit) le r = r
-feed_refused_before told f f' g root uri (fault.TooManyInterfaces limit) le r = r
-feed_refused_before told f f' g root uri (fault.TooManyCandidates limit) le r = r
-feed_refused_before told f f' g root uri (fault.TooManyFeeds limit) le r = r
-feed_refused_before told f f' g root uri fault.Memory le r = r
-
-next_refused_before : (told : Option Holding) (f f' g : ℕ) (root : Uri) (got : ℕ) (uri : Uri) (e : LoadFault) → f ≤ f' → RefusesNext told f' g root got uri e → RefusesNext told f g root got uri e
-next_refused_before told f f' g root got uri (fault.FeedRead u) le r = (r.0, feed_refused_before told f f' g root uri (fault.FeedRead u) le r.1)
-next_refused_before told f f' g root got uri fault.NoRootFeed le r = r
-next_refused_before told f f' g root got uri (fault.BadFeed u why) le r = r
-next_refused_before told f f' g root got uri (fault.FeedTooLong u limit) le r = r
-next_refused_before told f f' g root got uri (fault.TooManyInterfaces limit) le r = r
-next_refused_before told f f' g root got uri (fault.TooManyCandidates limit) le r = r
-next_refused_before told f f' g root got uri (fault.TooManyFeeds limit) le r = r
-next_refused_before told f f' g root got uri fault.Memory le r = r
+pub refused_next : (told : Option Holding) (root uri : Uri) (got : ℕ) (e : LoadFault) → got < most_feeds → RefusesFeed told root uri e → RefusesNext told root got uri e
+refused_next told root uri got (fault.FeedRead u) few r = (few, r)
+refused_next told root uri got fault.NoRootFeed few r = (few, r)
+refused_next told root uri got (fault.BadFeed u why) few r = (few, r)
+refused_next told root uri got (fault.FeedTooLong u limit) few r = (few, r)
+refused_next told root uri got (fault.TooManyInterfaces limit) few r = (few, r)
+refused_next told root uri got (fault.TooManyCandidates limit) few r = (few, r)
+refused_next told root uri got (fault.TooManyFeeds limit) few r = absurd r
+refused_next told root uri got fault.Memory few r = (few, r)
 
 -- The list.
 
@@ -167,15 +119,3 @@ module _ (told : Option Holding) (root : Uri) (p : Policy) (interface : Uri) (st
   listed_next here there n fs gs h s =
       let at = turn_at here n s.uri s.turn in
       listed_more here there n s.uri fs gs h at.0 at.1 s.gets s.more
-
-  pub stops_next : (f f' g : ℕ) (here : Uris) (n : ℕ) (fs : List Feed) (e : LoadFault) → f ≤ f' → HasListed told root p interface start here n fs
-      → StopsNext told f' g root n here fs e → StopsListing told f g root p interface start e
-  stops_next f f' g here n fs e le h s = record {
-    here = here;
-    n = n;
-    fs = fs;
-    listed = h;
-    uri = s.uri;
-    turn = s.turn;
-    stops = record { new = s.stops.new; refused = next_refused_before told f f' g root (length fs) s.uri e le s.stops.refused };
-  }

@@ -7,7 +7,7 @@ use Rattle.std.proofs.lemmas.List.Sums.{sum_by_push}
 use Rattle.zi_policy.specs.declared.types.Policy.{Policy}
 use Rattle.zi_policy.specs.Platform.{listed}
 use Rattle.zi_feed.specs.declared.feed.Feed.{Feed}
-use Rattle.zi_outside.specs.Outside.{Holding}
+use Rattle.zi_outside.specs.Views.{Holding}
 use Rattle.zi_universe.specs.declared.types.Requirement.{Requirement}
 use Rattle.zi_universe.specs.declared.types.Candidate.{Candidate}
 use Rattle.zi_universe.specs.declared.types.Interface.{Interface}
@@ -113,7 +113,7 @@ module _ (told : Option Holding) (req : Requirement) (p : Policy) (stored : Stor
 
 -- All are done.
 pub loads : (told : Option Holding) (req : Requirement) (p : Policy) (stored : Store) (done : List Interface) (names : Uris) (fs : List Feed)
-    → HasLoaded told req p stored done names fs → length names ≤ length done → Loads told req p stored done
+    → HasLoaded told req p stored done names fs → length names ≤ length done → (l : Loads told req p stored done) × (reached l.groups ≡ addresses fs)
 loads told req p stored done names fs h le =
     let apart : AreApart (addresses fs) = subst AreApart (sym h.places) (without_repeats_apart (all_of h.groups)) in
     let at : Reading = reading_of fs in
@@ -121,4 +121,4 @@ loads told req p stored done names fs h le =
     let all : uris_of done ≡ names = c.in_turn ∙ take_all (length done) names le in
     let P : Uris → Type 0 = λ q. HasCome at req p stored done h.groups q in
     let Q : Uris → Type 0 = λ q. AreRead told req.interface at q in
-    record { at = at; groups = h.groups; universe = subst P (sym all) c; read = subst Q h.places (reading_reads told req.interface fs h.read) }
+    (record { at = at; groups = h.groups; universe = subst P (sym all) c; read = subst Q h.places (reading_reads told req.interface fs h.read) }, sym h.places)

@@ -1,12 +1,12 @@
 -- One interface more: its feeds offer these, and it is finished.
 use Rattle.std.proofs.Common.{Option, ◌≡◌, ℕ, ◌+◌, ◌<◌, ◌≤◌, true, List, [], ◌∷◌, ◌++◌, length, map, get_or, All, Some, slice_get, refl, sym, ap, subst, ◌∙◌, arith, length-append}
-use Rattle.std.specs.Prelude.{Result, Ok, Err, MatchResult}
+use Rattle.std.specs.Prelude.{Result, Ok, Err, MatchResult, OnOk}
 use Rattle.std.proofs.lemmas.List.Sums.{sum_by_push}
 use Rattle.std.proofs.lemmas.Option.{slice_get_within, get_or_from_slice_get}
 use Rattle.zi_policy.specs.declared.types.Policy.{Policy}
 use Rattle.zi_policy.specs.Platform.{listed}
 use Rattle.zi_feed.specs.declared.feed.Feed.{Feed}
-use Rattle.zi_outside.specs.Outside.{Holding}
+use Rattle.zi_outside.specs.Views.{Holding}
 use Rattle.zi_universe.specs.declared.types.Requirement.{Requirement}
 use Rattle.zi_universe.specs.declared.types.Candidate.{Candidate}
 use Rattle.zi_universe.specs.declared.types.Interface.{Interface}
@@ -15,13 +15,16 @@ use Rattle.zi_universe.specs.declared.loading.Loading.{Loading}
 use Rattle.zi_universe.specs.Naming.{Uri, Uris, joined, all_of, AreApart}
 use Rattle.zi_universe.specs.Candidates.{Store, imports_of, admitted, AreCandidates, asked_by_all}
 use Rattle.zi_universe.specs.Whole.{candidates_in, most_interfaces, most_candidates}
-use Rattle.zi_universe.specs.Loading.{Reading, Refuses}
+use Rattle.zi_outside.specs.Views.{Feeding}
+use Rattle.zi_universe.specs.declared.fault.LoadFault.TheVariants as fault
+use Rattle.zi_universe.specs.Loading.{Reading, Refuses, asked_until, CountsFault}
+use Rattle.zi_universe.specs.Asked.{GetsMore, StopsLoading}
 use Rattle.zi_universe.specs.Tables.{addresses, feeds_at, Agrees}
 use Rattle.zi_universe.specs.Stages.{Gathers, HasLoaded, IsAt, IsBegun, ArePlaced, IsSorting, Finishes, StopsFinishing, LoadsNext}
 use Rattle.zi_universe.proofs.NamingLemmas.{without_repeats_apart}
 use Rattle.zi_universe.proofs.TableLemmas.{feeds_agreed, addresses-feeds_at, reading_of, reading_agrees}
 use Rattle.zi_universe.proofs.LoadedLemmas.{loaded_none, places_now, here_listed, closed_now, loaded_more}
-use Rattle.zi_universe.proofs.RefusalLemmas.{refuses_earlier, refuses_finishing}
+use Rattle.zi_universe.proofs.RefusalLemmas.{refuses_finishing}
 use Rattle.zi_universe.proofs.RankedLemmas.{admitted_placed}
 
 -- the candidates that are counted are within the limit
@@ -32,7 +35,7 @@ few_counted told req p stored s a =
     let come = h.come (reading_of s.table) (reading_agrees s.table apart) in
     omega (arith, a.counted, come.few_candidates)
 
-module _ (told : Option Holding) (f g : ℕ) (req : Requirement) (p : Policy) (stored : Store) (old : Loading) (uri : Uri) (a : IsAt told req p stored old)
+module _ (told : Option Holding) (req : Requirement) (p : Policy) (stored : Store) (old : Loading) (uri : Uri) (a : IsAt told req p stored old)
     (next : slice_get old.names.keys (length old.done) ≡ Some uri) (offered : List Candidate) (fs : List Feed) (o : Gathers told req p stored uri old.table offered fs) where
   within : length old.done < length old.names.keys
   within = slice_get_within old.names.keys (length old.done) uri next
@@ -95,23 +98,36 @@ module _ (told : Option Holding) (f g : ℕ) (req : Requirement) (p : Policy) (s
       counted : new.count ≡ candidates_in new.done
       counted = z.count ∙ ap (λ n. n + length z.cs) a.counted ∙ sym (sum_by_push (λ (i : Interface). length i.candidates) old.done item) ∙ ap candidates_in (sym z.done)
 
-  pub refuses_next : (why : LoadFault) → StopsFinishing p offered (record old { table = fs }) why → Refuses told f g req p stored why
-  refuses_next why r =
+  refuses_done : (why : LoadFault) → StopsFinishing p offered (record old { table = fs }) why → (r : Refuses told req p stored why) × (asked_until told req p stored why r ≡ addresses fs)
+  refuses_done why r =
       let P : List Candidate → Type 0 = λ q. StopsFinishing p q (record old { table = fs }) why in
-      refuses_finishing told f g req p stored old.done old.names.keys old.table uri a.loaded within turn o.here fs o.feeds next
+      refuses_finishing told req p stored old.done old.names.keys old.table uri a.loaded within turn o.here fs o.feeds next
       (record old { table = fs }) why refl a.counted sorted (subst P o.are r)
 
-  pub next_done : {X : Type 0} (r : Result X LoadFault) (new : Loading) → MatchResult r (λ _. Finishes p uri offered (record old { table = fs }) new) (StopsFinishing p offered (record old { table = fs }))
-      → MatchResult r (λ _. LoadsNext told req p stored old new) (Refuses told f g req p stored)
-  next_done (Ok x) new h = loads_next new h
-  next_done (Err e) new h = refuses_next e h
+  -- the count after a refusal that no call caused
+  count_stays : (f g : Feeding) (why : LoadFault) → StopsFinishing p offered (record old { table = fs }) why → g.faults ≡ f.faults → CountsFault why f.faults g.faults
+  count_stays f g (fault.FeedRead u) s e = absurd s
+  count_stays f g fault.NoRootFeed s e = e
+  count_stays f g (fault.BadFeed u w) s e = e
+  count_stays f g (fault.FeedTooLong u limit) s e = e
+  count_stays f g (fault.TooManyInterfaces limit) s e = e
+  count_stays f g (fault.TooManyCandidates limit) s e = e
+  count_stays f g (fault.TooManyFeeds limit) s e = e
+  count_stays f g fault.Memory s e = e
 
--- The same outside, with an earlier count.
-pub refuses_from : (told told' : Option Holding) (f f' g : ℕ) (req : Requirement) (p : Policy) (stored : Store) (e : LoadFault) → told' ≡ told → f ≤ f'
-    → Refuses told' f' g req p stored e → Refuses told f g req p stored e
-refuses_from told told' f f' g req p stored e same le r =
-    let P : Option Holding → Type 0 = λ q. Refuses q f' g req p stored e in
-    refuses_earlier told f f' g req p stored e le (subst P same r)
+  pub next_done : {X : Type 0} (r : Result X LoadFault) (new : Loading) (f g : Feeding) → GetsMore (addresses old.table) (addresses fs) f g
+      → MatchResult r (λ _. Finishes p uri offered (record old { table = fs }) new) (StopsFinishing p offered (record old { table = fs }))
+      → MatchResult r (λ _. LoadsNext told req p stored old new) (λ e. StopsLoading told req p stored (addresses old.table) f e g)
+  next_done (Ok x) new f g got h = loads_next new h
+  next_done (Err e) new f g got h =
+      let r = refuses_done e h in
+      record { cause = r.0; more = got.more; grown = r.1 ∙ got.grown; asks = got.asked.asks; count = count_stays f g e h got.asked.faults }
+
+  pub next_gets : {X : Type 0} (r : Result X LoadFault) (new : Loading) (f g : Feeding) → GetsMore (addresses old.table) (addresses fs) f g
+      → MatchResult r (λ _. Finishes p uri offered (record old { table = fs }) new) (StopsFinishing p offered (record old { table = fs }))
+      → OnOk r (GetsMore (addresses old.table) (addresses new.table) f g)
+  next_gets (Ok x) new f g got h = let P : List Feed → Type 0 = λ q. GetsMore (addresses old.table) (addresses q) f g in subst P (sym h.table) got
+  next_gets (Err e) new f g got h = tt
 
 -- At the start.
 pub at_begun : (told : Option Holding) (req : Requirement) (p : Policy) (stored : Store) (s : Loading) → IsBegun req.interface s → IsAt told req p stored s

@@ -12,7 +12,7 @@ use Rattle.zi_forest.specs.Forest.{element_view}
 use Rattle.zi_doc.specs.Laws.{IsSettled}
 use Rattle.zi_feed.specs.declared.feed.Feed.{Feed}
 use Rattle.zi_feed.specs.Feeds.{feed_of}
-use Rattle.zi_outside.specs.Outside.{Holding}
+use Rattle.zi_outside.specs.Views.{Holding}
 use Rattle.zi_universe.specs.declared.types.Requirement.{Requirement}
 use Rattle.zi_universe.specs.declared.types.Candidate.{Candidate}
 use Rattle.zi_universe.specs.declared.types.Interface.{Interface}

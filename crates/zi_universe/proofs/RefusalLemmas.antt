@@ -1,11 +1,11 @@
 -- The refusals of the parts of a loading are refusals of the whole.
-use Rattle.std.proofs.Common.{◌≡◌, ℕ, ◌<◌, ◌≤◌, inl, inr, false, List, [], ◌∷◌, ◌++◌, length, take, get_or, Some, None, Option, slice_get, IfSome, IsSomeAnd, sym, ap, subst, ◌∙◌, arith}
+use Rattle.std.proofs.Common.{◌≡◌, ℕ, ◌<◌, ◌≤◌, inl, inr, false, List, [], ◌∷◌, ◌++◌, length, take, get_or, Some, None, Option, slice_get, IfSome, IsSomeAnd, refl, sym, ap, subst, ◌∙◌, arith}
+use Rattle.std.proofs.lemmas.List.{append-nil}
 use Rattle.std.proofs.lemmas.List.Elements.{All-append}
 use Rattle.zi_policy.specs.declared.types.Policy.{Policy}
 use Rattle.zi_policy.specs.Platform.{listed}
 use Rattle.zi_feed.specs.declared.feed.Feed.{Feed}
-use Rattle.zi_outside.specs.Count.{Rose}
-use Rattle.zi_outside.specs.Outside.{Holding}
+use Rattle.zi_outside.specs.Views.{Holding}
 use Rattle.zi_universe.specs.declared.types.Requirement.{Requirement}
 use Rattle.zi_universe.specs.declared.types.Interface.{Interface}
 use Rattle.zi_universe.specs.declared.fault.LoadFault.{LoadFault}
@@ -15,33 +15,18 @@ use Rattle.zi_universe.specs.declared.types.Candidate.{Candidate}
 use Rattle.zi_universe.specs.declared.loading.Loading.{Loading}
 use Rattle.zi_universe.specs.Candidates.{Store, admitted, AreCandidates, asked_by_all}
 use Rattle.zi_universe.specs.Whole.{candidates_in, most_feeds, most_interfaces, feed_limit}
-use Rattle.zi_universe.specs.Loading.{Reading, AreRead, IsRead, IsHeld, HasFault, reached, ComesTo, ComesToGet, Finds, Refuses}
+use Rattle.zi_universe.specs.Loading.{Reading, AreRead, IsRead, IsHeld, HasFault, reached, ComesTo, ComesToGet, HasGot, Finds, Refuses, asked_until}
 use Rattle.zi_universe.specs.Tables.{addresses, feeds_at, Agrees, AllRead}
-use Rattle.zi_universe.specs.Stages.{RefusesNext, HasListed, UnlessMemory, StopsListing, HasLoaded, IsSorting, StopsFinishing}
+use Rattle.zi_universe.specs.Stages.{RefusesNext, HasListed, StopsListing, HasLoaded, IsSorting, StopsFinishing}
+use Rattle.zi_universe.specs.Asked.{up_to}
 use Rattle.zi_universe.proofs.NamingLemmas.{without_repeats_apart, length-map}
 use Rattle.zi_universe.proofs.TableLemmas.{All-front, feeds_agreed, reading_of, reading_agrees, reading_reads}
 use Rattle.zi_universe.proofs.LoadedLemmas.{reached_more, from_start, all_read, places_now, few_now, here_listed, closed_now}
 
--- an earlier count
-pub rose_earlier : (f f' g : ℕ) → f ≤ f' → Rose f' g → Rose f g
-rose_earlier f f' g le (inl lt) = inl (omega (arith, le, lt))
-rose_earlier f f' g le (inr top) = inr top
-
-pub refuses_earlier : (told : Option Holding) (f f' g : ℕ) (req : Requirement) (p : Policy) (stored : Store) (e : LoadFault) → f ≤ f'
-    → Refuses told f' g req p stored e → Refuses told f g req p stored e
-refuses_earlier told f f' g req p stored (fault.FeedRead uri) le r = (r.0, rose_earlier f f' g le r.1)
-refuses_earlier told f f' g req p stored fault.NoRootFeed le r = r
-refuses_earlier told f f' g req p stored (fault.BadFeed uri why) le r = r
-refuses_earlier told f f' g req p stored (fault.FeedTooLong uri limit) le r = r
-refuses_earlier told f f' g req p stored (fault.TooManyInterfaces limit) le r = r
-refuses_earlier told f f' g req p stored (fault.TooManyCandidates limit) le r = r
-refuses_earlier told f f' g req p stored (fault.TooManyFeeds limit) le r = r
-refuses_earlier told f f' g req p stored fault.Memory le r = r
-
 -- A feed is refused.
-module _ (told : Option Holding) (f g : ℕ) (req : Requirement) (p : Policy) (stored : Store) (done : List Interface) (names : Uris) (start : List Feed) (interface : Uri)
+module _ (told : Option Holding) (req : Requirement) (p : Policy) (stored : Store) (done : List Interface) (names : Uris) (start : List Feed) (interface : Uri)
     (h : HasLoaded told req p stored done names start) (next : slice_get names (length done) ≡ Some interface) where
-  comes_to : (here : Uris) (n : ℕ) (fs : List Feed) (uri : Uri) → HasListed told req.interface p interface start here n fs
+  pub comes_to : (here : Uris) (n : ℕ) (fs : List Feed) (uri : Uri) → HasListed told req.interface p interface start here n fs
       → slice_get here n ≡ Some uri → listed uri (addresses fs) ≡ false → ComesTo told req p stored uri (addresses fs)
   comes_to here n fs uri l turn new = record {
     at = reading_of fs;
@@ -81,43 +66,76 @@ module _ (told : Option Holding) (f g : ℕ) (req : Requirement) (p : Policy) (s
           let P : List Feed → Type 0 = λ gs. AllRead told req.interface gs in
           subst P (sym l.grown) (All-append (λ x. IsRead told req.interface x.uri x) start l.more h.read l.read)
 
-  got_one : (u uri : Uri) (fs : List Feed) → u ≡ uri → ComesTo told req p stored uri (addresses fs) → length fs < most_feeds → ComesToGet told req p stored u
-  got_one u uri fs s c lt =
-      let P : Uri → Type 0 = λ q. ComesTo told req p stored q (addresses fs) in
-      let e : length (addresses fs) ≡ length fs = length-map (λ (x : Feed). x.uri) fs in
-      (addresses fs, subst P (sym s) c, omega (arith, e, lt))
+  got_fewer : (fs : List Feed) → length fs < most_feeds → length (addresses fs) < most_feeds
+  got_fewer fs lt = let e : length (addresses fs) ≡ length fs = length-map (λ (x : Feed). x.uri) fs in omega (arith, e, lt)
 
-  refuses_next : (uri : Uri) (fs : List Feed) (e : LoadFault) → ComesTo told req p stored uri (addresses fs) → RefusesNext told f g req.interface (length fs) uri e
-      → Refuses told f g req p stored e
-  refuses_next uri fs (fault.FeedRead u) c r = (got_one u uri fs r.1.0 c r.0, r.1.1)
+  at_one : (u uri : Uri) (fs : List Feed) → u ≡ uri → ComesTo told req p stored uri (addresses fs) → ComesTo told req p stored u (addresses fs)
+  at_one u uri fs s c = let P : Uri → Type 0 = λ q. ComesTo told req p stored q (addresses fs) in subst P (sym s) c
+
+  ends_at : (u uri : Uri) (fs : List Feed) → u ≡ uri → addresses fs ++ u ∷ [] ≡ addresses fs ++ uri ∷ []
+  ends_at u uri fs s = ap (λ q. addresses fs ++ q ∷ []) s
+
+  -- the refusal of one feed is one of the loading, which asked for those that it had got and then for this one
+  refuses_next : (uri : Uri) (fs : List Feed) (e : LoadFault) → ComesTo told req p stored uri (addresses fs) → RefusesNext told req.interface (length fs) uri e
+      → (r : Refuses told req p stored e) × (asked_until told req p stored e r ≡ addresses fs ++ up_to uri e)
+  refuses_next uri fs (fault.FeedRead u) c r = ((addresses fs, at_one u uri fs r.1 c, got_fewer fs r.0), ends_at u uri fs r.1)
   refuses_next uri fs fault.NoRootFeed c r =
-      let P : Uri → Type 0 = λ q. IsHeld told q None in (got_one req.interface uri fs (sym r.1.0) c r.0, subst P r.1.0 r.1.1)
+      let P : Uri → Type 0 = λ q. IsHeld told q None in
+      (((addresses fs, at_one req.interface uri fs (sym r.1.0) c, got_fewer fs r.0), subst P r.1.0 r.1.1), ends_at req.interface uri fs (sym r.1.0))
   refuses_next uri fs (fault.BadFeed u why) c r =
       let P : Uri → Type 0 = λ q. (bytes : List ℕ) × IsHeld told q (Some bytes) × (length bytes ≤ feed_limit) × HasFault q bytes why in
-      (got_one u uri fs r.1.0 c r.0, subst P (sym r.1.0) r.1.1)
+      (((addresses fs, at_one u uri fs r.1.0 c, got_fewer fs r.0), subst P (sym r.1.0) r.1.1), ends_at u uri fs r.1.0)
   refuses_next uri fs (fault.FeedTooLong u limit) c r =
       let P : Uri → Type 0 = λ q. IfSome told (λ holds. IsSomeAnd (holds q) (λ bytes. feed_limit < length bytes)) in
-      (got_one u uri fs r.1.0 c r.0, r.1.1, subst P (sym r.1.0) r.1.2)
+      (((addresses fs, at_one u uri fs r.1.0 c, got_fewer fs r.0), r.1.1, subst P (sym r.1.0) r.1.2), ends_at u uri fs r.1.0)
   refuses_next uri fs (fault.TooManyInterfaces limit) c r = absurd r.1
   refuses_next uri fs (fault.TooManyCandidates limit) c r = absurd r.1
-  refuses_next uri fs (fault.TooManyFeeds limit) c r = (r.0, (uri, addresses fs, c, length-map (λ (x : Feed). x.uri) fs ∙ r.1))
-  refuses_next uri fs fault.Memory c r = tt
+  refuses_next uri fs (fault.TooManyFeeds limit) c r = ((r.0, (uri, addresses fs, c, length-map (λ (x : Feed). x.uri) fs ∙ r.1)), sym (append-nil (addresses fs)))
+  refuses_next uri fs fault.Memory c r = ((addresses fs ++ uri ∷ [], inr (uri, addresses fs, c, got_fewer fs r.0, refl)), refl)
 
-  refuses_stop : (e : LoadFault) → StopsListing told f g req.interface p interface start e → Refuses told f g req p stored e
+  pub refuses_stop : (e : LoadFault) (s : StopsListing told req.interface p interface start e) → (r : Refuses told req p stored e) × (asked_until told req p stored e r ≡ addresses s.fs ++ up_to s.uri e)
   refuses_stop e s = refuses_next s.uri s.fs e (comes_to s.here s.n s.fs s.uri s.listed s.turn s.stops.new) s.stops.refused
 
-  pub refuses_listing : (e : LoadFault) → UnlessMemory e (StopsListing told f g req.interface p interface start e) → Refuses told f g req p stored e
-  refuses_listing (fault.FeedRead u) s = refuses_stop (fault.FeedRead u) s
-  refuses_listing fault.NoRootFeed s = refuses_stop fault.NoRootFeed s
-  refuses_listing (fault.BadFeed u why) s = refuses_stop (fault.BadFeed u why) s
-  refuses_listing (fault.FeedTooLong u limit) s = refuses_stop (fault.FeedTooLong u limit) s
-  refuses_listing (fault.TooManyInterfaces limit) s = refuses_stop (fault.TooManyInterfaces limit) s
-  refuses_listing (fault.TooManyCandidates limit) s = refuses_stop (fault.TooManyCandidates limit) s
-  refuses_listing (fault.TooManyFeeds limit) s = refuses_stop (fault.TooManyFeeds limit) s
-  refuses_listing fault.Memory s = tt
+  -- the feeds that were got before memory was refused
+  pub has_got : (here : Uris) (n : ℕ) (fs : List Feed) → HasListed told req.interface p interface start here n fs → HasGot told req p stored (addresses fs)
+  has_got here n fs l = record {
+    at = reading_of fs;
+    done = done;
+    groups = h.groups;
+    names = names;
+    come = h.come (reading_of fs) (front (reading_of fs) agrees);
+    interface = interface;
+    next = next;
+    here = here;
+    n = n;
+    listed_here = l.named (reading_of fs) agrees;
+    so_far = places;
+    few = few;
+    read = reading_reads told req.interface fs all_read;
+  }
+    where
+      places : addresses fs ≡ reached (h.groups ++ take n here ∷ [])
+      places = l.places ∙ ap (λ q. joined q (take n here)) h.places ∙ sym (reached_more h.groups (take n here))
+
+      apart : AreApart (addresses fs)
+      apart = subst AreApart (sym places) (without_repeats_apart (all_of (h.groups ++ take n here ∷ [])))
+
+      agrees : Agrees (reading_of fs) fs
+      agrees = reading_agrees fs apart
+
+      front : (at : Reading) → Agrees at fs → Agrees at start
+      front at a = All-front (λ x. at x.uri ≡ x) start l.more (subst (Agrees at) l.grown a)
+
+      few : length (addresses fs) ≤ most_feeds
+      few = let e : length (addresses fs) ≡ length fs = length-map (λ (x : Feed). x.uri) fs in omega (arith, e, l.few)
+
+      all_read : AllRead told req.interface fs
+      all_read =
+          let P : List Feed → Type 0 = λ gs. AllRead told req.interface gs in
+          subst P (sym l.grown) (All-append (λ x. IsRead told req.interface x.uri x) start l.more h.read l.read)
 
 -- An interface is refused.
-module _ (told : Option Holding) (f g : ℕ) (req : Requirement) (p : Policy) (stored : Store) (done : List Interface) (names : Uris) (start : List Feed) (uri : Uri)
+module _ (told : Option Holding) (req : Requirement) (p : Policy) (stored : Store) (done : List Interface) (names : Uris) (start : List Feed) (uri : Uri)
     (h : HasLoaded told req p stored done names start) (lt : length done < length names) (e : get_or names (length done) uri ≡ uri)
     (here : Uris) (fs : List Feed) (l : HasListed told req.interface p uri start here (length here) fs) (next : slice_get names (length done) ≡ Some uri) where
   apart : AreApart (addresses fs)
@@ -128,34 +146,37 @@ module _ (told : Option Holding) (f g : ℕ) (req : Requirement) (p : Policy) (s
   agrees : Agrees (reading_of fs) fs
   agrees = reading_agrees fs apart
 
-  pub finds : Finds told req p stored done names uri (feeds_at fs here)
+  pub finds : (f : Finds told req p stored done names uri (feeds_at fs here)) × (reached (f.groups ++ f.here ∷ []) ≡ addresses fs)
   finds =
       let places : addresses fs ≡ reached (h.groups ++ here ∷ []) = places_now told req p stored done names start uri h lt e here fs l in
-      let Q : Uris → Type 0 = λ q. AreRead told req.interface (reading_of fs) q in
-      record {
-        at = reading_of fs;
-        groups = h.groups;
-        come = h.come (reading_of fs) (from_start told req p stored done names start uri h lt e here fs l (reading_of fs) agrees);
-        next = next;
-        here = here;
-        closed = closed_now told req p stored done names start uri h lt e here fs l (reading_of fs) agrees;
-        are = feeds_agreed (reading_of fs) fs here (here_listed told req p stored done names start uri h lt e here fs l) agrees;
-        few = few_now told req p stored done names start uri h lt e here fs l;
-        read = subst Q places (reading_reads told req.interface fs (all_read told req p stored done names start uri h lt e here fs l));
-      }
+      let Q : Uris → Type 0 = λ q. AreRead told req.interface (reading_of fs) q in (
+        record {
+          at = reading_of fs;
+          groups = h.groups;
+          come = h.come (reading_of fs) (from_start told req p stored done names start uri h lt e here fs l (reading_of fs) agrees);
+          next = next;
+          here = here;
+          closed = closed_now told req p stored done names start uri h lt e here fs l (reading_of fs) agrees;
+          are = feeds_agreed (reading_of fs) fs here (here_listed told req p stored done names start uri h lt e here fs l) agrees;
+          few = few_now told req p stored done names start uri h lt e here fs l;
+          read = subst Q places (reading_reads told req.interface fs (all_read told req p stored done names start uri h lt e here fs l));
+        },
+        sym places,
+      )
 
   pub refuses_finishing : (s : Loading) (why : LoadFault) → s.names.keys ≡ names → s.count ≡ candidates_in done
       → ((cs : List Candidate) → IsSorting p (admitted req p stored uri (feeds_at fs here)) cs → AreCandidates req p stored uri (feeds_at fs here) cs)
-      → StopsFinishing p (admitted req p stored uri (feeds_at fs here)) s why → Refuses told f g req p stored why
+      → StopsFinishing p (admitted req p stored uri (feeds_at fs here)) s why → (r : Refuses told req p stored why) × (asked_until told req p stored why r ≡ addresses fs)
   refuses_finishing s (fault.TooManyCandidates limit) keys count ranked r =
-      (r.0, (done, names, uri, feeds_at fs here, finds, omega (arith, count, r.1)))
+      ((r.0, (done, names, uri, feeds_at fs here, finds.0, omega (arith, count, r.1))), finds.1)
   refuses_finishing s (fault.TooManyInterfaces limit) keys count ranked r =
       let t = r.1 in
       let P : Uris → Type 0 = λ q. most_interfaces < length (joined q (asked_by_all t.cs)) in
-      (r.0, (done, names, uri, feeds_at fs here, t.cs, finds, ranked t.cs t.sorting, omega (arith, count, t.few_candidates), subst P keys t.many))
+      ((r.0, (done, names, uri, feeds_at fs here, t.cs, finds.0, ranked t.cs t.sorting, omega (arith, count, t.few_candidates), subst P keys t.many)), finds.1)
   refuses_finishing s (fault.FeedRead u) keys count ranked r = absurd r
   refuses_finishing s fault.NoRootFeed keys count ranked r = absurd r
   refuses_finishing s (fault.BadFeed u w) keys count ranked r = absurd r
   refuses_finishing s (fault.FeedTooLong u limit) keys count ranked r = absurd r
   refuses_finishing s (fault.TooManyFeeds limit) keys count ranked r = absurd r
-  refuses_finishing s fault.Memory keys count ranked r = tt
+  refuses_finishing s fault.Memory keys count ranked r =
+      ((addresses fs, inl (has_got told req p stored done names start uri h next here (length here) fs l)), refl)

@@ -12,7 +12,7 @@ use Rattle.zi_forest.specs.Forest.{element_view}
 use Rattle.zi_doc.specs.Laws.{IsSettled}
 use Rattle.zi_feed.specs.declared.feed.Feed.{Feed}
 use Rattle.zi_feed.specs.Feeds.{feed_fault}
-use Rattle.zi_outside.specs.Outside.{Holding}
+use Rattle.zi_outside.specs.Views.{Holding}
 use Rattle.zi_universe.specs.declared.types.Requirement.{Requirement}
 use Rattle.zi_universe.specs.declared.types.Candidate.{Candidate}
 use Rattle.zi_universe.specs.declared.types.Interface.{Interface}
@@ -59,8 +59,8 @@ not_both o bytes e le h =
     omega (arith, le, g)
 
 -- Two refusals of one feed after as many others are the same.
-module _ (one : (w : List ℕ) → IsSettled w) (holds : Holding) (root uri : Uri) (f g k l got : ℕ) where
-  same_next : (e d : LoadFault) → IsOfFeeds e ≡ true → IsOfFeeds d ≡ true → RefusesNext (Some holds) f g root got uri e → RefusesNext (Some holds) k l root got uri d → e ≡ d
+module _ (one : (w : List ℕ) → IsSettled w) (holds : Holding) (root uri : Uri) (got : ℕ) where
+  same_next : (e d : LoadFault) → IsOfFeeds e ≡ true → IsOfFeeds d ≡ true → RefusesNext (Some holds) root got uri e → RefusesNext (Some holds) root got uri d → e ≡ d
   same_next (fault.FeedRead u) d t s a b = absurd (true≢false (sym t))
   same_next fault.Memory d t s a b = absurd (true≢false (sym t))
   same_next (fault.TooManyInterfaces m) d t s a b = absurd a.1
@@ -90,7 +90,7 @@ module _ (one : (w : List ℕ) → IsSettled w) (holds : Holding) (root uri : Ur
   same_next (fault.TooManyFeeds m) (fault.TooManyFeeds n) t s a b = ap fault.TooManyFeeds (a.0 ∙ sym b.0)
 
 -- A feed that was read isn't refused.
-module _ (one : (w : List ℕ) → IsSettled w) (holds : Holding) (root uri : Uri) (f g got : ℕ) (feed : Feed) (r : IsRead (Some holds) root uri feed) (few : got + 1 ≤ most_feeds) where
+module _ (one : (w : List ℕ) → IsSettled w) (holds : Holding) (root uri : Uri) (got : ℕ) (feed : Feed) (r : IsRead (Some holds) root uri feed) (few : got + 1 ≤ most_feeds) where
   abbrev Means : Option (List ℕ) → Type 0
   Means o = MatchOption o ((uri ≢ root) × (feed ≡ no_feed uri)) (λ bytes. (length bytes ≤ feed_limit) × Says uri bytes feed)
 
@@ -105,7 +105,7 @@ module _ (one : (w : List ℕ) → IsSettled w) (holds : Holding) (root uri : Ur
       let n : feed_fault (element_view h.0) uri ≡ None = ap (λ t. feed_fault (element_view t) uri) same ∙ s.1.2 in
       no_some (record { kind = kind; place = place }) (sym n ∙ h.2)
 
-  not_next : (e : LoadFault) → IsOfFeeds e ≡ true → RefusesNext (Some holds) f g root got uri e → ⊥
+  not_next : (e : LoadFault) → IsOfFeeds e ≡ true → RefusesNext (Some holds) root got uri e → ⊥
   not_next (fault.FeedRead u) t a = true≢false (sym t)
   not_next fault.Memory t a = true≢false (sym t)
   not_next (fault.TooManyInterfaces m) t a = a.1
@@ -159,8 +159,8 @@ same_passes req p stored done names interface feeds (fault.TooManyCandidates m) 
 -- at the next feed
 abbrev StopsAtFeed : (holds : Holding) (req : Requirement) (p : Policy) (stored : Store) (at : Reading) → Point holds req p stored at → LoadFault → Type 0
 StopsAtFeed holds req p stored at x e =
-    (uri : Uri) × (f : ℕ) × (g : ℕ) × (slice_get x.here x.n ≡ Some uri) × (listed uri (without_repeats (all_of x.groups ++ take x.n x.here)) ≡ false)
-    × RefusesNext (Some holds) f g req.interface (length (without_repeats (all_of x.groups ++ take x.n x.here))) uri e
+    (uri : Uri) × (slice_get x.here x.n ≡ Some uri) × (listed uri (without_repeats (all_of x.groups ++ take x.n x.here)) ≡ false)
+    × RefusesNext (Some holds) req.interface (length (without_repeats (all_of x.groups ++ take x.n x.here))) uri e
 
 -- at the interface, whose feeds were found
 abbrev StopsAtLimit : (holds : Holding) (req : Requirement) (p : Policy) (stored : Store) (at : Reading) → Point holds req p stored at → LoadFault → Type 0
@@ -193,12 +193,12 @@ module _ (strict : RanksAreStrict) (one : (w : List ℕ) → IsSettled w) (holds
       let in_y : listed uri looked_y ≡ true = ap (listed uri) c.1 ∙ listed-behind uri looked_x (uri ∷ c.0) (Contains-listed uri (uri ∷ c.0) (here uri c.0)) in
       let grown : without_repeats looked_y ≡ joined (without_repeats looked_x ++ uri ∷ []) c.0 =
       ap without_repeats c.1 ∙ joined-append [] looked_x (uri ∷ c.0)
-      ∙ ap (λ q. joined q c.0) (ap (λ b. if b then without_repeats looked_x else without_repeats looked_x ++ uri ∷ []) s.4) in
+      ∙ ap (λ q. joined q c.0) (ap (λ b. if b then without_repeats looked_x else without_repeats looked_x ++ uri ∷ []) s.2) in
       let k : length (without_repeats looked_y) ≡ length (joined (without_repeats looked_x ++ uri ∷ []) c.0) = ap length grown in
       let l : length (without_repeats looked_x ++ uri ∷ []) ≡ length (without_repeats looked_x) + 1 = length-append (without_repeats looked_x) (uri ∷ []) in
       let m = longer (without_repeats looked_x ++ uri ∷ []) c.0 in
       let few = y.few in
-      not_next one holds req.interface uri s.1 s.2 (length (without_repeats looked_x)) (now uri) (y.read uri in_y) (omega (arith, k, l, m, few)) e t s.5
+      not_next one holds req.interface uri (length (without_repeats looked_x)) (now uri) (y.read uri in_y) (omega (arith, k, l, m, few)) e t s.3
 
   -- the second has done the interface at which the first stops
   module _ (lt : length x.done < length y.done) where
@@ -273,7 +273,7 @@ module _ (strict : RanksAreStrict) (one : (w : List ℕ) → IsSettled w) (holds
       not_passes (fault.TooManyCandidates m) a = not_many_candidates a.1
 
     not_done : (e : LoadFault) → IsOfFeeds e ≡ true → Stops holds req p stored now x e → ⊥
-    not_done e t (inl s) = not_passed e t s (passed_done strict holds req p stored now x y le lt s.0 s.3)
+    not_done e t (inl s) = not_passed e t s (passed_done strict holds req p stored now x y le lt s.0 s.1)
     not_done e t (inr s) = not_passes s.0 e s.1
 
 -- Two points over one reading at which a loading stops: it is stopped by the same.
@@ -287,11 +287,11 @@ module _ (strict : RanksAreStrict) (one : (w : List ℕ) → IsSettled w) (holds
     same_feed : (e d : LoadFault) → IsOfFeeds e ≡ true → IsOfFeeds d ≡ true → x.n ≡ y.n → StopsAtFeed holds req p stored now x e → StopsAtFeed holds req p stored now y d → e ≡ d
     same_feed e d t s n a b =
         let turn : slice_get x.here x.n ≡ Some b.0 =
-        ap (λ q. slice_get q x.n) (sym (same_here strict holds req p stored now x y le ge n)) ∙ ap (slice_get y.here) n ∙ b.3 in
-        let same : b.0 ≡ a.0 = same_some b.0 a.0 (sym turn ∙ a.3) in
-        let P : Uris → Type 0 = λ q. RefusesNext (Some holds) b.1 b.2 req.interface (length (without_repeats q)) b.0 d in
-        let Q : Uri → Type 0 = λ q. RefusesNext (Some holds) b.1 b.2 req.interface (length (without_repeats (all_of x.groups ++ take x.n x.here))) q d in
-        same_next one holds req.interface a.0 a.1 a.2 b.1 b.2 (length (without_repeats (all_of x.groups ++ take x.n x.here))) e d t s a.5 (subst Q same (subst P (same_looked n) b.5))
+        ap (λ q. slice_get q x.n) (sym (same_here strict holds req p stored now x y le ge n)) ∙ ap (slice_get y.here) n ∙ b.1 in
+        let same : b.0 ≡ a.0 = same_some b.0 a.0 (sym turn ∙ a.1) in
+        let P : Uris → Type 0 = λ q. RefusesNext (Some holds) req.interface (length (without_repeats q)) b.0 d in
+        let Q : Uri → Type 0 = λ q. RefusesNext (Some holds) req.interface (length (without_repeats (all_of x.groups ++ take x.n x.here))) q d in
+        same_next one holds req.interface a.0 (length (without_repeats (all_of x.groups ++ take x.n x.here))) e d t s a.3 (subst Q same (subst P (same_looked n) b.3))
 
     abbrev next_now : Uri → Uris
     next_now u = imports_of p (now u)
@@ -328,18 +328,18 @@ module _ (strict : RanksAreStrict) (one : (w : List ℕ) → IsSettled w) (holds
       → Stops holds req p stored now x e → Stops holds req p stored now y d → e ≡ d
   same_here_too x y le ge e d t s (inl a) (inl b) =
       elim (compare x.n y.n) [
-        | inl lt ↦ absurd (not_passed strict one holds req p stored now x y e t a (passed_here strict holds req p stored now x y le ge lt a.0 a.3))
+        | inl lt ↦ absurd (not_passed strict one holds req p stored now x y e t a (passed_here strict holds req p stored now x y le ge lt a.0 a.1))
         | inr r ↦ elim r [
           | inl n ↦ same_feed x y le ge e d t s n a b
-          | inr gt ↦ absurd (not_passed strict one holds req p stored now y x d s b (passed_here strict holds req p stored now y x ge le gt b.0 b.3))
+          | inr gt ↦ absurd (not_passed strict one holds req p stored now y x d s b (passed_here strict holds req p stored now y x ge le gt b.0 b.1))
         ]
       ]
   same_here_too x y le ge e d t s (inl a) (inr b) =
-      let lt = not_behind strict holds req p stored now x y le ge b.0 (slice_get_within x.here x.n a.0 a.3) in
-      absurd (not_passed strict one holds req p stored now x y e t a (passed_here strict holds req p stored now x y le ge lt a.0 a.3))
+      let lt = not_behind strict holds req p stored now x y le ge b.0 (slice_get_within x.here x.n a.0 a.1) in
+      absurd (not_passed strict one holds req p stored now x y e t a (passed_here strict holds req p stored now x y le ge lt a.0 a.1))
   same_here_too x y le ge e d t s (inr a) (inl b) =
-      let lt = not_behind strict holds req p stored now y x ge le a.0 (slice_get_within y.here y.n b.0 b.3) in
-      absurd (not_passed strict one holds req p stored now y x d s b (passed_here strict holds req p stored now y x ge le lt b.0 b.3))
+      let lt = not_behind strict holds req p stored now y x ge le a.0 (slice_get_within y.here y.n b.0 b.1) in
+      absurd (not_passed strict one holds req p stored now y x d s b (passed_here strict holds req p stored now y x ge le lt b.0 b.1))
   same_here_too x y le ge e d t s (inr a) (inr b) = same_limit x y le ge e d a b
 
   same_stop : (x y : Point holds req p stored now) (e d : LoadFault) → IsOfFeeds e ≡ true → IsOfFeeds d ≡ true → Stops holds req p stored now x e → Stops holds req p stored now y d → e ≡ d
@@ -403,11 +403,11 @@ module _ (holds : Holding) (req : Requirement) (p : Policy) (stored : Store) (ur
     read = read_got;
   }
 
-  feed_stops : (f g : ℕ) (e : LoadFault) → RefusesNext (Some holds) f g req.interface (length got) uri e
+  feed_stops : (e : LoadFault) → RefusesNext (Some holds) req.interface (length got) uri e
       → (at : Reading) × (x : Point holds req p stored at) × Stops holds req p stored at x e
-  feed_stops f g e a =
-      let P : Uris → Type 0 = λ q. RefusesNext (Some holds) f g req.interface (length q) uri e in
-      (c.at, at_feed, inl (uri, f, g, c.turn, ap (listed uri) (sym got_all) ∙ c.new, subst P got_all a))
+  feed_stops e a =
+      let P : Uris → Type 0 = λ q. RefusesNext (Some holds) req.interface (length q) uri e in
+      (c.at, at_feed, inl (uri, c.turn, ap (listed uri) (sym got_all) ∙ c.new, subst P got_all a))
 
 module _ (holds : Holding) (req : Requirement) (p : Policy) (stored : Store) (done : List Interface) (names : Uris) (interface : Uri) (feeds : List Feed)
     (c : Finds (Some holds) req p stored done names interface feeds) where
@@ -450,22 +450,22 @@ module _ (holds : Holding) (req : Requirement) (p : Policy) (stored : Store) (do
       let P : List Feed → Type 0 = λ q. Passes req p stored done names interface q e in
       (c.at, at_limit, inr (refl, subst P (c.are ∙ ap (map c.at) (sym all_of_them)) a))
 
-stops : (holds : Holding) (f g : ℕ) (req : Requirement) (p : Policy) (stored : Store) (e : LoadFault) → IsOfFeeds e ≡ true → Refuses (Some holds) f g req p stored e
+stops : (holds : Holding) (req : Requirement) (p : Policy) (stored : Store) (e : LoadFault) → IsOfFeeds e ≡ true → Refuses (Some holds) req p stored e
     → (at : Reading) × (x : Point holds req p stored at) × Stops holds req p stored at x e
-stops holds f g req p stored (fault.FeedRead uri) t r = absurd (true≢false (sym t))
-stops holds f g req p stored fault.Memory t r = absurd (true≢false (sym t))
-stops holds f g req p stored fault.NoRootFeed t r = feed_stops holds req p stored req.interface r.0.0 r.0.1 f g fault.NoRootFeed (r.0.2, (refl, r.1))
-stops holds f g req p stored (fault.BadFeed uri why) t r = feed_stops holds req p stored uri r.0.0 r.0.1 f g (fault.BadFeed uri why) (r.0.2, (refl, r.1))
-stops holds f g req p stored (fault.FeedTooLong uri limit) t r =
-    feed_stops holds req p stored uri r.0.0 r.0.1 f g (fault.FeedTooLong uri limit) (r.0.2, (refl, r.1, r.2))
-stops holds f g req p stored (fault.TooManyFeeds limit) t r = feed_stops holds req p stored r.1.0 r.1.1 r.1.2 f g (fault.TooManyFeeds limit) (r.0, r.1.3)
-stops holds f g req p stored (fault.TooManyCandidates limit) t r =
+stops holds req p stored (fault.FeedRead uri) t r = absurd (true≢false (sym t))
+stops holds req p stored fault.Memory t r = absurd (true≢false (sym t))
+stops holds req p stored fault.NoRootFeed t r = feed_stops holds req p stored req.interface r.0.0 r.0.1 fault.NoRootFeed (r.0.2, (refl, r.1))
+stops holds req p stored (fault.BadFeed uri why) t r = feed_stops holds req p stored uri r.0.0 r.0.1 (fault.BadFeed uri why) (r.0.2, (refl, r.1))
+stops holds req p stored (fault.FeedTooLong uri limit) t r =
+    feed_stops holds req p stored uri r.0.0 r.0.1 (fault.FeedTooLong uri limit) (r.0.2, (refl, r.1, r.2))
+stops holds req p stored (fault.TooManyFeeds limit) t r = feed_stops holds req p stored r.1.0 r.1.1 r.1.2 (fault.TooManyFeeds limit) (r.0, r.1.3)
+stops holds req p stored (fault.TooManyCandidates limit) t r =
     limit_stops holds req p stored r.1.0 r.1.1 r.1.2 r.1.3 r.1.4 (fault.TooManyCandidates limit) (r.0, r.1.5)
-stops holds f g req p stored (fault.TooManyInterfaces limit) t r =
+stops holds req p stored (fault.TooManyInterfaces limit) t r =
     limit_stops holds req p stored r.1.0 r.1.1 r.1.2 r.1.3 r.1.5 (fault.TooManyInterfaces limit) (r.0, (r.1.4, r.1.6, r.1.7, r.1.8))
 
 pub refused_once : RanksAreStrict → ((w : List ℕ) → IsSettled w) → HasOneRefusal
-refused_once strict one holds f g k l req p stored e d t s a b =
-    let x = stops holds f g req p stored e t a in
-    let y = stops holds k l req p stored d s b in
+refused_once strict one holds req p stored e d t s a b =
+    let x = stops holds req p stored e t a in
+    let y = stops holds req p stored d s b in
     stopped_once strict one holds req p stored x.0 y.0 x.1 y.1 e d t s x.2 y.2

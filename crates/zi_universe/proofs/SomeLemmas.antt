@@ -14,7 +14,7 @@ use Rattle.zi_doc.specs.Laws.{IsSettled}
 use Rattle.zi_feed.specs.declared.feed.Feed.{Feed}
 use Rattle.zi_feed.specs.declared.fault.Fault.{Fault}
 use Rattle.zi_feed.specs.Feeds.{feed_of, feed_fault}
-use Rattle.zi_outside.specs.Outside.{Holding}
+use Rattle.zi_outside.specs.Views.{Holding}
 use Rattle.zi_universe.specs.declared.types.Requirement.{Requirement}
 use Rattle.zi_universe.specs.declared.types.Candidate.{Candidate}
 use Rattle.zi_universe.specs.declared.types.Interface.{Interface}
@@ -31,9 +31,9 @@ use Rattle.zi_universe.specs.Laws.{IsOfFeeds, LoadsOrIsRefused}
 use Rattle.zi_universe.proofs.NamingLemmas.{bytes_eq-true, bytes_eq-false, length-map, listed-Contains, Contains-listed, listed-joined, without_repeats_apart}
 use Rattle.zi_universe.proofs.TableLemmas.{feeds_agreed, addresses-feeds_at, reading_of, reading_agrees}
 use Rattle.zi_universe.proofs.ReadingLemmas.{place_of_feed}
-use Rattle.zi_universe.proofs.ListingLemmas.{gets_none, gets_one, refused_next, unless_sure, listed_begins, listed_more, listed_ends}
+use Rattle.zi_universe.proofs.ListingLemmas.{gets_none, gets_one, refused_next, listed_begins, listed_more, listed_ends}
 use Rattle.zi_universe.proofs.LoadedLemmas.{reached_more, loaded_none, places_now, here_listed, closed_now, loaded_more, loads}
-use Rattle.zi_universe.proofs.RefusalLemmas.{refuses_listing, finds}
+use Rattle.zi_universe.proofs.RefusalLemmas.{refuses_stop, finds}
 use Rattle.zi_universe.proofs.RankedLemmas.{admitted_placed}
 use Rattle.zi_universe.proofs.ExclusionLemmas.{longer}
 use Rattle.zi_universe.proofs.RankingLemmas.{can_rank, no_longer, apart_front}
@@ -47,9 +47,9 @@ at_place (x ∷ xs) zero lt = (x, refl)
 at_place (x ∷ xs) (suc k) lt = at_place xs k (omega (arith, lt))
 
 -- One feed.
-module _ (one : (w : List ℕ) → IsSettled w) (holds : Holding) (f g : ℕ) (root uri : Uri) where
+module _ (one : (w : List ℕ) → IsSettled w) (holds : Holding) (root uri : Uri) where
   abbrev pub FeedOr : Type 0
-  FeedOr = ((feed : Feed) × (feed.uri ≡ uri) × IsRead (Some holds) root uri feed) ⊎ ((e : LoadFault) × (IsOfFeeds e ≡ true) × RefusesFeed (Some holds) f g root uri e)
+  FeedOr = ((feed : Feed) × (feed.uri ≡ uri) × IsRead (Some holds) root uri feed) ⊎ ((e : LoadFault) × (IsOfFeeds e ≡ true) × RefusesFeed (Some holds) root uri e)
 
   bytes_or : (bytes : List ℕ) → holds uri ≡ Some bytes → length bytes ≤ feed_limit → FeedOr
   bytes_or bytes held le = elim (one bytes).some [
@@ -78,17 +78,17 @@ module _ (one : (w : List ℕ) → IsSettled w) (holds : Holding) (f g : ℕ) (r
           ]
 
 -- One feed, unless it was got.
-module _ (one : (w : List ℕ) → IsSettled w) (holds : Holding) (f g : ℕ) (root : Uri) where
+module _ (one : (w : List ℕ) → IsSettled w) (holds : Holding) (root : Uri) where
   abbrev pub GetsOr : Uri → List Feed → Type 0
-  GetsOr uri fs = ((gs : List Feed) × GetsOnce (Some holds) root uri fs gs) ⊎ ((e : LoadFault) × (IsOfFeeds e ≡ true) × StopsOnce (Some holds) f g root uri fs e)
+  GetsOr uri fs = ((gs : List Feed) × GetsOnce (Some holds) root uri fs gs) ⊎ ((e : LoadFault) × (IsOfFeeds e ≡ true) × StopsOnce (Some holds) root uri fs e)
 
   pub gets_or : (uri : Uri) (fs : List Feed) → length fs ≤ most_feeds → GetsOr uri fs
   gets_or uri fs few = by (listed uri (addresses fs)) refl
     where
       new_one : listed uri (addresses fs) ≡ false → length fs < most_feeds → GetsOr uri fs
-      new_one new lt = elim (feed_or one holds f g root uri) [
+      new_one new lt = elim (feed_or one holds root uri) [
         | inl r ↦ inl (fs ++ r.0 ∷ [], gets_one (Some holds) root uri fs (fs ++ r.0 ∷ []) r.0 new lt r.1 r.2 refl)
-        | inr r ↦ inr (r.0, r.1, record { new = new; refused = refused_next (Some holds) f g root uri (length fs) r.0 lt r.2 })
+        | inr r ↦ inr (r.0, r.1, record { new = new; refused = refused_next (Some holds) root uri (length fs) r.0 lt r.2 })
       ]
 
       by : (b : Bool) → listed uri (addresses fs) ≡ b → GetsOr uri fs
@@ -99,7 +99,7 @@ module _ (one : (w : List ℕ) → IsSettled w) (holds : Holding) (f g : ℕ) (r
       ]
 
 -- The feeds of an interface.
-module _ (one : (w : List ℕ) → IsSettled w) (holds : Holding) (f g : ℕ) (req : Requirement) (p : Policy) (stored : Store) (done : List Interface) (names : Uris) (start : List Feed)
+module _ (one : (w : List ℕ) → IsSettled w) (holds : Holding) (req : Requirement) (p : Policy) (stored : Store) (done : List Interface) (names : Uris) (start : List Feed)
     (h : HasLoaded (Some holds) req p stored done names start) (interface : Uri) where
   -- no more were looked at than the table has
   few_looked : (here : Uris) (n : ℕ) (fs : List Feed) → HasListed (Some holds) req.interface p interface start here n fs → n ≤ length here → n ≤ length fs
@@ -119,7 +119,7 @@ module _ (one : (w : List ℕ) → IsSettled w) (holds : Holding) (f g : ℕ) (r
 
   abbrev pub ListsOr : Type 0
   ListsOr = ((here : Uris) × (fs : List Feed) × HasListed (Some holds) req.interface p interface start here (length here) fs)
-      ⊎ ((e : LoadFault) × (IsOfFeeds e ≡ true) × StopsListing (Some holds) f g req.interface p interface start e)
+      ⊎ ((e : LoadFault) × (IsOfFeeds e ≡ true) × StopsListing (Some holds) req.interface p interface start e)
 
   lists_from : (fuel : ℕ) (here : Uris) (n : ℕ) (fs : List Feed) → HasListed (Some holds) req.interface p interface start here n fs → n ≤ length here → most_feeds < n + fuel → ListsOr
   lists_from zero here n fs l le enough = absurd (let k = few_looked here n fs l le in let few = l.few in omega (arith, enough, k, few))
@@ -127,7 +127,7 @@ module _ (one : (w : List ℕ) → IsSettled w) (holds : Holding) (f g : ℕ) (r
     | inl ge ↦ inl (here, fs, listed_ends (Some holds) req.interface p interface start here n fs ge l)
     | inr lt ↦ (let turn = at_place here n lt in
         let uri : Uri = turn.0 in
-        elim (gets_or one holds f g req.interface uri fs l.few) [
+        elim (gets_or one holds req.interface uri fs l.few) [
           | inl r ↦ (let k = longer here (imports_at p r.0 uri) in
               lists_from fuel (joined here (imports_at p r.0 uri)) (n + 1) r.0
               (listed_more (Some holds) req.interface p interface start here (joined here (imports_at p r.0 uri)) n uri fs r.0 l lt (get_or_from_slice_get here n uri uri turn.1) r.1 refl)
@@ -140,9 +140,9 @@ module _ (one : (w : List ℕ) → IsSettled w) (holds : Holding) (f g : ℕ) (r
   lists_or = lists_from 8193 (interface ∷ []) 0 start (listed_begins (Some holds) req.interface p interface start h.few) (omega arith) (omega arith)
 
 -- The interfaces.
-module _ (strict : RanksAreStrict) (one : (w : List ℕ) → IsSettled w) (holds : Holding) (f g : ℕ) (req : Requirement) (p : Policy) (stored : Store) where
+module _ (strict : RanksAreStrict) (one : (w : List ℕ) → IsSettled w) (holds : Holding) (req : Requirement) (p : Policy) (stored : Store) where
   abbrev pub LoadsOr : Type 0
-  LoadsOr = ((is : List Interface) × Loads (Some holds) req p stored is) ⊎ ((e : LoadFault) × (IsOfFeeds e ≡ true) × Refuses (Some holds) f g req p stored e)
+  LoadsOr = ((is : List Interface) × Loads (Some holds) req p stored is) ⊎ ((e : LoadFault) × (IsOfFeeds e ≡ true) × Refuses (Some holds) req p stored e)
 
   module _ (done : List Interface) (names : Uris) (start : List Feed) (h : HasLoaded (Some holds) req p stored done names start) where
     few_names : length names ≤ most_interfaces
@@ -178,13 +178,13 @@ module _ (strict : RanksAreStrict) (one : (w : List ℕ) → IsSettled w) (holds
       -- one interface more, or a limit
       abbrev pub MoreOr : Type 0
       MoreOr = ((more : List Interface) × (named : Uris) × HasLoaded (Some holds) req p stored more named fs × (length more ≡ length done + 1))
-          ⊎ ((e : LoadFault) × (IsOfFeeds e ≡ true) × Refuses (Some holds) f g req p stored e)
+          ⊎ ((e : LoadFault) × (IsOfFeeds e ≡ true) × Refuses (Some holds) req p stored e)
 
       pub more_or : MoreOr
       more_or =
           let cs : List Candidate = its_candidates.0 in
           let are = its_candidates.1 in
-          let c = finds (Some holds) f g req p stored done names start uri h lt turn here fs l next in
+          let c = (finds (Some holds) req p stored done names start uri h lt turn here fs l next).0 in
           let same : length cs ≡ length (admitted req p stored uri (feeds_at fs here)) = length_permutation (admitted req p stored uri (feeds_at fs here)) cs are.same in
           elim (within_or (candidates_in done + length cs) most_candidates) [
             | inr gt ↦ inr (fault.TooManyCandidates most_candidates, refl, (refl, (done, names, uri, feeds_at fs here, c, omega (arith, gt, same))))
@@ -201,13 +201,13 @@ module _ (strict : RanksAreStrict) (one : (w : List ℕ) → IsSettled w) (holds
 
   loads_from : (fuel : ℕ) (done : List Interface) (names : Uris) (start : List Feed) → HasLoaded (Some holds) req p stored done names start → most_interfaces < length done + fuel → LoadsOr
   loads_from zero done names start h enough = elim (within_or (length names) (length done)) [
-    | inl le ↦ inl (done, loads (Some holds) req p stored done names start h le)
+    | inl le ↦ inl (done, (loads (Some holds) req p stored done names start h le).0)
     | inr lt ↦ absurd (let few = few_names done names start h in omega (arith, enough, few, lt))
   ]
   loads_from (suc fuel) done names start h enough = elim (within_or (length names) (length done)) [
-    | inl le ↦ inl (done, loads (Some holds) req p stored done names start h le)
+    | inl le ↦ inl (done, (loads (Some holds) req p stored done names start h le).0)
     | inr lt ↦ (let next = at_place names (length done) lt in
-        elim (lists_or one holds f g req p stored done names start h next.0) [
+        elim (lists_or one holds req p stored done names start h next.0) [
           | inl r ↦ elim (more_or done names start h next.0 next.1 lt r.0 r.1 r.2) [
             | inl m ↦ loads_from fuel m.0 m.1 r.1 m.2 (let k = m.3 in omega (arith, enough, k))
             | inr e ↦ inr e
@@ -215,11 +215,10 @@ module _ (strict : RanksAreStrict) (one : (w : List ℕ) → IsSettled w) (holds
           | inr r ↦ inr (
             r.0,
             r.1,
-            refuses_listing (Some holds) f g req p stored done names start next.0 h next.1 r.0
-                (unless_sure r.0 (StopsListing (Some holds) f g req.interface p next.0 start r.0) r.2),
+            (refuses_stop (Some holds) req p stored done names start next.0 h next.1 r.0 r.2).0,
           )
         ])
   ]
 
 pub loads_or : RanksAreStrict → ((w : List ℕ) → IsSettled w) → LoadsOrIsRefused
-loads_or strict one holds f g req p stored = loads_from strict one holds f g req p stored 4097 [] (req.interface ∷ []) [] (loaded_none (Some holds) req p stored) (omega arith)
+loads_or strict one holds req p stored = loads_from strict one holds req p stored 4097 [] (req.interface ∷ []) [] (loaded_none (Some holds) req p stored) (omega arith)

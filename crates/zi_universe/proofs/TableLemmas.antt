@@ -11,7 +11,7 @@ use Rattle.indexmap.proofs.CallerLemmas.{insert_entry-new}
 use Rattle.zi_policy.specs.declared.types.Policy.{Policy}
 use Rattle.zi_policy.specs.Platform.{listed}
 use Rattle.zi_feed.specs.declared.feed.Feed.{Feed}
-use Rattle.zi_outside.specs.Outside.{Holding}
+use Rattle.zi_outside.specs.Views.{Holding}
 use Rattle.zi_universe.specs.Naming.{Uri, Uris, AreApart}
 use Rattle.zi_universe.specs.Candidates.{imports_of}
 use Rattle.zi_universe.specs.Loading.{no_feed, IsRead, Reading, AreRead}

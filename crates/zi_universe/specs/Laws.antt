@@ -1,7 +1,7 @@
 -- What holds of loadings as such.
-use Rattle.std.specs.Prelude.{◌≡◌, ◌⊎◌, ℕ, Bool, true, false, List, Some}
+use Rattle.std.specs.Prelude.{◌≡◌, ◌⊎◌, Bool, true, false, List, Some}
 use Rattle.zi_policy.specs.declared.types.Policy.{Policy}
-use Rattle.zi_outside.specs.Outside.{Holding}
+use Rattle.zi_outside.specs.Views.{Holding}
 use Rattle.zi_universe.specs.declared.types.Requirement.{Requirement}
 use Rattle.zi_universe.specs.declared.types.Interface.{Interface}
 use Rattle.zi_universe.specs.declared.fault.LoadFault.{LoadFault}
@@ -24,17 +24,17 @@ IsOfFeeds e = true
 -- Where there is a universe, none of these refusals has its cause.
 abbrev pub UniverseExcludes : Type 0
 UniverseExcludes =
-    (holds : Holding) (f g : ℕ) (req : Requirement) (p : Policy) (stored : Store) (is : List Interface) (e : LoadFault) →
-    Loads (Some holds) req p stored is → IsOfFeeds e ≡ true → ¬ Refuses (Some holds) f g req p stored e
+    (holds : Holding) (req : Requirement) (p : Policy) (stored : Store) (is : List Interface) (e : LoadFault) →
+    Loads (Some holds) req p stored is → IsOfFeeds e ≡ true → ¬ Refuses (Some holds) req p stored e
 
 -- A loading has one refusal at most: two of them that have their causes are the same.
 abbrev pub HasOneRefusal : Type 0
 HasOneRefusal =
-    (holds : Holding) (f g k l : ℕ) (req : Requirement) (p : Policy) (stored : Store) (e d : LoadFault) →
-    IsOfFeeds e ≡ true → IsOfFeeds d ≡ true → Refuses (Some holds) f g req p stored e → Refuses (Some holds) k l req p stored d → e ≡ d
+    (holds : Holding) (req : Requirement) (p : Policy) (stored : Store) (e d : LoadFault) →
+    IsOfFeeds e ≡ true → IsOfFeeds d ≡ true → Refuses (Some holds) req p stored e → Refuses (Some holds) req p stored d → e ≡ d
 
 -- Over an outside that tells what it holds, there is a universe, or one of these refusals has its cause.
 abbrev pub LoadsOrIsRefused : Type 0
 LoadsOrIsRefused =
-    (holds : Holding) (f g : ℕ) (req : Requirement) (p : Policy) (stored : Store) →
-    ((is : List Interface) × Loads (Some holds) req p stored is) ⊎ ((e : LoadFault) × (IsOfFeeds e ≡ true) × Refuses (Some holds) f g req p stored e)
+    (holds : Holding) (req : Requirement) (p : Policy) (stored : Store) →
+    ((is : List Interface) × Loads (Some holds) req p stored is) ⊎ ((e : LoadFault) × (IsOfFeeds e ≡ true) × Refuses (Some holds) req p stored e)

@@ -2,7 +2,7 @@
 use Rattle.std.specs.Prelude.{◌≡◌, ℕ, List, slice_get, Option, Some}
 use Rattle.zi_policy.specs.declared.types.Policy.{Policy}
 use Rattle.zi_feed.specs.declared.feed.Feed.{Feed}
-use Rattle.zi_outside.specs.Outside.{Holding}
+use Rattle.zi_outside.specs.Views.{Holding}
 use Rattle.zi_universe.specs.declared.fault.LoadFault.{LoadFault}
 use Rattle.zi_universe.specs.Naming.{Uri, Uris, joined}
 use Rattle.zi_universe.specs.Tables.{imports_at}
@@ -16,7 +16,7 @@ pub record ListsNext (told : Option Holding) (root : Uri) (p : Policy) (place : 
   pub more : there ≡ joined here (imports_at p new uri)
 
 -- the feed of the member at a place is refused
-pub record StopsNext (told : Option Holding) (f g : ℕ) (root : Uri) (place : ℕ) (here : Uris) (old : List Feed) (e : LoadFault) : Type 0 where
+pub record StopsNext (told : Option Holding) (root : Uri) (place : ℕ) (here : Uris) (old : List Feed) (e : LoadFault) : Type 0 where
   pub uri : Uri
   pub turn : slice_get here place ≡ Some uri
-  pub stops : StopsOnce told f g root uri old e
+  pub stops : StopsOnce told root uri old e

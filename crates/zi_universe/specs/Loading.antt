@@ -1,5 +1,5 @@
 -- What a loading answers: the universe, or the first refusal in the order of loading.
-use Rattle.std.specs.Prelude.{◌≡◌, ◌≢◌, ℕ, ◌+◌, ◌<◌, ◌≤◌, false, List, [], ◌∷◌, ◌++◌, map, length, take, slice_get, Option, Some, None, IfSome, IsSomeAnd, MatchOption, Contains}
+use Rattle.std.specs.Prelude.{◌≡◌, ◌≢◌, ℕ, ◌+◌, ◌<◌, ◌≤◌, ◌⊎◌, false, List, [], ◌∷◌, ◌++◌, map, length, take, slice_get, Option, Some, None, IfSome, IsSomeAnd, MatchOption, Contains}
 use Rattle.std.specs.List.{AllZip}
 use Rattle.zi_policy.specs.declared.types.Policy.{Policy}
 use Rattle.zi_policy.specs.Platform.{listed}
@@ -11,7 +11,8 @@ use Rattle.zi_doc.specs.Documents as doc
 use Rattle.zi_feed.specs.declared.feed.Feed.{Feed}
 use Rattle.zi_feed.specs.Feeds.{feed_of, feed_fault}
 use Rattle.zi_outside.specs.Count.{Rose}
-use Rattle.zi_outside.specs.Outside.{Holding}
+use Rattle.zi_outside.specs.Views.{Holding, Feeding, holding}
+use Rattle.zi_outside.specs.Outside.{Asks}
 use Rattle.zi_universe.specs.declared.types.Requirement.{Requirement}
 use Rattle.zi_universe.specs.declared.types.Interface.{Interface}
 use Rattle.zi_universe.specs.declared.types.Candidate.{Candidate}
@@ -109,6 +110,28 @@ pub record ComesTo (told : Option Holding) (req : Requirement) (p : Policy) (sto
   pub new : listed uri got ≡ false
   pub read : AreRead told req.interface at got
 
+-- The loading has got these without a refusal: the feeds of the interfaces that are done, and those of the next so far.
+pub record HasGot (told : Option Holding) (req : Requirement) (p : Policy) (stored : Store) (got : Uris) : Type 0 where
+  pub at : Reading
+  pub done : List Interface
+  pub groups : List Uris
+  pub names : Uris
+  pub come : HasCome at req p stored done groups names
+  pub interface : Uri
+  pub next : slice_get names (length done) ≡ Some interface
+  pub here : Uris
+  pub n : ℕ
+  pub listed_here : IsNamed interface (map (λ u. imports_of p (at u)) (take n here)) here
+  pub so_far : got ≡ reached (groups ++ take n here ∷ [])
+  pub few : length got ≤ most_feeds
+  pub read : AreRead told req.interface at got
+
+-- The loading asks for these first, in this order: it has got them, or it has got all but the last, to which it has come.
+abbrev pub AreFirst : Option Holding → Requirement → Policy → Store → Uris → Type 0
+AreFirst told req p stored uris =
+    HasGot told req p stored uris
+    ⊎ ((uri : Uri) × (got : Uris) × ComesTo told req p stored uri got × (length got < most_feeds) × (uris ≡ got ++ uri ∷ []))
+
 -- it may still get one more
 abbrev pub ComesToGet : Option Holding → Requirement → Policy → Store → Uri → Type 0
 ComesToGet told req p stored uri = (got : Uris) × ComesTo told req p stored uri got × (length got < most_feeds)
@@ -125,24 +148,24 @@ pub record Finds (told : Option Holding) (req : Requirement) (p : Policy) (store
   pub few : length (reached (groups ++ here ∷ [])) ≤ most_feeds
   pub read : AreRead told req.interface at (reached (groups ++ here ∷ []))
 
--- The refusals. f and g are the feeds' counts of faults before and after.
-abbrev pub Refuses : Option Holding → ℕ → ℕ → Requirement → Policy → Store → LoadFault → Type 0
-Refuses told f g req p stored (fault.FeedRead uri) = ComesToGet told req p stored uri × Rose f g
-Refuses told f g req p stored fault.NoRootFeed = ComesToGet told req p stored req.interface × IsHeld told req.interface None
-Refuses told f g req p stored (fault.BadFeed uri why) =
+-- The refusals, over what is held. Want of memory may come wherever the loading is.
+abbrev pub Refuses : Option Holding → Requirement → Policy → Store → LoadFault → Type 0
+Refuses told req p stored (fault.FeedRead uri) = ComesToGet told req p stored uri
+Refuses told req p stored fault.NoRootFeed = ComesToGet told req p stored req.interface × IsHeld told req.interface None
+Refuses told req p stored (fault.BadFeed uri why) =
     ComesToGet told req p stored uri × ((bytes : List ℕ) × IsHeld told uri (Some bytes) × (length bytes ≤ feed_limit) × HasFault uri bytes why)
-Refuses told f g req p stored (fault.FeedTooLong uri limit) =
+Refuses told req p stored (fault.FeedTooLong uri limit) =
     ComesToGet told req p stored uri × (limit ≡ feed_limit) × IfSome told (λ holds. IsSomeAnd (holds uri) (λ bytes. feed_limit < length bytes))
-Refuses told f g req p stored (fault.TooManyInterfaces limit) =
+Refuses told req p stored (fault.TooManyInterfaces limit) =
     (limit ≡ most_interfaces) × ((done : List Interface) × (names : Uris) × (interface : Uri) × (feeds : List Feed) × (cs : List Candidate)
     × Finds told req p stored done names interface feeds × AreCandidates req p stored interface feeds cs
     × (candidates_in done + length cs ≤ most_candidates) × (most_interfaces < length (joined names (asked_by_all cs))))
-Refuses told f g req p stored (fault.TooManyCandidates limit) =
+Refuses told req p stored (fault.TooManyCandidates limit) =
     (limit ≡ most_candidates) × ((done : List Interface) × (names : Uris) × (interface : Uri) × (feeds : List Feed)
     × Finds told req p stored done names interface feeds × (most_candidates < candidates_in done + length (admitted req p stored interface feeds)))
-Refuses told f g req p stored (fault.TooManyFeeds limit) =
+Refuses told req p stored (fault.TooManyFeeds limit) =
     (limit ≡ most_feeds) × ((uri : Uri) × (got : Uris) × ComesTo told req p stored uri got × (length got ≡ most_feeds))
-Refuses told f g req p stored fault.Memory = Unit {0}
+Refuses told req p stored fault.Memory = (uris : Uris) × AreFirst told req p stored uris
 
 -- these are all the interfaces, over the feeds that they reach
 pub record Loads (told : Option Holding) (req : Requirement) (p : Policy) (stored : Store) (is : List Interface) : Type 0 where
@@ -150,3 +173,43 @@ pub record Loads (told : Option Holding) (req : Requirement) (p : Policy) (store
   pub groups : List Uris
   pub universe : IsUniverse at req p stored groups is
   pub read : AreRead told req.interface at (reached groups)
+
+-- What a loading asks for on the outside.
+
+-- a loading's task: a requirement, under a policy, beside the trees that are stored
+pub record Task : Type 0 where
+  pub req : Requirement
+  pub policy : Policy
+  pub stored : Store
+
+-- these addresses were asked for, in their order, and no call failed
+pub record AreAsked (uris : Uris) (old new : Feeding) : Type 0 where
+  pub asks : Asks uris old new
+  pub faults : new.faults ≡ old.faults
+
+-- the universe of a task was loaded: the feeds that it reaches were asked for, each once, in their order, and no call failed
+pub record LoadsAsking (task : Task) (old : Feeding) (is : List Interface) (new : Feeding) : Type 0 where
+  pub loads : Loads (holding old) task.req task.policy task.stored is
+  pub asked : AreAsked (reached loads.groups) old new
+
+-- what a refused loading asks for: the feeds that it had got, and behind them the one at which it stopped
+abbrev pub asked_until : (told : Option Holding) (req : Requirement) (p : Policy) (stored : Store) (e : LoadFault) → Refuses told req p stored e → Uris
+asked_until told req p stored (fault.FeedRead uri) r = r.0 ++ uri ∷ []
+asked_until told req p stored fault.NoRootFeed r = r.0.0 ++ req.interface ∷ []
+asked_until told req p stored (fault.BadFeed uri why) r = r.0.0 ++ uri ∷ []
+asked_until told req p stored (fault.FeedTooLong uri limit) r = r.0.0 ++ uri ∷ []
+asked_until told req p stored (fault.TooManyInterfaces limit) r = let finds = r.1.5 in reached (finds.groups ++ finds.here ∷ [])
+asked_until told req p stored (fault.TooManyCandidates limit) r = let finds = r.1.4 in reached (finds.groups ++ finds.here ∷ [])
+asked_until told req p stored (fault.TooManyFeeds limit) r = r.1.1
+asked_until told req p stored fault.Memory r = r.0
+
+-- the count rises exactly where a call failed
+abbrev pub CountsFault : LoadFault → ℕ → ℕ → Type 0
+CountsFault (fault.FeedRead uri) before after = Rose before after
+CountsFault e before after = after ≡ before
+
+-- the loading of a task was refused: the feeds up to the one at which it stopped were asked for, each once, in their order
+pub record RefusesAsking (task : Task) (old : Feeding) (e : LoadFault) (new : Feeding) : Type 0 where
+  pub cause : Refuses (holding old) task.req task.policy task.stored e
+  pub asks : Asks (asked_until (holding old) task.req task.policy task.stored e cause) old new
+  pub count : CountsFault e old.faults new.faults

@@ -6,7 +6,7 @@ use Rattle.zi_policy.specs.declared.types.Policy.{Policy}
 use Rattle.zi_policy.specs.Platform.{listed}
 use Rattle.zi_feed.specs.declared.feed.Feed.{Feed}
 use Rattle.zi_outside.specs.Count.{Rose}
-use Rattle.zi_outside.specs.Outside.{Holding}
+use Rattle.zi_outside.specs.Views.{Holding}
 use Rattle.zi_universe.specs.declared.types.Requirement.{Requirement}
 use Rattle.zi_universe.specs.declared.types.Interface.{Interface}
 use Rattle.zi_universe.specs.declared.types.Candidate.{Candidate}
@@ -33,26 +33,26 @@ RefusesBytes uri bytes fault.Memory = Unit {0}
 RefusesBytes uri bytes e = ⊥
 
 -- the feed at an address is refused
-abbrev pub RefusesFeed : Option Holding → ℕ → ℕ → Uri → Uri → LoadFault → Type 0
-RefusesFeed told f g root uri (fault.FeedRead u) = (u ≡ uri) × Rose f g
-RefusesFeed told f g root uri fault.NoRootFeed = (uri ≡ root) × IsHeld told uri None
-RefusesFeed told f g root uri (fault.BadFeed u why) =
+abbrev pub RefusesFeed : Option Holding → Uri → Uri → LoadFault → Type 0
+RefusesFeed told root uri (fault.FeedRead u) = u ≡ uri
+RefusesFeed told root uri fault.NoRootFeed = (uri ≡ root) × IsHeld told uri None
+RefusesFeed told root uri (fault.BadFeed u why) =
     (u ≡ uri) × ((bytes : List ℕ) × IsHeld told uri (Some bytes) × (length bytes ≤ feed_limit) × HasFault uri bytes why)
-RefusesFeed told f g root uri (fault.FeedTooLong u limit) =
+RefusesFeed told root uri (fault.FeedTooLong u limit) =
     (u ≡ uri) × (limit ≡ feed_limit) × IfSome told (λ holds. IsSomeAnd (holds uri) (λ bytes. feed_limit < length bytes))
-RefusesFeed told f g root uri fault.Memory = Unit {0}
-RefusesFeed told f g root uri e = ⊥
+RefusesFeed told root uri fault.Memory = Unit {0}
+RefusesFeed told root uri e = ⊥
 
 -- one feed more, after so many, is refused
-abbrev pub RefusesNext : Option Holding → ℕ → ℕ → Uri → ℕ → Uri → LoadFault → Type 0
-RefusesNext told f g root got uri (fault.TooManyFeeds limit) = (limit ≡ most_feeds) × (got ≡ most_feeds)
-RefusesNext told f g root got uri e = (got < most_feeds) × RefusesFeed told f g root uri e
+abbrev pub RefusesNext : Option Holding → Uri → ℕ → Uri → LoadFault → Type 0
+RefusesNext told root got uri (fault.TooManyFeeds limit) = (limit ≡ most_feeds) × (got ≡ most_feeds)
+RefusesNext told root got uri e = (got < most_feeds) × RefusesFeed told root uri e
 
 -- One feed.
 
-abbrev pub Fetches : Option Holding → ℕ → ℕ → Uri → Uri → Result Feed LoadFault → Type 0
-Fetches told f g root uri (Ok feed) = (feed.uri ≡ uri) × IsRead told root uri feed
-Fetches told f g root uri (Err e) = RefusesFeed told f g root uri e
+abbrev pub Fetches : Option Holding → Uri → Uri → Result Feed LoadFault → Type 0
+Fetches told root uri (Ok feed) = (feed.uri ≡ uri) × IsRead told root uri feed
+Fetches told root uri (Err e) = RefusesFeed told root uri e
 
 -- the feed at an address was got, unless it was there
 pub record GetsOnce (told : Option Holding) (root uri : Uri) (old new : List Feed) : Type 0 where
@@ -63,9 +63,9 @@ pub record GetsOnce (told : Option Holding) (root uri : Uri) (old new : List Fee
   pub few : length old ≤ most_feeds → length new ≤ most_feeds
 
 -- it wasn't there, and was refused
-pub record StopsOnce (told : Option Holding) (f g : ℕ) (root uri : Uri) (old : List Feed) (e : LoadFault) : Type 0 where
+pub record StopsOnce (told : Option Holding) (root uri : Uri) (old : List Feed) (e : LoadFault) : Type 0 where
   pub new : listed uri (addresses old) ≡ false
-  pub refused : RefusesNext told f g root (length old) uri e
+  pub refused : RefusesNext told root (length old) uri e
 
 -- The feeds of an interface.
 
@@ -79,14 +79,14 @@ pub record HasListed (told : Option Holding) (root : Uri) (p : Policy) (interfac
   pub few : length fs ≤ most_feeds
 
 -- the next of them is refused
-pub record StopsListing (told : Option Holding) (f g : ℕ) (root : Uri) (p : Policy) (interface : Uri) (start : List Feed) (e : LoadFault) : Type 0 where
+pub record StopsListing (told : Option Holding) (root : Uri) (p : Policy) (interface : Uri) (start : List Feed) (e : LoadFault) : Type 0 where
   pub here : Uris
   pub n : ℕ
   pub fs : List Feed
   pub listed : HasListed told root p interface start here n fs
   pub uri : Uri
   pub turn : slice_get here n ≡ Some uri
-  pub stops : StopsOnce told f g root uri fs e
+  pub stops : StopsOnce told root uri fs e
 
 -- The feeds of an interface were found, and this is what they offer for it.
 pub record Gathers (told : Option Holding) (req : Requirement) (p : Policy) (stored : Store) (interface : Uri) (start : List Feed) (offered : List Candidate) (fs : List Feed) : Type 0 where

@@ -3,7 +3,7 @@ use Rattle.std.specs.Prelude.{◌≡◌, List, [], map, find, bytes_eq, Option, 
 use Rattle.std.specs.List.{filter_map}
 use Rattle.zi_policy.specs.declared.types.Policy.{Policy}
 use Rattle.zi_feed.specs.declared.feed.Feed.{Feed}
-use Rattle.zi_outside.specs.Outside.{Holding}
+use Rattle.zi_outside.specs.Views.{Holding}
 use Rattle.zi_universe.specs.Naming.{Uri, Uris}
 use Rattle.zi_universe.specs.Candidates.{imports_of}
 use Rattle.zi_universe.specs.Loading.{IsRead, Reading}

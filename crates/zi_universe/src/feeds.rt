@@ -1,15 +1,18 @@
 //! The feeds of an interface: its own, and what these import, each got once.
-ghost use Rattle.std.specs.Prelude.{◌≡◌, ◌<◌, ◌≤◌, false, length, MatchResult, OnOk};
+ghost use Rattle.std.specs.Prelude.{◌≡◌, ◌<◌, ◌≤◌, ◌∷◌, [], false, length, MatchResult, OnOk};
 ghost use Rattle.zi_policy.specs.Platform.{listed};
+ghost use Rattle.zi_outside.specs.Views.{holding};
 ghost use Rattle.zi_universe.specs.Naming.{joined};
 ghost use Rattle.zi_universe.specs.Whole.{most_feeds};
+ghost use Rattle.zi_universe.specs.Loading.{AreAsked};
 ghost use Rattle.zi_universe.specs.Tables.{addresses, imports_at};
-ghost use Rattle.zi_universe.specs.Stages.{GetsOnce, RefusesNext, StopsOnce, HasListed, StopsListing, UnlessMemory};
-ghost use Rattle.zi_universe.specs.Listing.{ListsNext, StopsNext};
+ghost use Rattle.zi_universe.specs.Stages.{GetsOnce, RefusesNext, StopsOnce, HasListed};
+ghost use Rattle.zi_universe.specs.Listing.{ListsNext};
+ghost use Rattle.zi_universe.specs.Asked.{unless_there, StopsAt, GetsMore, LeavesNext, LeavesListing};
 
 use crate::fault::LoadFault;
 use crate::limits::MOST_FEEDS;
-use crate::naming::{add_imports, single};
+use crate::naming::{add_imports, copy_at, single};
 use crate::reading::fetch;
 use crate::table::FeedTable;
 use indexmap::IndexSet;
@@ -28,10 +31,9 @@ fn get_new<F: Feeds>(
 ) -> Result<(), LoadFault>
     requires few { length table.old ≤ most_feeds }
     requires new { listed uri.now (addresses table.old) ≡ false }
-    ensures got { MatchResult result (λ _. GetsOnce (F.holds feeds.old) root.now uri.now table.old table.new)
-        (RefusesNext (F.holds feeds.old) (F.faults feeds.old) (F.faults feeds.new) root.now (length table.old) uri.now) }
-    ensures holds { F.holds feeds.new ≡ F.holds feeds.old }
-    ensures count { F.faults feeds.old ≤ F.faults feeds.new }
+    ensures got { MatchResult result (λ _. GetsOnce (holding (F.seen feeds.old)) root.now uri.now table.old table.new)
+        (RefusesNext (holding (F.seen feeds.old)) root.now (length table.old) uri.now) }
+    ensures asks { MatchResult result (λ _. AreAsked (uri.now ∷ []) (F.seen feeds.old) (F.seen feeds.new)) (λ e. StopsAt uri.now (F.seen feeds.old) e (F.seen feeds.new)) }
 {
     if table.len() == MOST_FEEDS {
         let limit = MOST_FEEDS as u64;
@@ -51,10 +53,9 @@ fn get_once<F: Feeds>(
     feeds: &mut F,
 ) -> Result<(), LoadFault>
     requires { length table.old ≤ most_feeds }
-    ensures got { MatchResult result (λ _. GetsOnce (F.holds feeds.old) root.now uri.now table.old table.new)
-        (StopsOnce (F.holds feeds.old) (F.faults feeds.old) (F.faults feeds.new) root.now uri.now table.old) }
-    ensures holds { F.holds feeds.new ≡ F.holds feeds.old }
-    ensures count { F.faults feeds.old ≤ F.faults feeds.new }
+    ensures got { MatchResult result (λ _. GetsOnce (holding (F.seen feeds.old)) root.now uri.now table.old table.new)
+        (StopsOnce (holding (F.seen feeds.old)) root.now uri.now table.old) }
+    ensures asks { MatchResult result (λ _. AreAsked (unless_there uri.now (addresses table.old)) (F.seen feeds.old) (F.seen feeds.new)) (λ e. StopsAt uri.now (F.seen feeds.old) e (F.seen feeds.new)) }
 {
     if table.has(uri) {
         return Ok(());
@@ -91,12 +92,11 @@ fn list_next<F: Feeds>(
     requires there { place < length here.old.keys }
     requires few { length table.old ≤ most_feeds }
     ensures next { MatchResult result
-        (λ _. ListsNext (F.holds feeds.old) root.now policy.now place here.old.keys here.new.keys table.old table.new)
-        (λ e. UnlessMemory e (StopsNext (F.holds feeds.old) (F.faults feeds.old) (F.faults feeds.new) root.now place here.old.keys table.old e)) }
-    ensures holds { F.holds feeds.new ≡ F.holds feeds.old }
-    ensures count { F.faults feeds.old ≤ F.faults feeds.new }
+        (λ _. ListsNext (holding (F.seen feeds.old)) root.now policy.now place here.old.keys here.new.keys table.old table.new)
+        (λ e. LeavesNext (holding (F.seen feeds.old)) root.now place here.old.keys table.old (F.seen feeds.old) e (F.seen feeds.new)) }
+    ensures asks { OnOk result (GetsMore (addresses table.old) (addresses table.new) (F.seen feeds.old) (F.seen feeds.new)) }
 {
-    let uri = here.as_slice()[place].copy(alloc)?;
+    let uri = copy_at(alloc, here, place)?;
     get_once(alloc, root, &uri, table, feeds)?;
     follow(alloc, policy, table, &uri, here)?;
     Ok(())
@@ -113,10 +113,9 @@ pub fn list_feeds<F: Feeds>(
 ) -> Result<IndexSet<Text>, LoadFault>
     requires { length table.old ≤ most_feeds }
     ensures listed { MatchResult result
-        (λ here. HasListed (F.holds feeds.old) root.now policy.now interface.now table.old here.keys (length here.keys) table.new)
-        (λ e. UnlessMemory e (StopsListing (F.holds feeds.old) (F.faults feeds.old) (F.faults feeds.new) root.now policy.now interface.now table.old e)) }
-    ensures holds { F.holds feeds.new ≡ F.holds feeds.old }
-    ensures count { F.faults feeds.old ≤ F.faults feeds.new }
+        (λ here. HasListed (holding (F.seen feeds.old)) root.now policy.now interface.now table.old here.keys (length here.keys) table.new)
+        (λ e. LeavesListing (holding (F.seen feeds.old)) root.now policy.now interface.now table.old (F.seen feeds.old) e (F.seen feeds.new)) }
+    ensures asks { OnOk result (GetsMore (addresses table.old) (addresses table.new) (F.seen feeds.old) (F.seen feeds.new)) }
 {
     let mut here = single(alloc, interface)?;
     let mut n = 0;

@@ -1,14 +1,17 @@
 //! The loading, interface by interface.
-ghost use Rattle.std.specs.Prelude.{◌≡◌, ◌+◌, ◌<◌, ◌≤◌, length, slice_get, Some, IfOk, IfErr, MatchResult};
+ghost use Rattle.std.specs.Prelude.{◌≡◌, ◌+◌, ◌<◌, ◌≤◌, length, slice_get, Some, IfOk, IfErr, OnOk, MatchResult};
+ghost use Rattle.zi_outside.specs.Views.{holding};
 ghost use Rattle.zi_universe.specs.Naming.{in_set};
 ghost use Rattle.zi_universe.specs.Whole.{BeginsWith, most_feeds, most_candidates};
-ghost use Rattle.zi_universe.specs.Loading.{names_of, Loads, Refuses};
-ghost use Rattle.zi_universe.specs.Stages.{UnlessMemory, StopsListing, Gathers, IsAt, IsBegun, Finishes, StopsFinishing, LoadsNext};
+ghost use Rattle.zi_universe.specs.Tables.{addresses};
+ghost use Rattle.zi_universe.specs.Loading.{names_of, LoadsAsking, RefusesAsking};
+ghost use Rattle.zi_universe.specs.Stages.{Gathers, IsAt, IsBegun, Finishes, StopsFinishing, LoadsNext};
+ghost use Rattle.zi_universe.specs.Asked.{GetsMore, LeavesListing, StopsLoading};
 
 use crate::fault::LoadFault;
 use crate::feeds::list_feeds;
 use crate::limits::{MOST_CANDIDATES, MOST_INTERFACES};
-use crate::naming::{add_asked, single, spelled};
+use crate::naming::{add_asked, copy_at, single, spelled};
 use crate::offers::{Wanted, gather};
 use crate::ranking::rank;
 use crate::table::FeedTable;
@@ -75,14 +78,6 @@ fn finish(
     Ok(())
 }
 
-// The address at a place, once more.
-fn copy_at(alloc: Global, names: &IndexSet<Text>, place: usize) -> Result<Text, Memory>
-    requires { place < length names.now.keys }
-    ensures { IfOk result (λ name. slice_get names.now.keys place ≡ Some name) }
-{
-    names.as_slice()[place].copy(alloc)
-}
-
 // What the feeds of an interface, which are got first, offer for it.
 fn look_for<F: Feeds>(
     alloc: Global,
@@ -93,10 +88,9 @@ fn look_for<F: Feeds>(
 ) -> Result<Vec<Candidate>, LoadFault>
     requires { length table.old ≤ most_feeds }
     ensures gathers { MatchResult result
-        (λ cs. Gathers (F.holds feeds.old) wanted.now.req.now wanted.now.policy.now (in_set wanted.now.stored.keys) uri.now table.old cs.items table.new)
-        (λ e. UnlessMemory e (StopsListing (F.holds feeds.old) (F.faults feeds.old) (F.faults feeds.new) wanted.now.req.now.interface wanted.now.policy.now uri.now table.old e)) }
-    ensures holds { F.holds feeds.new ≡ F.holds feeds.old }
-    ensures count { F.faults feeds.old ≤ F.faults feeds.new }
+        (λ cs. Gathers (holding (F.seen feeds.old)) wanted.now.req.now wanted.now.policy.now (in_set wanted.now.stored.keys) uri.now table.old cs.items table.new)
+        (λ e. LeavesListing (holding (F.seen feeds.old)) wanted.now.req.now.interface wanted.now.policy.now uri.now table.old (F.seen feeds.old) e (F.seen feeds.new)) }
+    ensures asks { OnOk result (GetsMore (addresses table.old) (addresses table.new) (F.seen feeds.old) (F.seen feeds.new)) }
 {
     let here = list_feeds(
         alloc,
@@ -117,13 +111,12 @@ fn load_next<F: Feeds>(
     state: &mut Loading,
     feeds: &mut F,
 ) -> Result<(), LoadFault>
-    requires at { IsAt (F.holds feeds.old) wanted.now.req.now wanted.now.policy.now (in_set wanted.now.stored.keys) state.old }
+    requires at { IsAt (holding (F.seen feeds.old)) wanted.now.req.now wanted.now.policy.now (in_set wanted.now.stored.keys) state.old }
     requires more { length state.old.done < length state.old.names.keys }
     ensures next { MatchResult result
-        (λ _. LoadsNext (F.holds feeds.old) wanted.now.req.now wanted.now.policy.now (in_set wanted.now.stored.keys) state.old state.new)
-        (Refuses (F.holds feeds.old) (F.faults feeds.old) (F.faults feeds.new) wanted.now.req.now wanted.now.policy.now (in_set wanted.now.stored.keys)) }
-    ensures holds { F.holds feeds.new ≡ F.holds feeds.old }
-    ensures count { F.faults feeds.old ≤ F.faults feeds.new }
+        (λ _. LoadsNext (holding (F.seen feeds.old)) wanted.now.req.now wanted.now.policy.now (in_set wanted.now.stored.keys) state.old state.new)
+        (λ e. StopsLoading (holding (F.seen feeds.old)) wanted.now.req.now wanted.now.policy.now (in_set wanted.now.stored.keys) (addresses state.old.table) (F.seen feeds.old) e (F.seen feeds.new)) }
+    ensures asks { OnOk result (GetsMore (addresses state.old.table) (addresses state.new.table) (F.seen feeds.old) (F.seen feeds.new)) }
 {
     let uri = copy_at(alloc, &state.names, state.done.len())?;
     let candidates = look_for(alloc, wanted, &uri, &mut state.table, feeds)?;
@@ -137,10 +130,8 @@ fn load_all<F: Feeds>(
     feeds: &mut F,
 ) -> Result<List<Interface>, LoadFault>
     ensures all { MatchResult result
-        (Loads (F.holds feeds.old) wanted.now.req.now wanted.now.policy.now (in_set wanted.now.stored.keys))
-        (Refuses (F.holds feeds.old) (F.faults feeds.old) (F.faults feeds.new) wanted.now.req.now wanted.now.policy.now (in_set wanted.now.stored.keys)) }
-    ensures holds { F.holds feeds.new ≡ F.holds feeds.old }
-    ensures count { F.faults feeds.old ≤ F.faults feeds.new }
+        (λ is. LoadsAsking (record { req = wanted.now.req.now; policy = wanted.now.policy.now; stored = in_set wanted.now.stored.keys }) (F.seen feeds.old) is (F.seen feeds.new))
+        (λ e. RefusesAsking (record { req = wanted.now.req.now; policy = wanted.now.policy.now; stored = in_set wanted.now.stored.keys }) (F.seen feeds.old) e (F.seen feeds.new)) }
 {
     let mut state = begin(alloc, wanted.req)?;
     while state.done.len() < state.names.len() {
@@ -165,11 +156,9 @@ pub fn load<F: Feeds>(
     stored: &[DigestName],
     feeds: &mut F,
 ) -> Result<Universe, LoadFault>
-    ensures loads { IfOk result (λ u. Loads (F.holds feeds.old) req.now policy.now (names_of stored.now) u) }
-    ensures refuses { IfErr result (λ e. Refuses (F.holds feeds.old) (F.faults feeds.old) (F.faults feeds.new) req.now policy.now (names_of stored.now) e) }
+    ensures loads { IfOk result (λ u. LoadsAsking (record { req = req.now; policy = policy.now; stored = names_of stored.now }) (F.seen feeds.old) u (F.seen feeds.new)) }
+    ensures refuses { IfErr result (λ e. RefusesAsking (record { req = req.now; policy = policy.now; stored = names_of stored.now }) (F.seen feeds.old) e (F.seen feeds.new)) }
     ensures rooted { IfOk result (λ u. BeginsWith u req.now.interface) }
-    ensures holds { F.holds feeds.new ≡ F.holds feeds.old }
-    ensures count { F.faults feeds.old ≤ F.faults feeds.new }
 {
     let stored = spelled(alloc, stored)?;
     let wanted = Wanted {

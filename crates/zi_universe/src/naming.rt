@@ -1,5 +1,5 @@
 //! Addresses in the order in which they are first named.
-ghost use Rattle.std.specs.Prelude.{◌≡◌, ◌∷◌, [], ◌++◌, OnOk, IfOk, map, filter};
+ghost use Rattle.std.specs.Prelude.{◌≡◌, ◌<◌, ◌∷◌, [], ◌++◌, OnOk, IfOk, Some, length, slice_get, map, filter};
 ghost use Rattle.std.specs.List.{flat_map};
 ghost use Rattle.zi_digest.specs.Name.{spelling};
 ghost use Rattle.zi_universe.specs.Naming.{with_one, joined, without_repeats};
@@ -32,6 +32,14 @@ pub fn single(alloc: Global, name: &Text) -> Result<IndexSet<Text>, Memory>
     let mut names = IndexSet::new(alloc);
     names.insert(name.copy(alloc)?)?;
     Ok(names)
+}
+
+/// The address at a place, once more.
+pub fn copy_at(alloc: Global, names: &IndexSet<Text>, place: usize) -> Result<Text, Memory>
+    requires { place < length names.now.keys }
+    ensures { IfOk result (λ name. slice_get names.now.keys place ≡ Some name) }
+{
+    names.as_slice()[place].copy(alloc)
 }
 
 // Adds the name of a digest.

@@ -1,11 +1,13 @@
-use Rattle.zi_app.proofs.AddingLemmas.{tree_keeps}
+use Rattle.zi_app.proofs.AddingLemmas.{added, not_added}
 use Rattle.zi_app.proofs.adding.add.Goals as goal
 
-pub returns-in-Ok-clause-keeps : goal.returns-in-Ok-clause-keeps
-returns-in-Ok-clause-keeps g c =
-    let k = c.args.shelf.now in
-    let l = c.add_tree.new.shelf in
-    let o = c.args.out.now in
-    let p = c.add_tree.new.out in
-    tree_keeps c.args.name (g.K.Shelf.honest k) (g.K.Shelf.sure k) (g.K.Shelf.told k) (g.K.Shelf.told l) (g.K.Shelf.faults k) (g.K.Shelf.faults l) (g.O.Sink.faults o) (g.O.Sink.faults p) (g.O.Sink.written o) (g.O.Sink.written p)
-    c.in-Ok.tree c.add_tree.result c.add_tree.ensures.adds
+pub returns-in-Ok : goal.returns-in-Ok
+returns-in-Ok g c =
+    added c.args.name c.args.files (g.F.Feeds.seen c.args.feeds.now) (g.F.Feeds.seen c.gather.new.feeds)
+    (record { shelf = g.K.Shelf.seen c.args.shelf.now; out = g.O.Sink.seen c.args.out.now }) (record { shelf = g.K.Shelf.seen c.add_tree.new.shelf; out = g.O.Sink.seen c.add_tree.new.out })
+    c.in-Ok.tree c.add_tree.result (rw c.as_slice.ensures at c.in-Ok.ensures) c.add_tree.ensures
+
+pub returns : goal.returns
+returns g c =
+    not_added c.args.name c.args.files (g.F.Feeds.seen c.args.feeds.now) (g.F.Feeds.seen c.gather.new.feeds)
+    (record { shelf = g.K.Shelf.seen c.args.shelf.now; out = g.O.Sink.seen c.args.out.now }) c.in-Err.fault c.refused_files.result (rw c.as_slice.ensures at c.in-Err.ensures) c.refused_files.ensures

@@ -1,10 +1,10 @@
 use Rattle.zi_app.proofs.line.put_measure.Goals as goal
 
-pub returns-in-Size-clause-puts : goal.returns-in-Size-clause-puts
-returns-in-Size-clause-puts g c = rw c.in-Size.is c.put_around.ensures.puts
+pub returns-in-Size : goal.returns-in-Size
+returns-in-Size g c = rw c.in-Size.is c.put_around.ensures
 
-pub returns-in-Nodes-clause-puts : goal.returns-in-Nodes-clause-puts
-returns-in-Nodes-clause-puts g c = rw c.in-Nodes.is c.put_around-in-Nodes.ensures.puts
+pub returns-in-Nodes : goal.returns-in-Nodes
+returns-in-Nodes g c = rw c.in-Nodes.is c.put_around-in-Nodes.ensures
 
-pub returns-in-Depth-clause-puts : goal.returns-in-Depth-clause-puts
-returns-in-Depth-clause-puts g c = rw c.in-Depth.is c.put_around-in-Depth.ensures.puts
+pub returns-in-Depth : goal.returns-in-Depth
+returns-in-Depth g c = rw c.in-Depth.is c.put_around-in-Depth.ensures

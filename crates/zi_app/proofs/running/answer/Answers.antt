@@ -1,8 +1,17 @@
-use Rattle.zi_app.proofs.StoreLemmas.{names_read}
+use Rattle.zi_app.proofs.RunLemmas.{shows}
 use Rattle.zi_app.proofs.running.answer.Goals as goal
 
-pub returns-in-Select-default-false-clause-shelf : goal.returns-in-Select-default-false-clause-shelf
-returns-in-Select-default-false-clause-shelf g c = rw c.in-Select-default-false.is (names_read c.select.ensures.keeps)
+pub returns-in-Manifest : goal.returns-in-Manifest
+returns-in-Manifest g c = rw c.in-Manifest.is (c.manifest.ensures (g.F.Feeds.seen c.args.feeds.now))
 
-pub returns-in-Names-clause-shelf : goal.returns-in-Names-clause-shelf
-returns-in-Names-clause-shelf g c = rw c.in-Names.is (names_read c.list.ensures.keeps)
+pub returns-in-Verify : goal.returns-in-Verify
+returns-in-Verify g c = rw c.in-Verify.is (c.verify_tree.ensures (g.F.Feeds.seen c.args.feeds.now))
+
+pub returns-in-Names : goal.returns-in-Names
+returns-in-Names g c = rw c.in-Names.is (c.list.ensures (g.F.Feeds.seen c.args.feeds.now))
+
+pub returns-in-Help : goal.returns-in-Help
+returns-in-Help g c = rw c.in-Help.is (shows _ _ (record { feeds = g.F.Feeds.seen c.args.feeds.now; shelf = g.K.Shelf.seen c.args.shelf.now; out = g.O.Sink.seen c.args.out.now }) (g.O.Sink.seen c.put_text.new.out) c.put_text.result c.as_bytes.ensures.value c.put_text.ensures)
+
+pub returns-in-Version : goal.returns-in-Version
+returns-in-Version g c = rw c.in-Version.is (shows _ _ (record { feeds = g.F.Feeds.seen c.args.feeds.now; shelf = g.K.Shelf.seen c.args.shelf.now; out = g.O.Sink.seen c.args.out.now }) (g.O.Sink.seen c.put_text-in-Version.new.out) c.put_text-in-Version.result c.as_bytes-in-Version.ensures.value c.put_text-in-Version.ensures)

@@ -1,4 +1,4 @@
-use Rattle.std.proofs.Common.{◌≡◌, ◌≤◌, ◌<◌, true, false, ◌++◌, ap, sym, ◌∙◌, rules, arith, length, vec_len, length-append, subst}
+use Rattle.std.proofs.Common.{◌≡◌, refl, ◌≤◌, ◌<◌, true, false, ◌++◌, ap, sym, ◌∙◌, rules, arith, length, vec_len, length-append, subst}
 use Rattle.std.proofs.lemmas.Bool.{MatchBool-at_true, MatchBool-at_false}
 use Rattle.zi_store.specs.Keeping.{is_reading}
 use Rattle.zi_store.specs.Entries.{IsFront}
@@ -7,13 +7,14 @@ use Rattle.zi_store.proofs.bytes.read_bytes.Goals as goal
 
 pub loop-bytes-init : goal.loop-bytes-init
 loop-bytes-init g c = (
-  keeps_none is_reading _ _ _ _ _ _,
+  keeps_none is_reading _,
   λ all exec mtime st. (all, ap (λ l. l ++ all) c.new-bytes.ensures.items),
+  refl,
 )
 
 pub returns-in_err-read_more-clause-sure : goal.returns-in_err-read_more-clause-sure
 returns-in_err-read_more-clause-sure g c sure bytes exec mtime st e =
-    c.in_err-read_more.ensures.sure (c.loop-bytes.invariant.0.sure sure) bytes exec mtime (node_later c.loop-bytes.invariant.0 st) (search (rules, e))
+    c.in_err-read_more.ensures.sure (c.loop-bytes.invariant.0.stays.sure sure) bytes exec mtime (node_later c.loop-bytes.invariant.0 st) (search (rules, e))
 
 pub returns-then-not-branch-clause-bytes : goal.returns-then-not-branch-clause-bytes
 returns-then-not-branch-clause-bytes g c bytes exec mtime st =
@@ -29,6 +30,7 @@ loop-bytes-preserved g c = (
   λ all exec mtime st.
       let more : c.in_ok-read_more.field-0 ≡ true = search (rules, c.if-not-branch.false) in
       MatchBool-at_true (IsFront c.read_more.new.bytes.items all) (c.loop-bytes.bytes.items ≡ all) more (c.in_ok-read_more.ensures.front all exec mtime (node_later c.loop-bytes.invariant.0 st) (c.loop-bytes.invariant.1 all exec mtime st)),
+  c.in_ok-read_more.ensures.count (λ e. cc e) ∙ c.loop-bytes.invariant.2,
 )
 
 pub returns-clause-bytes : goal.returns-clause-bytes

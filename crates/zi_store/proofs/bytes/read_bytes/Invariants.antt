@@ -1,4 +1,4 @@
-use Rattle.std.proofs.Common.{ℕ, ℤ, ◌-◌, ◌+◌, Bool, List, vec_len}
+use Rattle.std.proofs.Common.{◌≡◌, ℕ, ℤ, ◌-◌, ◌+◌, Bool, List, vec_len}
 use Rattle.zi_tree.specs.declared.tree.TreeNode.TheVariants.{File}
 use Rattle.zi_store.specs.Keeping.{Keeps, is_reading}
 use Rattle.zi_store.specs.Standing.{StandsNode}
@@ -7,8 +7,9 @@ use Rattle.zi_store.proofs.bytes.read_bytes.Given as goal
 
 abbrev pub invariant-loop-bytes : goal.invariant-loop-bytes
 invariant-loop-bytes g l =
-    Keeps is_reading (g.K.Shelf.honest l.fn.k) (g.K.Shelf.honest l.k) (g.K.Shelf.told l.fn.k) (g.K.Shelf.told l.k) (g.K.Shelf.faults l.fn.k) (g.K.Shelf.faults l.k) (g.K.Shelf.sure l.fn.k) (g.K.Shelf.sure l.k) (g.K.Shelf.place l.fn.k) (g.K.Shelf.place l.k) (g.K.Shelf.plan l.fn.k) (g.K.Shelf.plan l.k)
-    × ((all : List ℕ) (exec : Bool) (mtime : ℤ) → StandsNode (g.K.Shelf.honest l.fn.k) (g.K.Shelf.told l.fn.k) l.top l.path (File all exec mtime) → IsFront l.bytes.items all)
+    Keeps is_reading (g.K.Shelf.seen l.fn.k) (g.K.Shelf.seen l.k)
+    × ((all : List ℕ) (exec : Bool) (mtime : ℤ) → StandsNode ((g.K.Shelf.seen l.fn.k).honest) ((g.K.Shelf.seen l.fn.k).told) l.top l.path (File all exec mtime) → IsFront l.bytes.items all)
+    × ((g.K.Shelf.seen l.k).faults ≡ (g.K.Shelf.seen l.fn.k).faults)
 
 abbrev pub decreases-loop-bytes : goal.decreases-loop-bytes
 decreases-loop-bytes g l = (l.limit + 1) - vec_len l.bytes

@@ -12,7 +12,8 @@ use Rattle.zi_store.proofs.files.is_file.Goals as goal
 
 pub loop-i-init : goal.loop-i-init
 loop-i-init g c = record {
-  keeps = keeps_none is_reading _ _ _ _ _ _;
+  keeps = keeps_none is_reading _;
+  calm = refl;
   front = c.root-folder.ensures;
   reaches = λ s honest tells. reaches_start c.args.top.now c.as_slice-parts.result.now s.shelf;
 }
@@ -25,6 +26,7 @@ loop-i-preserved g c =
     let w = c.in_ok-inner in
     record {
       keeps = keeps_then l.invariant.keeps w.ensures.keeps;
+      calm = w.ensures.count (λ e. cc e) ∙ l.invariant.calm;
       front = w.ensures.path c.in-Into.inner (ap Ok c.in-Into.is) ∙ ap (λ (p : List Name). p ++ c.as_str.result.now ∷ []) l.invariant.front ∙ ap (λ (n : Name). take l.i parts ++ n ∷ []) c.as_str.ensures ∙ sym (take_next parts l.i part c.loop-i-test.true c.index-parts-i.is);
       reaches = goes_on c.args.top.now parts l.i part l.folder c.in-Into.inner w.field-0 l.invariant.keeps l.invariant.front c.loop-i-test.true c.index-parts-i.is c.in-Into.is
           (λ d st. subst (λ (n : Name). Leads (node_in n (items d)) w.field-0) c.as_str.ensures (w.ensures.way d st)) l.invariant.reaches;
@@ -77,10 +79,10 @@ returns-in_err-inner-clause-keeps g c = keeps_then c.loop-i.invariant.keeps c.in
 pub returns-in_err-inner-clause-cause : goal.returns-in_err-inner-clause-cause
 returns-in_err-inner-clause-cause g c failed =
     let p = err_from_is_err_and c.from_residual.result c.from_residual.ensures.1 in
-    rose_later (g.K.Shelf.faults c.args.k.now) (g.K.Shelf.faults c.loop-i.k) (g.K.Shelf.faults c.way_from.new.k) c.loop-i.invariant.keeps.later (c.in_err-inner.ensures.cause (cc (p.1, p.2, failed)))
+    rose_later ((g.K.Shelf.seen c.args.k.now).faults) ((g.K.Shelf.seen c.loop-i.k).faults) ((g.K.Shelf.seen c.way_from.new.k).faults) c.loop-i.invariant.keeps.later (c.in_err-inner.ensures.cause (cc (p.1, p.2, failed)))
 
 pub returns-in_err-inner-clause-sure : goal.returns-in_err-inner-clause-sure
 returns-in_err-inner-clause-sure g c sure failed =
     let l = c.loop-i in
     let p = err_from_is_err_and c.from_residual.result c.from_residual.ensures.1 in
-    c.in_err-inner.ensures.sure (l.invariant.keeps.sure sure) (fits_next c.args.top.now c.as_slice-parts.result.now l.i l.folder l.invariant.keeps l.invariant.front (g.met.K.Shelf.sure_is c.args.k.now sure) l.invariant.reaches) (cc (p.1, p.2, failed))
+    c.in_err-inner.ensures.sure (l.invariant.keeps.stays.sure sure) (fits_next c.args.top.now c.as_slice-parts.result.now l.i l.folder l.invariant.keeps l.invariant.front (g.met.K.Shelf.sure_is c.args.k.now sure) l.invariant.reaches) (cc (p.1, p.2, failed))

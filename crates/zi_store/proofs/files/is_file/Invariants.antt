@@ -6,7 +6,8 @@ use Rattle.zi_store.proofs.files.is_file.Given as goal
 
 abbrev pub invariant-loop-i : goal.invariant-loop-i
 invariant-loop-i g l = record {
-  keeps : Keeps is_reading (g.K.Shelf.honest l.fn.k) (g.K.Shelf.honest l.k) (g.K.Shelf.told l.fn.k) (g.K.Shelf.told l.k) (g.K.Shelf.faults l.fn.k) (g.K.Shelf.faults l.k) (g.K.Shelf.sure l.fn.k) (g.K.Shelf.sure l.k) (g.K.Shelf.place l.fn.k) (g.K.Shelf.place l.k) (g.K.Shelf.plan l.fn.k) (g.K.Shelf.plan l.k);
+  keeps : Keeps is_reading (g.K.Shelf.seen l.fn.k) (g.K.Shelf.seen l.k);
+  calm : (g.K.Shelf.seen l.k).faults ≡ (g.K.Shelf.seen l.fn.k).faults;
   front : l.folder ≡ take l.i l.parts;
-  reaches : (s : Told) → g.K.Shelf.honest l.fn.k → g.K.Shelf.told l.fn.k ≡ Some s → Reaches l.top l.parts l.i s.shelf;
+  reaches : (s : Told) → (g.K.Shelf.seen l.fn.k).honest → (g.K.Shelf.seen l.fn.k).told ≡ Some s → Reaches l.top l.parts l.i s.shelf;
 }

@@ -28,6 +28,7 @@ read_folder-loop-entry-init g t c = (
   λ whole d st tree e.
       let w = c.in_ok-tree.ensures.walks whole d st tree e in
       filled_start c.args.depth (shown whole d) _ _ c.args.counts.now.nodes c.args.counts.now.bytes c.read_leaves.new.counts.nodes c.read_leaves.new.counts.bytes e w.0 w.1,
+  c.in_ok-tree.ensures.count (λ e. cc e),
 )
 
 pub read_folder-returns-in_err-read_inner-clause-walks : goal.read_folder-returns-in_err-read_inner-clause-walks
@@ -52,7 +53,7 @@ read_folder-returns-in_err-read_inner-clause-sure g t c sure whole d st tree e f
     let l = c.loop-entry in
     let left = left_at c.args.entries.now l.entry-index c.entry-item.result (search rules) c.entry-item.is in
     next_asks whole d c.entry-item.result _ _ (stands_later l.invariant.0 st) tree (l.invariant.1 whole d st tree e).at_ left
-    (λ x listed good. c.in_err-read_inner.ensures.sure (l.invariant.0.sure sure) x listed good (failed_passed c.from_residual-in_err-read_inner.result p.0 c.in_err-read_inner.field-0.0 p.1 p.2 f))
+    (λ x listed good. c.in_err-read_inner.ensures.sure (l.invariant.0.stays.sure sure) x listed good (failed_passed c.from_residual-in_err-read_inner.result p.0 c.in_err-read_inner.field-0.0 p.1 p.2 f))
 
 pub read_folder-loop-entry-preserved : goal.read_folder-loop-entry-preserved
 read_folder-loop-entry-preserved g t c =
@@ -62,6 +63,7 @@ read_folder-loop-entry-preserved g t c =
       λ whole d st tree e.
           filled_more c.args.depth whole d c.entry-item.result _ _ l.tree c.read_inner.new.tree c.args.counts.now.nodes c.args.counts.now.bytes l.counts.nodes l.counts.bytes c.read_inner.new.counts.nodes c.read_inner.new.counts.bytes
           (stands_later l.invariant.0 st) tree (l.invariant.1 whole d st tree e) left (λ x listed good there. (c.in_ok-read_inner.ensures.walks x listed good there).1) c.in_ok-read_inner.ensures.tree,
+      c.in_ok-read_inner.ensures.count (λ e. cc e) ∙ l.invariant.2,
     )
 
 pub read_folder-returns-clause-walks : goal.read_folder-returns-clause-walks
@@ -103,7 +105,7 @@ read_deeper-returns-clause-cause g t c e = rose_later _ _ _ c.in_ok-entries.ensu
 
 pub read_deeper-returns-clause-sure : goal.read_deeper-returns-clause-sure
 read_deeper-returns-clause-sure g t c sure inside st tree e =
-    c.read_folder.ensures.sure (c.in_ok-entries.ensures.keeps.sure sure) false inside (stands_later c.in_ok-entries.ensures.keeps st) tree (c.as_slice.ensures.value ∙ c.in_ok-entries.ensures.entries inside st tree) e
+    c.read_folder.ensures.sure (c.in_ok-entries.ensures.keeps.stays.sure sure) false inside (stands_later c.in_ok-entries.ensures.keeps st) tree (c.as_slice.ensures.value ∙ c.in_ok-entries.ensures.entries inside st tree) e
 
 pub read_inner-returns-then-not-is_folder-clause-tree : goal.read_inner-returns-then-not-is_folder-clause-tree
 read_inner-returns-then-not-is_folder-clause-tree g t c x l tree there =

@@ -19,6 +19,7 @@ decreases-read_deeper g l = 3 * (65 - l.depth) + 3
 
 abbrev pub invariant-read_folder-loop-entry : goal.invariant-read_folder-loop-entry
 invariant-read_folder-loop-entry g l =
-    Keeps is_reading (g.K.Shelf.honest l.fn.k) (g.K.Shelf.honest l.k) (g.K.Shelf.told l.fn.k) (g.K.Shelf.told l.k) (g.K.Shelf.faults l.fn.k) (g.K.Shelf.faults l.k) (g.K.Shelf.sure l.fn.k) (g.K.Shelf.sure l.k) (g.K.Shelf.place l.fn.k) (g.K.Shelf.place l.k) (g.K.Shelf.plan l.fn.k) (g.K.Shelf.plan l.k)
-    × ((whole : Bool) (d : Dir) → Stands (g.K.Shelf.honest l.fn.k) (g.K.Shelf.told l.fn.k) l.top l.path d → is_tree d ≡ true → l.entries ≡ entries_of (shown whole d)
+    Keeps is_reading (g.K.Shelf.seen l.fn.k) (g.K.Shelf.seen l.k)
+    × ((whole : Bool) (d : Dir) → Stands ((g.K.Shelf.seen l.fn.k).honest) ((g.K.Shelf.seen l.fn.k).told) l.top l.path d → is_tree d ≡ true → l.entries ≡ entries_of (shown whole d)
     → FilledTo l.depth (shown whole d) (drop l.entry-index l.entries) l.tree l.fn.counts.nodes l.fn.counts.bytes l.counts.nodes l.counts.bytes)
+    × ((g.K.Shelf.seen l.k).faults ≡ (g.K.Shelf.seen l.fn.k).faults)

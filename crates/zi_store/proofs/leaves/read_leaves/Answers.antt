@@ -1,4 +1,4 @@
-use Rattle.std.proofs.Common.{rules}
+use Rattle.std.proofs.Common.{rules, refl, ◌∙◌}
 use Rattle.std.proofs.lemmas.Result.{err_from_is_err_and}
 use Rattle.zi_manifest.specs.Walk.{shown}
 use Rattle.zi_store.specs.Keeping.{is_reading}
@@ -10,8 +10,9 @@ use Rattle.zi_store.proofs.leaves.read_leaves.Goals as goal
 
 pub loop-entry-init : goal.loop-entry-init
 loop-entry-init g c = (
-  keeps_none is_reading _ _ _ _ _ _,
+  keeps_none is_reading _,
   λ whole d st t e. read_start (shown whole d) _ _ _ _ e c.new-tree.ensures,
+  refl,
 )
 
 pub returns-in_err-add_leaf-clause-walks : goal.returns-in_err-add_leaf-clause-walks
@@ -36,7 +37,7 @@ returns-in_err-add_leaf-clause-sure g c sure whole d st t e f =
     let l = c.loop-entry in
     let left = left_at c.args.entries.now l.entry-index c.entry-item.result (search rules) c.entry-item.is in
     next_asks whole d c.entry-item.result _ _ (stands_later l.invariant.0 st) t (l.invariant.1 whole d st t e).at_ left
-    (λ x listed tree. c.in_err-add_leaf.ensures.sure (l.invariant.0.sure sure) x listed (failed_passed c.from_residual.result p.0 c.in_err-add_leaf.field-0.0 p.1 p.2 f))
+    (λ x listed tree. c.in_err-add_leaf.ensures.sure (l.invariant.0.stays.sure sure) x listed (failed_passed c.from_residual.result p.0 c.in_err-add_leaf.field-0.0 p.1 p.2 f))
 
 pub loop-entry-preserved : goal.loop-entry-preserved
 loop-entry-preserved g c =
@@ -46,6 +47,7 @@ loop-entry-preserved g c =
       λ whole d st t e.
           read_more whole d c.entry-item.result _ _ l.tree c.add_leaf.new.tree c.args.counts.now.nodes c.args.counts.now.bytes l.counts.nodes l.counts.bytes c.add_leaf.new.counts.nodes c.add_leaf.new.counts.bytes
           (stands_later l.invariant.0 st) t (l.invariant.1 whole d st t e) left (λ x listed free. (c.in_ok-add_leaf.ensures.walks x listed free).1) c.in_ok-add_leaf.ensures.tree,
+      c.in_ok-add_leaf.ensures.count (λ e. cc e) ∙ l.invariant.2,
     )
 
 pub returns-clause-walks : goal.returns-clause-walks

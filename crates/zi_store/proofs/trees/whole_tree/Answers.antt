@@ -19,6 +19,6 @@ returns-clause-tree g c s keeps e =
 pub returns-clause-sure : goal.returns-clause-sure
 returns-clause-sure g c sure failed =
     let known = g.met.K.Shelf.sure_is c.args.k.now sure in
-    let s = some_of (g.K.Shelf.told c.args.k.now) known.tells in
+    let s = some_of ((g.K.Shelf.seen c.args.k.now).told) known.tells in
     let w = whole_there c.root-path.result s.0 c.root-path.ensures (λ k. g.met.K.Shelf.holds_trees c.args.k.now k) known.keeps s.1 (c.in_ok-entries.ensures.there s.0 known.keeps s.1) in
-    c.read_folder.ensures.sure (c.in_ok-entries.ensures.keeps.sure sure) true w.entry.tree (stands_later c.in_ok-entries.ensures.keeps w.stands) w.tree (c.as_slice.ensures.value ∙ c.in_ok-entries.ensures.entries w.entry.tree w.stands w.tree) failed
+    c.read_folder.ensures.sure (c.in_ok-entries.ensures.keeps.stays.sure sure) true w.entry.tree (stands_later c.in_ok-entries.ensures.keeps w.stands) w.tree (c.as_slice.ensures.value ∙ c.in_ok-entries.ensures.entries w.entry.tree w.stands w.tree) failed

@@ -1,11 +1,25 @@
-use Rattle.std.proofs.Common.{◌≡◌, ◌+◌, length, nat_eq, false, sym, ◌∙◌, ap, subst}
-use Rattle.std.specs.List.{list_any}
-use Rattle.zi_shelf.specs.Shelved.{Did}
-use Rattle.zi_shelf.proofs.DoingLemmas.{not_planned}
+use Rattle.std.proofs.Common.{refl}
+use Rattle.zi_shelf.specs.Shelved.{Did, SettleTop, Fits}
+use Rattle.zi_shelf.proofs.DoingLemmas.{settled_top_does}
+use Rattle.zi_shelf.specs.Filling.{trees}
+use Rattle.zi_shelf.proofs.ReadingLemmas.{unplanned}
+use Rattle.zi_shelf.proofs.SeenLemmas.{done, fails, was_planned, shelf}
 use Rattle.zi_shelf.proofs.held.HeldShelf.settle_top.Goals as goal
 
-pub returns-clause-planned : goal.returns-clause-planned
-returns-clause-planned c =
+pub returns-then-is_to_fail : goal.returns-then-is_to_fail
+returns-then-is_to_fail c =
     let s = c.args.self.now in
-    not_planned s.fail.items s.entries.items s.pending.items s.calls (length c.as_slice-2.result.now + 1) Did (ap (λ l. length l + 1) c.as_slice-2.ensures)
-    (subst (λ l. list_any (λ k. nat_eq k (length c.as_slice-2.result.now + 1)) l ≡ false) c.as_slice.ensures.value (sym c.is_to_fail.ensures ∙ c.if-is_to_fail.false))
+    record {
+      does = fails s c.in_ok-call.call (SettleTop) c.fail.new.calls c.fail.new.faults c.fail.result c.in_ok-call.ensures.ok refl
+          (was_planned s c.as_slice.result.now c.as_slice-2.result.now c.is_to_fail.result (Fits trees (shelf s) (SettleTop)) c.as_slice.ensures.value c.as_slice-2.ensures c.is_to_fail.ensures c.if-is_to_fail.true)
+          (record { failed = c.fail.ensures.failed; memory = c.fail.ensures.memory; later = c.fail.ensures.later; below = c.fail.ensures.below });
+    }
+
+pub returns : goal.returns
+returns c =
+    let s = c.args.self.now in
+    record {
+      does = done s s.entries.items c.clear.new.self.items c.push.new.self SettleTop Did tt
+          (settled_top_does s.entries.items s.pending.items c.clear.new.self.items s.calls c.push.new.self c.in_ok-call.call c.clear.ensures.items c.in_ok-push.ensures.ok c.in_ok-call.ensures.ok)
+          (unplanned s.fail.items c.as_slice.result.now s.entries.items s.pending.items s.calls c.as_slice-2.result.now c.is_to_fail.result Did c.as_slice.ensures.value c.as_slice-2.ensures c.is_to_fail.ensures c.if-is_to_fail.false);
+    }

@@ -1,0 +1,2 @@
+pub mod FeedsLemmas
+pub mod FolderLemmas

@@ -1,0 +1,8 @@
+use Rattle.zi_app.proofs.RunLemmas.{works_told}
+use Rattle.zi_app.proofs.running.run.Goals as goal
+
+pub returns : goal.returns
+returns g c =
+    works_told c.args.words.now (record { feeds = g.F.Feeds.seen c.args.feeds.now; shelf = g.K.Shelf.seen c.args.shelf.now; out = g.O.Sink.seen c.args.out.now })
+    (record { feeds = g.F.Feeds.seen c.work-outcome.new.feeds; shelf = g.K.Shelf.seen c.work-outcome.new.shelf; out = g.O.Sink.seen c.work-outcome.new.out })
+    (g.E.Sink.seen c.args.err.now) (g.E.Sink.seen c.told.new.err) c.work-outcome.result c.told.result c.work-outcome.ensures c.told.ensures

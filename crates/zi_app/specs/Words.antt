@@ -1,0 +1,37 @@
+-- What the words are that are handed on, and those that aren't read.
+use Rattle.std.specs.Prelude.{◌≡◌, ℕ, true, List, None}
+use Rattle.std.specs.List.{list_all}
+use Rattle.zi_text.specs.Front.{StopsAt}
+use Rattle.zi_outside.specs.Views.{Sinking}
+use Rattle.zi_words.specs.declared.request.Request.{Request}
+use Rattle.zi_words.specs.declared.request.Request.TheVariants as request
+use Rattle.zi_words.specs.declared.request.WordsFault.{WordsFault}
+use Rattle.zi_words.specs.declared.request.WordsFault.TheVariants as fault
+use Rattle.zi_words.specs.Words.{AreRight}
+use Rattle.zi_words.specs.Store.{is_file}
+use Rattle.zi_app.specs.declared.outcome.Outcome.{Outcome}
+use Rattle.zi_app.specs.declared.outcome.Outcome.TheVariants.{Usage, Memory}
+use Rattle.zi_app.specs.Line.{Tells}
+
+-- the program needs no command of the root, and each file goes into a tree under a name
+abbrev pub IsInForm : Request → Type 0
+IsInForm (request.Select ask proof) = ask.command ≡ None
+IsInForm (request.Add name files) = list_all is_file files ≡ true
+IsInForm other = Unit {0}
+
+-- the outcome of words that aren't read
+abbrev pub words_outcome : WordsFault → Outcome
+words_outcome (fault.Usage index) = Usage index
+words_outcome fault.Memory = Memory
+
+-- What comes of words that stand before one that isn't text: as many of them as right words may begin with are counted.
+abbrev pub Stops : List (List ℕ) → Outcome → Type 0
+Stops words (Usage index) = StopsAt AreRight words index
+Stops words Memory = Unit {0}
+Stops words other = ⊥
+
+-- and the line of that is told on err
+pub record RefusesWords (words : List (List ℕ)) (err_before err_after : Sinking) (outcome : Outcome) : Type 0 where
+  pub work : Outcome
+  pub stops : Stops words work
+  pub told : Tells work err_before err_after outcome
