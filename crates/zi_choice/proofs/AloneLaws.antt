@@ -80,12 +80,12 @@ module _ (x : Interface) (xs : List Interface) (req : Requirement) (k : Candidat
   chosen_past : (j : ℕ) → chosen u s (suc j) ≡ None
   chosen_past j = ap (λ p. option_and_then (λ c. candidate_at u (suc j) c) p) (none_past xs j)
 
-  fits : Fits u s
-  fits = ap suc (length-map xs (λ _. None))
-
   are_candidates : (i c : ℕ) → pick s i ≡ Some c → IsSome (candidate_at u i c)
   are_candidates zero c e = subst (λ n. IsSome (candidate_at u 0 n)) (some_same e) (subst (λ o. IsSome o) (sym first) refl)
   are_candidates (suc j) c e = not_both (none_past xs j) e
+
+  fits : Fits u s
+  fits = record { each = ap suc (length-map xs (λ _. None)); there = are_candidates }
 
   root_is : IsSomeAnd (chosen u s 0) (λ c. IfSome req.command (λ name. Has c name))
   root_is = subst (λ o. IsSomeAnd o (λ c. IfSome req.command (λ name. Has c name))) (sym first) (subst (λ o. IfSome o (λ name. Has k name)) (sym plain) tt)
@@ -106,7 +106,6 @@ module _ (x : Interface) (xs : List Interface) (req : Requirement) (k : Candidat
   valid : IsValid u req s
   valid = record {
     fits = fits;
-    candidates = are_candidates;
     root = root_is;
     met = deps_met;
     walk = at_root s;
@@ -133,7 +132,7 @@ module _ (x : Interface) (xs : List Interface) (req : Requirement) (k : Candidat
   picks p e f (suc j) = past x xs req k first none plain t v j ∙ sym (none_past xs j)
 
   same : (p : Option ℕ) → pick t 0 ≡ p → p ≡ Some 0 → ⊥
-  same p e f = apart (same_list t (first_alone (x ∷ xs)) (v.fits ∙ sym (fits x xs req k first none plain)) (picks p e f))
+  same p e f = apart (same_list t (first_alone (x ∷ xs)) (v.fits.each ∙ sym (fits x xs req k first none plain).each) (picks p e f))
 
   better : (p : Option ℕ) → pick t 0 ≡ p → IsBetter (Some 0) p
   better None e = tt

@@ -63,10 +63,10 @@ part_here s t i a b c apart g h = parted (record {
 same_walk : (s t : Choice) (i : ℕ) (a : Walk) → pick s i ≡ pick t i → with_place t i a ≡ with_place s i a
 same_walk s t i a e = ap (λ p. record { places = a.places ++ record { interface = i; pick = p } ∷ []; used = a.used }) (sym e)
 
-same_chosen : (u : List Interface) (s t : Choice) (i : ℕ) → pick s i ≡ pick t i → chosen u t i ≡ chosen u s i
+pub same_chosen : (u : List Interface) (s t : Choice) (i : ℕ) → pick s i ≡ pick t i → chosen u t i ≡ chosen u s i
 same_chosen u s t i e = ap (λ p. option_and_then (λ c. candidate_at u i c) p) (sym e)
 
-same_command : (u : List Interface) (s t : Choice) (i : ℕ) (name : List ℕ) → pick s i ≡ pick t i → command_at u t i name ≡ command_at u s i name
+pub same_command : (u : List Interface) (s t : Choice) (i : ℕ) (name : List ℕ) → pick s i ≡ pick t i → command_at u t i name ≡ command_at u s i name
 same_command u s t i name e = ap (λ o. option_and_then (λ c. command_of c name) o) (same_chosen u s t i e)
 
 alike_with : (s t : Choice) (i : ℕ) (a : Walk) → Alike s t a → pick s i ≡ pick t i → Alike s t (with_place s i a)
@@ -190,7 +190,7 @@ none_off u req s v i off = at (pick s i) refl
         true_false (is_on v.walk.places i on.0 on.1.0 on.1.1 on.1.2) off
 
 one_choice : (u : List Interface) (req : Requirement) (s t : Choice) (v : IsValid u req s) (w : IsValid u req t) → v.walk ≡ w.walk → Alike s t v.walk → s ≡ t
-one_choice u req s t v w same like = same_list s t (v.fits ∙ sym w.fits) (λ i. at i (is_listed v.walk i) refl)
+one_choice u req s t v w same like = same_list s t (v.fits.each ∙ sym w.fits.each) (λ i. at i (is_listed v.walk i) refl)
   where
     at : (i : ℕ) (b : Bool) → is_listed v.walk i ≡ b → pick s i ≡ pick t i
     at i true e = at_listed s t v.walk i like e

@@ -3,7 +3,7 @@ use Rattle.std.proofs.Common.{◌≡◌, ◌≢◌, ℕ, zero, suc, [], ◌∷�
 use Rattle.zi_choice.specs.Choice.{Choice, pick}
 use Rattle.zi_choice.proofs.WalkLaws.{some_same}
 
-same_number : (m n : ℕ) → (m ≡ n) ⊎ (m ≢ n)
+pub same_number : (m n : ℕ) → (m ≡ n) ⊎ (m ≢ n)
 same_number zero zero = inl refl
 same_number zero (suc n) = inr (λ e. omega (arith, e))
 same_number (suc m) zero = inr (λ e. omega (arith, e))

@@ -2,7 +2,13 @@ pub mod WalkLaws
 pub mod GrowLaws
 pub mod ChoiceLaws
 pub mod ThereLaws
+pub mod Base
+pub mod SumLaws
 pub mod ApartLaws
+pub mod WalkFacts
 pub mod OrderLaws
 pub mod BestLaws
+pub mod ThereIsBest
 pub mod AloneLaws
+pub mod TaskLaws
+pub mod TableLaws

@@ -1,6 +1,6 @@
 -- A choice has a walk: each visit that goes on lists an interface more, and each need that goes on uses a command more, so
 -- that what is left grows less.
-use Rattle.std.proofs.Common.{◌≡◌, ℕ, zero, suc, ◌==◌, ◌<◌, ◌≤◌, ◌+◌, Bool, true, false, cond, ◌&&◌, List, [], ◌∷◌, ◌++◌, length, refl, sym, subst, ap, ◌∙◌, arith, Option, Some, None, ◌⊎◌, inl, inr, eq-eqb}
+use Rattle.std.proofs.Common.{◌≡◌, ℕ, zero, suc, ◌==◌, ◌<◌, ◌≤◌, Bool, true, false, cond, ◌&&◌, List, [], ◌∷◌, ◌++◌, length, refl, sym, subst, ap, ◌∙◌, arith, Option, Some, None, ◌⊎◌, inl, inr, eq-eqb}
 use Rattle.std.specs.Prelude.{bytes_eq, find, option_and_then}
 use Rattle.std.specs.Cmp.Lexicographic.{bytes_decides}
 use Rattle.zi_feed.specs.declared.feed.Command.{Command}
@@ -9,18 +9,15 @@ use Rattle.zi_universe.specs.declared.types.Candidate.{Candidate}
 use Rattle.zi_universe.specs.declared.types.Interface.{Interface}
 use Rattle.zi_choice.specs.Choice.{Choice, pick, chosen, candidate_at, command_of, command_at, deps_of, needs_of}
 use Rattle.zi_choice.specs.Walk.{Use, Walk, Visits, Needs, NeedsEach, Follows, listed, comes, lacks, again, uses, no_more, one_more, ends, passes, goes, is_listed, is_used, with_place, with_use, leads_to, wanted, nothing}
+use Rattle.zi_choice.specs.Left.{left, below, uses_in, commands_in, all_uses, used_in, to_come}
 use Rattle.zi_choice.specs.Laws.{WalkIsThere}
 use Rattle.zi_choice.proofs.GrowLaws.{any_left, any_right, place_there}
 use Rattle.zi_choice.proofs.WalkLaws.{true_false, none_some}
 
--- How many items a test leaves.
-left : {A : Type 0} → (A → Bool) → List A → ℕ
-left test [] = zero
-left test (x ∷ xs) = cond (test x) (left test xs) (suc (left test xs))
-
-abbrev IsIn : {A : Type 0} → A → List A → Type 0
-IsIn y [] = ⊥
-IsIn y (x ∷ xs) = (y ≡ x) ⊎ IsIn y xs
+-- an item is one of a list
+abbrev pub In : {A : Type 0} → A → List A → Type 0
+In y [] = ⊥
+In y (x ∷ xs) = (x ≡ y) ⊎ In y xs
 
 -- what passes the one passes the other
 abbrev Passes : {A : Type 0} → (A → Bool) → (A → Bool) → Type 0
@@ -37,12 +34,12 @@ left_keeps f g (x ∷ xs) h = at (f x) (g x) refl refl (left_keeps f g xs h)
     at false true e d rest = omega (arith, rest)
     at false false e d rest = omega (arith, rest)
 
-left_falls : {A : Type 0} (f g : A → Bool) (xs : List A) (y : A) → Passes f g → IsIn y xs → f y ≡ false → g y ≡ true → left g xs < left f xs
+left_falls : {A : Type 0} (f g : A → Bool) (xs : List A) (y : A) → Passes f g → In y xs → f y ≡ false → g y ≡ true → left g xs < left f xs
 unfolding left
 left_falls f g [] y h inside e d = absurd inside
 left_falls f g (x ∷ xs) y h (inl same) e d =
-    subst (λ (b : Bool). cond (g x) (left g xs) (suc (left g xs)) < cond b (left f xs) (suc (left f xs))) (sym e ∙ ap f same)
-    (subst (λ (b : Bool). cond b (left g xs) (suc (left g xs)) < suc (left f xs)) (sym d ∙ ap g same) (omega (arith, left_keeps f g xs h)))
+    subst (λ (b : Bool). cond (g x) (left g xs) (suc (left g xs)) < cond b (left f xs) (suc (left f xs))) (sym e ∙ ap f (sym same))
+    (subst (λ (b : Bool). cond b (left g xs) (suc (left g xs)) < suc (left f xs)) (sym d ∙ ap g (sym same)) (omega (arith, left_keeps f g xs h)))
 left_falls f g (x ∷ xs) y h (inr inside) e d = at (f x) (g x) refl refl (left_falls f g xs y h inside e d)
   where
     at : (p q : Bool) → f x ≡ p → g x ≡ q → left g xs < left f xs → cond q (left g xs) (suc (left g xs)) < cond p (left f xs) (suc (left f xs))
@@ -51,67 +48,50 @@ left_falls f g (x ∷ xs) y h (inr inside) e d = at (f x) (g x) refl refl (left_
     at false true a b rest = omega (arith, rest)
     at false false a b rest = omega (arith, rest)
 
--- The interfaces of a universe, and the commands that may be used.
-below : ℕ → List ℕ
-below zero = []
-below (suc n) = n ∷ below n
-
-at_or_below : (i n : ℕ) → i < suc n → (i ≡ n) ⊎ (i < n)
+pub at_or_below : (i n : ℕ) → i < suc n → (i ≡ n) ⊎ (i < n)
 at_or_below zero zero lt = inl refl
 at_or_below zero (suc n) lt = inr (omega arith)
 at_or_below (suc i) zero lt = absurd (omega (arith, lt))
 at_or_below (suc i) (suc n) lt = elim (at_or_below i n (omega (arith, lt))) [ inl e ↦ inl (ap suc e) | inr l ↦ inr (omega (arith, l)) ]
 
-below_has : (n i : ℕ) → i < n → IsIn i (below n)
+pub below_has : (n i : ℕ) → i < n → In i (below n)
 unfolding below
 below_has zero i lt = absurd (omega (arith, lt))
-below_has (suc n) i lt = elim (at_or_below i n lt) [ inl e ↦ inl e | inr l ↦ inr (below_has n i l) ]
+below_has (suc n) i lt = elim (at_or_below i n lt) [ inl e ↦ inl (sym e) | inr l ↦ inr (below_has n i l) ]
 
-uses_in : ℕ → List Command → List Use
-uses_in i [] = []
-uses_in i (m ∷ ms) = record { interface = i; command = m.name } ∷ uses_in i ms
-
-commands_in : Option Candidate → List Command
-commands_in None = []
-commands_in (Some c) = c.imp.commands
-
-all_uses : List Interface → Choice → ℕ → List Use
-all_uses u s zero = []
-all_uses u s (suc n) = uses_in n (commands_in (chosen u s n)) ++ all_uses u s n
-
-in_left : {A : Type 0} (y : A) (xs ys : List A) → IsIn y xs → IsIn y (xs ++ ys)
+pub in_left : {A : Type 0} (y : A) (xs ys : List A) → In y xs → In y (xs ++ ys)
 in_left y [] ys h = absurd h
 in_left y (x ∷ xs) ys (inl e) = inl e
 in_left y (x ∷ xs) ys (inr h) = inr (in_left y xs ys h)
 
-in_right : {A : Type 0} (y : A) (xs ys : List A) → IsIn y ys → IsIn y (xs ++ ys)
+pub in_right : {A : Type 0} (y : A) (xs ys : List A) → In y ys → In y (xs ++ ys)
 in_right y [] ys h = h
 in_right y (x ∷ xs) ys h = inr (in_right y xs ys h)
 
 abbrev a_use : ℕ → List ℕ → Use
 a_use i name = record { interface = i; command = name }
 
-found_in : (i : ℕ) (name : List ℕ) (ms : List Command) (m : Command) → find (λ x. bytes_eq x.name name) ms ≡ Some m → IsIn (a_use i name) (uses_in i ms)
+found_in : (i : ℕ) (name : List ℕ) (ms : List Command) (m : Command) → find (λ x. bytes_eq x.name name) ms ≡ Some m → In (a_use i name) (uses_in i ms)
 unfolding uses_in
 found_in i name [] m e = absurd (none_some e)
 found_in i name (x ∷ ms) m e = at (bytes_eq x.name name) refl e (λ g. found_in i name ms m g)
   where
     at : (b : Bool) → bytes_eq x.name name ≡ b → cond b (Some x) (find (λ x. bytes_eq x.name name) ms) ≡ Some m
-        → (find (λ x. bytes_eq x.name name) ms ≡ Some m → IsIn (a_use i name) (uses_in i ms)) → IsIn (a_use i name) (a_use i x.name ∷ uses_in i ms)
-    at true h g later = inl (ap (λ n. a_use i n) (sym ((bytes_decides x.name name).0 h)))
+        → (find (λ x. bytes_eq x.name name) ms ≡ Some m → In (a_use i name) (uses_in i ms)) → In (a_use i name) (a_use i x.name ∷ uses_in i ms)
+    at true h g later = inl (ap (λ n. a_use i n) ((bytes_decides x.name name).0 h))
     at false h g later = inr (later g)
 
-command_in : (i : ℕ) (name : List ℕ) (o : Option Candidate) (m : Command) → option_and_then (λ c. command_of c name) o ≡ Some m → IsIn (a_use i name) (uses_in i (commands_in o))
+command_in : (i : ℕ) (name : List ℕ) (o : Option Candidate) (m : Command) → option_and_then (λ c. command_of c name) o ≡ Some m → In (a_use i name) (uses_in i (commands_in o))
 unfolding commands_in
 command_in i name None m e = absurd (none_some e)
 command_in i name (Some c) m e = found_in i name c.imp.commands m e
 
-all_uses_has : (u : List Interface) (s : Choice) (n i : ℕ) (name : List ℕ) (m : Command) → i < n → command_at u s i name ≡ Some m → IsIn (a_use i name) (all_uses u s n)
+all_uses_has : (u : List Interface) (s : Choice) (n i : ℕ) (name : List ℕ) (m : Command) → i < n → command_at u s i name ≡ Some m → In (a_use i name) (all_uses u s n)
 unfolding all_uses
 all_uses_has u s zero i name m lt e = absurd (omega (arith, lt))
 all_uses_has u s (suc n) i name m lt e =
     elim (at_or_below i n lt) [
-      | inl same ↦ in_left (a_use i name) (uses_in n (commands_in (chosen u s n))) (all_uses u s n) (subst (λ k. IsIn (a_use i name) (uses_in k (commands_in (chosen u s k)))) same (command_in i name (chosen u s i) m e))
+      | inl same ↦ in_left (a_use i name) (uses_in n (commands_in (chosen u s n))) (all_uses u s n) (subst (λ k. In (a_use i name) (uses_in k (commands_in (chosen u s k)))) same (command_in i name (chosen u s i) m e))
       | inr l ↦ in_right (a_use i name) (uses_in n (commands_in (chosen u s n))) (all_uses u s n) (all_uses_has u s n i name m l e)
     ]
 
@@ -120,7 +100,7 @@ within [] i c k e = absurd (none_some e)
 within (x ∷ u) zero c k e = omega arith
 within (x ∷ u) (suc i) c k e = omega (arith, within u i c k e)
 
-pick_within : (u : List Interface) (i : ℕ) (p : Option ℕ) (k : Candidate) → option_and_then (λ c. candidate_at u i c) p ≡ Some k → i < length u
+pub pick_within : (u : List Interface) (i : ℕ) (p : Option ℕ) (k : Candidate) → option_and_then (λ c. candidate_at u i c) p ≡ Some k → i < length u
 pick_within u i None k e = absurd (none_some e)
 pick_within u i (Some c) k e = within u i c k e
 
@@ -131,13 +111,6 @@ command_within u s i name m e = at (chosen u s i) refl e
     at None h g = absurd (none_some g)
     at (Some k) h g = pick_within u i (pick s i) k h
 
--- What a walk still can list or use.
-abbrev used_in : Walk → Use → Bool
-used_in a x = is_used a x.interface x.command
-
-to_come : List Interface → Choice → Walk → ℕ
-to_come u s a = left (λ i. is_listed a i) (below (length u)) + left (λ x. used_in a x) (all_uses u s (length u))
-
 place_keeps : (s : Choice) (i : ℕ) (a : Walk) → Passes (λ j. is_listed a j) (λ j. is_listed (with_place s i a) j)
 place_keeps s i a j e = any_left (λ p. p.interface == j) a.places (record { interface = i; pick = pick s i } ∷ []) e
 
@@ -147,22 +120,22 @@ use_keeps i name a x e = any_left (λ y. y.interface == x.interface && bytes_eq 
 both_true : (b c : Bool) → b ≡ true → c ≡ true → (b && c) ≡ true
 both_true b c e f = ap (λ x. x && c) e ∙ f
 
-use_there : (i : ℕ) (name : List ℕ) (a : Walk) → is_used (with_use i name a) i name ≡ true
+pub use_there : (i : ℕ) (name : List ℕ) (a : Walk) → is_used (with_use i name a) i name ≡ true
 use_there i name a = any_right (λ y. y.interface == i && bytes_eq y.command name) a.used (a_use i name) (both_true (i == i) (bytes_eq name name) (eq-eqb i i refl) ((bytes_decides name name).1 refl))
 
 place_not_more : (u : List Interface) (s : Choice) (i : ℕ) (a : Walk) → to_come u s (with_place s i a) ≤ to_come u s a
 unfolding to_come
 place_not_more u s i a = omega (arith, left_keeps (λ j. is_listed a j) (λ j. is_listed (with_place s i a) j) (below (length u)) (place_keeps s i a))
 
-place_less : (u : List Interface) (s : Choice) (i : ℕ) (a : Walk) → i < length u → is_listed a i ≡ false → to_come u s (with_place s i a) < to_come u s a
+pub place_less : (u : List Interface) (s : Choice) (i : ℕ) (a : Walk) → i < length u → is_listed a i ≡ false → to_come u s (with_place s i a) < to_come u s a
 unfolding to_come
 place_less u s i a lt new =
     omega (arith, left_falls (λ j. is_listed a j) (λ j. is_listed (with_place s i a) j) (below (length u)) i (place_keeps s i a) (below_has (length u) i lt) new (place_there s i a))
 
-use_less : (u : List Interface) (s : Choice) (i : ℕ) (name : List ℕ) (m : Command) (a : Walk) → command_at u s i name ≡ Some m → is_used a i name ≡ false → to_come u s (with_use i name a) < to_come u s a
+pub use_less : (u : List Interface) (s : Choice) (i : ℕ) (name : List ℕ) (m : Command) (a : Walk) → command_at u s i name ≡ Some m → is_used a i name ≡ false → to_come u s (with_use i name a) < to_come u s a
 unfolding to_come
 use_less u s i name m a e new =
-    let inside : IsIn (a_use i name) (all_uses u s (length u)) = all_uses_has u s (length u) i name m (command_within u s i name m e) e in
+    let inside : In (a_use i name) (all_uses u s (length u)) = all_uses_has u s (length u) i name m (command_within u s i name m e) e in
     omega (arith, left_falls (λ x. used_in a x) (λ x. used_in (with_use i name a) x) (all_uses u s (length u)) (a_use i name) (use_keeps i name a) inside new (use_there i name a))
 
 -- The walk goes from here to there, where not more is left.

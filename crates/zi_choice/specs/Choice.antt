@@ -1,6 +1,7 @@
 -- Choices over a universe: which candidate each interface has. Interfaces and candidates go by their numbers, from 0: the
 -- root is interface 0, and the candidates of an interface count in the order of rank.
-use Rattle.std.specs.Prelude.{◌≡◌, ℕ, List, [], ◌∷◌, ◌++◌, length, map, find, bytes_eq, slice_get, Option, Some, None, unwrap_or, option_and_then}
+use Rattle.std.specs.Prelude.{◌≡◌, ℕ, List, [], ◌∷◌, ◌++◌, length, map, find, bytes_eq, slice_get, Option, Some, None, IsSome, unwrap_or, option_and_then}
+use Rattle.std.specs.List.{position_from}
 use Rattle.zi_policy.specs.Platform.{place}
 use Rattle.zi_feed.specs.declared.feed.Dep.{Dep}
 use Rattle.zi_feed.specs.declared.feed.Runner.{Runner}
@@ -13,10 +14,6 @@ use Rattle.zi_universe.specs.Whole.{uris_of}
 abbrev pub Choice : Type 0
 Choice = List (Option ℕ)
 
--- it speaks of the interfaces of this universe, and of no others
-abbrev pub Fits : List Interface → Choice → Type 0
-Fits u s = length s ≡ length u
-
 -- what it gives the interface of a number
 abbrev pub pick : Choice → ℕ → Option ℕ
 pick s i = unwrap_or (slice_get s i) None
@@ -24,6 +21,11 @@ pick s i = unwrap_or (slice_get s i) None
 -- the candidate of a number of the interface of a number, where there is one
 abbrev pub candidate_at : List Interface → ℕ → ℕ → Option Candidate
 candidate_at u i c = option_and_then (λ (x : Interface). slice_get x.candidates c) (slice_get u i)
+
+-- It speaks of the interfaces of this universe and of no others, and gives each one of its candidates, or none.
+pub record Fits (u : List Interface) (s : Choice) : Type 0 where
+  pub each : length s ≡ length u
+  pub there : (i c : ℕ) → pick s i ≡ Some c → IsSome (candidate_at u i c)
 
 -- the candidate that is chosen for an interface
 abbrev pub chosen : List Interface → Choice → ℕ → Option Candidate
@@ -36,6 +38,10 @@ number u uri = place uri (uris_of u)
 -- the command of a name that a candidate has
 abbrev pub command_of : Candidate → List ℕ → Option Command
 command_of c name = find (λ m. bytes_eq m.name name) c.imp.commands
+
+-- the place of the command of a name among those of a candidate
+abbrev pub command_place : Candidate → List ℕ → Option ℕ
+command_place c name = position_from (λ m. bytes_eq m.name name) 0 c.imp.commands
 
 -- the command of a name that the choice has for an interface
 abbrev pub command_at : List Interface → Choice → ℕ → List ℕ → Option Command

@@ -32,6 +32,11 @@ OneRanksEarlier =
 abbrev pub BestIsOne : Type 0
 BestIsOne = (u : List Interface) (req : Requirement) (s t : Choice) → IsBest u req s → IsBest u req t → s ≡ t
 
+-- where any choice is valid, one is the best
+abbrev pub BestIsThere : Type 0
+BestIsThere =
+    (u : List Interface) (req : Requirement) (s : Choice) → IsValid u req s → (t : Choice) × IsBest u req t
+
 -- Where no command is wanted, and no candidate of the root has a dependency of its own, the root's first candidate alone is
 -- the best choice.
 abbrev pub FirstAloneIsBest : Type 0

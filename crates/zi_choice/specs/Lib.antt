@@ -3,3 +3,8 @@ pub mod Walk
 pub mod Valid
 pub mod Best
 pub mod Laws
+pub mod Vars
+pub mod Left
+pub mod Tables
+pub mod Tasks
+pub mod Traces

@@ -1,5 +1,5 @@
 -- When a choice is valid: what is chosen works together, and nothing is chosen that isn't asked for.
-use Rattle.std.specs.Prelude.{◌≡◌, ℕ, true, List, Option, Some, None, IsSome, IfSome, IsSomeAnd, All, Contains, ◌↔◌}
+use Rattle.std.specs.Prelude.{◌≡◌, ℕ, true, List, Option, Some, None, IsSome, IfSome, IsSomeAnd, All, Contains, option_and_then, ◌↔◌}
 use Rattle.std.specs.List.{list_all}
 use Rattle.zi_version.specs.Range.{admits}
 use Rattle.zi_policy.specs.declared.types.Arch.{Arch}
@@ -12,7 +12,7 @@ use Rattle.zi_universe.specs.declared.types.Requirement.{Requirement}
 use Rattle.zi_universe.specs.declared.types.Candidate.{Candidate}
 use Rattle.zi_universe.specs.declared.types.Interface.{Interface}
 use Rattle.zi_universe.specs.Candidates.{asks}
-use Rattle.zi_choice.specs.Choice.{Choice, Fits, pick, candidate_at, chosen, number, command_of, command_at, needs_of}
+use Rattle.zi_choice.specs.Choice.{Choice, Fits, pick, chosen, number, command_of, command_at, needs_of}
 use Rattle.zi_choice.specs.Walk.{Place, Use, Walk, Walks}
 
 -- a candidate has the command of a name
@@ -25,15 +25,15 @@ pub record Suits (d : Dep) (c : Candidate) : Type 0 where
   pub admitted : list_all (λ r. admits r c.imp.version) d.ranges ≡ true
   pub commands : asks d ≡ true → All (λ name. Has c name) d.commands
 
--- A dependency on the interface of a number is met: an essential one has its interface chosen, and where that is chosen the
--- candidate suits.
-pub record IsMetAt (u : List Interface) (s : Choice) (d : Dep) (i : ℕ) : Type 0 where
-  pub there : d.kind ≡ Essential → IsSome (chosen u s i)
-  pub suits : IfSome (chosen u s i) (λ c. Suits d c)
+-- the candidate that is chosen for the interface that a dependency is on, where there is one
+abbrev pub target : List Interface → Choice → Dep → Option Candidate
+target u s d = option_and_then (λ i. chosen u s i) (number u d.interface)
 
--- A dependency is met. One on an interface that the universe hasn't, as only one that restricts can be, asks nothing.
-abbrev pub IsMet : List Interface → Choice → Dep → Type 0
-IsMet u s d = IfSome (number u d.interface) (λ i. IsMetAt u s d i)
+-- A dependency is met: an essential one has its interface chosen, and where that is chosen the candidate suits. So an
+-- essential one on an interface that the universe hasn't is never met, and any other one on such an interface asks nothing.
+pub record IsMet (u : List Interface) (s : Choice) (d : Dep) : Type 0 where
+  pub there : d.kind ≡ Essential → IsSome (target u s d)
+  pub suits : IfSome (target u s d) (λ c. Suits d c)
 
 abbrev pub AreMet : List Interface → Choice → List Dep → Type 0
 AreMet u s ds = All (λ d. IsMet u s d) ds
@@ -52,12 +52,11 @@ abbrev pub IsChosenOn : List Place → ℕ → Type 0
 IsChosenOn ps i = (c : ℕ) × Contains ps (record { interface = i; pick = Some c })
 
 -- A valid choice, and why it is:
--- every choice is a candidate; the root is chosen, and has the requirement's command; the dependencies of each chosen candidate
--- and of each used command are met; no two candidates are of different bit groups; and the interfaces that are chosen are
--- exactly the chosen ones of the walk.
+-- it fits, so every choice is a candidate; the root is chosen, and has the requirement's command; the dependencies of each chosen
+-- candidate and of each used command are met; no two candidates are of different bit groups; and the interfaces that are chosen
+-- are exactly the chosen ones of the walk.
 pub record IsValid (u : List Interface) (req : Requirement) (s : Choice) : Type 0 where
   pub fits : Fits u s
-  pub candidates : (i c : ℕ) → pick s i ≡ Some c → IsSome (candidate_at u i c)
   pub root : IsSomeAnd (chosen u s 0) (λ c. IfSome req.command (λ name. Has c name))
   pub met : (i : ℕ) → IfSome (chosen u s i) (λ c. AreMet u s c.imp.deps)
   pub walk : Walk

@@ -1,6 +1,6 @@
 //! What holds of walks and of the best choice as such: each function's clause is a law, proved over the definitions alone.
 
-ghost use Rattle.zi_choice.specs.Laws.{WalkIsOne, WalkIsThere, EarlierIsStrict, OneRanksEarlier, BestIsOne, FirstAloneIsBest, NoRootNoChoice};
+ghost use Rattle.zi_choice.specs.Laws.{WalkIsOne, WalkIsThere, EarlierIsStrict, OneRanksEarlier, BestIsOne, BestIsThere, FirstAloneIsBest, NoRootNoChoice};
 
 /// A choice has one walk at most.
 pub fn walk_is_one()
@@ -25,6 +25,11 @@ pub fn one_ranks_earlier()
 /// At most one choice is the best.
 pub fn best_is_one()
     ensures { BestIsOne }
+{}
+
+/// Where any choice is valid, one is the best.
+pub fn best_is_there()
+    ensures { BestIsThere }
 {}
 
 /// Where no command is wanted, and no candidate of the root has a dependency of its own, the root's first candidate alone is

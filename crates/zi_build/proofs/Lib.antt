@@ -1,0 +1,15 @@
+pub mod Meaning
+pub mod MeansValid
+pub mod ValidMeans
+pub mod Model
+pub mod Read
+pub mod Numbers
+pub mod Formed
+pub mod Central
+pub mod Shapes
+pub mod Table
+pub mod NumberLaws
+pub mod WriteLaws
+pub mod MoreLaws
+pub mod GroupLaws
+pub mod LimitLaws

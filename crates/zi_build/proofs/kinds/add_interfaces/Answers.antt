@@ -1,0 +1,8 @@
+use Rattle.zi_build.specs.Writing.{plan_of}
+use Rattle.std.proofs.Common.{subst, length, ◌<◌}
+use Rattle.zi_build.proofs.WriteLaws.{adds_interface}
+use Rattle.zi_build.proofs.kinds.add_interfaces.Goals as goal
+
+pub loop-i-preserved : goal.loop-i-preserved
+loop-i-preserved c =
+    adds_interface c.args.plan.now.keeps (plan_of c.args.plan.now) c.args.w.now c.loop-i.w c.add_interface.new.w c.loop-i.i (subst (λ u. c.loop-i.i < length u) c.interfaces-i-end.ensures.interfaces c.loop-i-test.true) c.loop-i.invariant c.in_ok-add_interface.ensures

@@ -1,0 +1,5 @@
+pub mod Clauses
+pub mod Laws
+pub mod Answers
+pub mod There
+pub mod Writing

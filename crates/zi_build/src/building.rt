@@ -1,0 +1,110 @@
+//! The formula of a universe and a requirement.
+ghost use Rattle.std.specs.Prelude.{◌≡◌, ◌≤◌, ◌<◌, false, true, IfOk, MatchResult};
+ghost use Rattle.zi_universe.specs.Whole.{BeginsWith};
+ghost use Rattle.zi_build.specs.Clauses.{formula, literals, most_literals};
+ghost use Rattle.zi_build.specs.Writing.{plan_of, IsPlan};
+ghost use Rattle.zi_build.specs.Answers.{IsBuilt, FaultMeans, IsCount};
+
+use crate::kinds::add_rules;
+use crate::variables::table_of;
+use crate::writing::{MOST_LITERALS, Plan, Writer, is_full};
+use std::alloc::Global;
+use zi_choice::Names;
+use zi_formula::{Constraint, Formula};
+use zi_text::{List, Memory};
+use zi_universe::{Requirement, Universe};
+
+/// Why there is no formula.
+#[derive(Clone, Copy, Debug, PartialEq, Eq)]
+pub enum BuildFault {
+    /// Its clauses and groups would have more literals than this.
+    TooLarge {
+        /// The limit, which is 8,000,000.
+        limit: u64,
+    },
+    /// Memory ran out.
+    Memory,
+}
+
+// Whether the constraints have too many literals. They are counted one by one, and none is kept.
+fn is_too_large(plan: &Plan, req: &Requirement) -> Result<bool, Memory>
+    requires { IsPlan plan.now }
+    ensures { IfOk result (λ large. IsCount (plan_of plan.now) req.now large) }
+{
+    let mut w = Writer {
+        size: 0,
+        constraints: List::new(plan.alloc),
+    };
+    add_rules(plan, req, &mut w)?;
+    Ok(is_full(&w))
+}
+
+// The constraints, where they have few enough literals.
+fn constraints_of(plan: &Plan, req: &Requirement) -> Result<List<Constraint>, Memory>
+    requires plan { IsPlan plan.now }
+    requires keeps { plan.now.keeps ≡ true }
+    requires few { literals (formula (plan_of plan.now) req.now).constraints ≤ most_literals }
+    ensures { IfOk result (λ cs. cs ≡ (formula (plan_of plan.now) req.now).constraints) }
+{
+    let mut w = Writer {
+        size: 0,
+        constraints: List::new(plan.alloc),
+    };
+    add_rules(plan, req, &mut w)?;
+    Ok(w.constraints)
+}
+
+/// The constraints of a universe and a requirement, in their order:
+///
+/// 1. a clause of all candidates of the root;
+/// 2. where a command is wanted, for each candidate of the root that it has the command, if it is chosen;
+/// 3. for each interface with two candidates or more, that at most one of them is chosen;
+/// 4. for each candidate, interface by interface: its bit group; what each of its dependencies needs, `restricts` included; and
+///    for each of its commands that the candidate is chosen where the command is used, what its dependencies need, and what its
+///    runner needs.
+///
+/// A literal that would stand twice in a clause stands once. The variables are numbered from 1: the candidates, interface by
+/// interface and each in rank order, then in the same order the commands of each, last the one that says 64-bit.
+/// `TooLarge` comes exactly where the clauses and groups have more than 8,000,000 literals; they are counted before any is
+/// kept. The work is linear in the literals, in the names of the universe, and in the candidates that are looked at for each
+/// dependency.
+pub fn build(alloc: Global, u: &Universe, req: &Requirement) -> Result<Formula, BuildFault>
+    requires rooted { BeginsWith u.now req.now.interface }
+    ensures { MatchResult result (IsBuilt u.now req.now) (FaultMeans u.now req.now) }
+{
+    let limit = MOST_LITERALS as u64;
+    let Some(table) = table_of(alloc, u)? else {
+        return Err(BuildFault::TooLarge { limit });
+    };
+    let names = Names::of(alloc, u)?;
+    let counting = Plan {
+        alloc,
+        keeps: false,
+        universe: u,
+        names: &names,
+        table: &table,
+    };
+    if is_too_large(&counting, req)? {
+        return Err(BuildFault::TooLarge { limit });
+    }
+    let keeping = Plan {
+        keeps: true,
+        ..counting
+    };
+    let constraints = constraints_of(&keeping, req)?;
+    Ok(Formula {
+        variables: table.last,
+        constraints,
+    })
+}
+
+impl From<Memory> for BuildFault {
+    ghost use Rattle.zi_build.specs.declared.building.BuildFault.TheVariants as fault;
+    ghost use Rattle.std.specs.Prelude.{◌≡◌};
+
+    ghost from_gives = { λ _ r. r ≡ fault.Memory };
+
+    fn from(_error: Memory) -> BuildFault {
+        BuildFault::Memory
+    }
+}
