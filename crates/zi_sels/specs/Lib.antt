@@ -1,2 +1,5 @@
 pub mod Written
 pub mod Adding
+pub mod Chosen
+pub mod Using
+pub mod Settings
