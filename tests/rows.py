@@ -49,11 +49,13 @@ def feed(*parts):
     return f'<interface xmlns="{NS}">\n' + "".join(f"  {part}\n" for part in parts) + "</interface>\n"
 
 
-def document(root, attributes):
+def document(root, attributes, *children):
+    inside = "".join(f"    {child}\n" for child in children)
+    end = f">\n{inside}  </selection>" if children else "/>"
     return (
         '<?xml version="1.0" encoding="utf-8"?>\n'
         f'<selections xmlns="{NS}" interface="{root}">\n'
-        f'  <selection interface="{root}" {attributes}/>\n'
+        f'  <selection interface="{root}" {attributes}{end}\n'
         "</selections>\n"
     ).encode()
 
@@ -147,9 +149,7 @@ def feeds_that_are_not_heeded_yet(folder):
         feed(f'<implementation {local}><requires interface="/b.xml"/></implementation>', impl("a", "2")),
         feed(f'<implementation {local}><requires interface="/b.xml" importance="recommended"/></implementation>'),
         feed(f'<implementation {local}><restricts interface="/b.xml"/></implementation>'),
-        feed(f'<implementation {local}><environment name="A" value="b"/></implementation>'),
         feed('<group><requires interface="/b.xml"/>' + impl("a", "1") + "</group>"),
-        feed(f'<implementation {local}><manifest-digest sha256="{"0" * 64}"/></implementation>'),
     ]
     for text in rows:
         root = write(folder, "f.xml", text)
@@ -158,7 +158,7 @@ def feeds_that_are_not_heeded_yet(folder):
     rows = [
         feed('<implementation id="a" version="1" local-path="a"><requires interface="b.xml" os="Windows"/></implementation>'),
         feed('<implementation id="a" version="1" local-path="a"><requires interface="b.xml" use="testing"/></implementation>'),
-        feed(impl("a", "1"), '<implementation id="b" version="2"><environment name="A" value="b"/></implementation>'),
+        feed(impl("a", "1"), '<implementation id="b" version="2"><requires interface="b.xml"/></implementation>'),
         feed('<implementation id="a" version="1" local-path="a"><command name="run"><requires interface="b.xml"/></command></implementation>'),
     ]
     for text in rows:
@@ -363,8 +363,9 @@ def options(folder):
 
     fetched = f'<implementation id="r" version="2"><manifest-digest sha256="{"0" * 64}"/><file href="http://example.com/x" size="1" dest="x"/></implementation>'
     root = write(folder, "net.xml", feed(impl("a", "1"), fetched))
-    expect(run(SELECT + [root], folder), *UNBUILT)
-    expect(run(SELECT + ["--network", "minimal", root], folder), *UNBUILT)
+    written = document(root, 'id="r" version="2" stability="testing"', f'<manifest-digest sha256="{"0" * 64}"/>')
+    expect(run(SELECT + [root], folder), 0, written, b"")
+    expect(run(SELECT + ["--network", "minimal", root], folder), 0, selections(root, "a", "1"), b"")
     expect(run(SELECT + ["--network", "off", root], folder), 0, selections(root, "a", "1"), b"")
 
     used = feed('<implementation id="a" version="1" local-path="a"><requires interface="b.xml" use="testing"/></implementation>')
@@ -383,6 +384,95 @@ def what_is_said_of_the_chosen(folder):
     root = write(folder, "whole.xml", feed(whole))
     attributes = 'id="&lt;" version="1-rc1" local-path="/x" arch="POSIX-i586" released="2020-01-01" stability="stable"'
     expect(run(SELECT + [root], folder), 0, document(root, attributes), b"")
+
+
+SHA1 = "da39a3ee5e6b4b0d3255bfef95601890afd80709"
+E32 = "4OYMIQUY7QOBJGX36TEJS35ZEQT24QPEMSNZGTFESWMRW6CSXBKQ"
+
+
+def parts_of_the_chosen(folder):
+    """Digests by algorithm, what its groups say before what it says itself, and no command, for none is wanted."""
+    own = '<environment value="1" default="d" separator=";" mode="append" name="A"/><overlay src="."/>'
+    text = feed(
+        '<group main="bin/x" released="2021-02-03"><environment name="PATH" insert="bin"/><command name="test" path="t"><arg>-v</arg></command>'
+        f'<group><environment name="Q" value="&lt;&quot;" mode="replace"/><implementation id="sha1new={SHA1}" version="2" local-path="here">'
+        f'{own}<manifest-digest sha256new="{E32}"/></implementation></group></group>'
+    )
+    root = write(folder, "parts.xml", text)
+    wanted = document(
+        root,
+        f'id="sha1new={SHA1}" version="2" local-path="{folder}/here" released="2021-02-03" stability="testing"',
+        f'<manifest-digest sha1new="{SHA1}" sha256new="{E32}"/>',
+        '<environment name="PATH" insert="bin"/>',
+        '<environment name="Q" value="&lt;&quot;" mode="replace"/>',
+        '<environment name="A" value="1" mode="append" separator=";" default="d"/>',
+        "<overlay/>",
+    )
+    expect(run(SELECT + [root], folder), 0, wanted, b"")
+    # a default that is written all the same isn't told, and neither is what fetches
+    text = feed(
+        f'<implementation id="x" version="1"><manifest-digest sha256="{"0" * 64}"/><environment name="B" insert="" mode="prepend" separator=":"/>'
+        '<file href="/f" size="3" dest="x"/></implementation>'
+    )
+    root = write(folder, "defaults.xml", text)
+    wanted = document(
+        root,
+        'id="x" version="1" stability="testing"',
+        f'<manifest-digest sha256="{"0" * 64}"/>',
+        '<environment name="B" insert=""/>',
+    )
+    expect(run(SELECT + [root], folder), 0, wanted, b"")
+
+
+def commands_that_are_not_wanted(folder):
+    """What commands need is loaded, and neither they nor it is selected."""
+    inside = '<command name="run"><runner interface="shell.xml"><arg>-e</arg></runner><requires interface="lib.xml"/></command>'
+    root = write(folder, "root.xml", feed(f"<group>{inside}" + impl("a", "1") + "</group>"))
+    expect(run(SELECT + [root], folder), 0, selections(root, "a", "1"), b"")
+    write(folder, "lib.xml", feed(impl("l", "1")))
+    shell = write(folder, "shell.xml", feed('<implementation id="s" version="1" local-path="s"><command name="run" path="sh"/></implementation>'))
+    expect(run(SELECT + [root], folder), 0, selections(root, "a", "1"), b"")
+    write(folder, "shell.xml", f"{START}{impl('s', 'x')}{END}")
+    expect(run(SELECT + [root], folder), 67, b"", f"zi: bad feed {shell}: feed 3 at {len(START)}\n".encode())
+
+
+TOO_LARGE = (72, b"", b"zi: more than 8000000 literals\n")
+
+
+def too_many_literals(folder):
+    """As many literals as there may be, and one more, before it is looked at whether the program can choose, and after all is loaded."""
+
+    def versions(name, count, inside="", more=""):
+        ids = "".join(f"<implementation id='i{n}'/>" for n in range(count))
+        return write(folder, name, feed(f"<group version='1' local-path='a'>{inside}{ids}{more}</group>"))
+
+    # each of 3,000 asks for one of 3,000
+    root = versions("root.xml", 3000, '<requires interface="lib.xml"/>')
+    lib = versions("lib.xml", 3000)
+    expect(run(SELECT + [root], folder), *TOO_LARGE)
+    versions("lib.xml", 2000)
+    expect(run(SELECT + [root], folder), *UNBUILT)
+    write(folder, "lib.xml", "<interface/>")
+    expect(run(SELECT + [root], folder), 67, b"", f"zi: bad feed {lib}: feed 1 at 0\n".encode())
+    # R that ask for one of L have 3 R + L + R L literals, and each that asks for what nobody offers has one more
+    versions("lib.xml", 2826)
+    none = "<requires interface='none.xml'/>"
+
+    def asking(count):
+        more = "".join(f"<implementation id='n{n}'>{none}</implementation>" for n in range(count))
+        return versions("root.xml", 2826 - count, '<requires interface="lib.xml"/>', more)
+
+    spare = 8000000 - (3 * 2826 + 2826 + 2826 * 2826)
+    expect(run(SELECT + [asking(spare)], folder), *UNBUILT)
+    expect(run(SELECT + [asking(spare + 1)], folder), *TOO_LARGE)
+    # commands have their constraints too, wanted or not
+    command = '<command name="run"><requires interface="lib.xml"/></command>'
+    versions("lib.xml", 3000)
+    expect(run(SELECT + [versions("root.xml", 3000, command)], folder), *TOO_LARGE)
+    versions("lib.xml", 2000)
+    root = versions("root.xml", 3000, command)
+    written = selections(root, "i999", "1").replace(b"/i999", b"/a")
+    expect(run(SELECT + [root], folder), 0, written, b"")
 
 
 def web_addresses(folder):
@@ -459,6 +549,9 @@ ROWS = [
     wrong_words,
     help_and_version,
     options,
+    parts_of_the_chosen,
+    commands_that_are_not_wanted,
+    too_many_literals,
     web_addresses,
     documents,
 ]

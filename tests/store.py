@@ -202,7 +202,7 @@ def large(folder):
 
 
 def what_is_stored_counts_in_rank(folder):
-    """A tree that only the store has may be used where the network is off: then the program can't choose yet."""
+    """A tree that only the store has may be used where the network is off."""
     feed = f"""<interface xmlns="http://zero-install.sourceforge.net/2004/injector/interface"><name>a</name><summary>a</summary>
 <implementation id="a" version="1" local-path="."/><implementation id="b" version="2"><manifest-digest sha256new="{OTHER[10:]}"/></implementation>
 </interface>""".encode()
@@ -210,7 +210,8 @@ def what_is_stored_counts_in_rank(folder):
     got = run(words, folder)
     holds(f"not stored: {got}", got[0] == 0 and b'id="a"' in got[1])
     os.makedirs(os.path.join(store(folder), OTHER))
-    expect(run(words, folder), 95, b"", b"zi: not built yet\n")
+    got = run(words, folder)
+    holds(f"stored: {got}", got[0] == 0 and b'id="b"' in got[1] and f'<manifest-digest sha256new="{OTHER[10:]}"/>'.encode() in got[1])
 
 
 def an_empty_folder_under_the_name_is_present(folder):

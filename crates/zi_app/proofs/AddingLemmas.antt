@@ -30,11 +30,11 @@ use Rattle.zi_session.proofs.AloneLemmas.{ends_alone, begun_own}
 use Rattle.zi_words.specs.Forms.{Word}
 use Rattle.zi_app.specs.declared.gathering.GatherFault.{GatherFault}
 use Rattle.zi_app.specs.declared.gathering.GatherFault.TheVariants as gather
-use Rattle.zi_app.specs.declared.outcome.Outcome.{Outcome}
-use Rattle.zi_app.specs.declared.outcome.Outcome.TheVariants.{Done, BadName, Mismatch, Memory}
+use Rattle.zi_outcome.specs.declared.outcome.Outcome.{Outcome}
+use Rattle.zi_outcome.specs.declared.outcome.Outcome.TheVariants.{Done, BadName, Mismatch, Memory}
 use Rattle.zi_app.specs.Shelves.{Untouched, Lasts, ShelfFailed}
 use Rattle.zi_app.specs.World.{World}
-use Rattle.zi_app.specs.Writing.{Prints}
+use Rattle.zi_outcome.specs.Writing.{Prints}
 use Rattle.zi_app.specs.Gathering.{Gathers, Refuses}
 use Rattle.zi_app.specs.Adding.{IsToAdd, HasRun, Tries, Costs, AddsNothing, AddsTo, Adds, KeepsStored, beginning, stored_line, present_line}
 use Rattle.zi_app.specs.AddingParts.{files_outcome, IsEnd, Closes, Lent, IsIdle, AddsTree}

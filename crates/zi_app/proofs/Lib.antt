@@ -1,7 +1,5 @@
 pub mod AskingLemmas
 pub mod ShelvesLemmas
-pub mod WritingLemmas
-pub mod LineLemmas
 pub mod SelectLemmas
 pub mod StoreLemmas
 pub mod GatheringLemmas
@@ -9,4 +7,3 @@ pub mod AddingLemmas
 pub mod RunLemmas
 pub mod FileNameLaws
 pub mod CauseLaws
-pub mod DocumentLemmas

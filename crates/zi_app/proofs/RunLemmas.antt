@@ -14,10 +14,10 @@ use Rattle.zi_words.specs.Store.{AsksStore}
 use Rattle.zi_app.specs.declared.checked.Checked.{Checked}
 use Rattle.zi_app.specs.declared.checked.Checked.TheVariants as checked
 use Rattle.zi_digest.specs.declared.DigestName.{DigestName}
-use Rattle.zi_app.specs.declared.outcome.Outcome.{Outcome}
-use Rattle.zi_app.specs.declared.outcome.Outcome.TheVariants.{Done, Usage, DamagedTree, Memory}
+use Rattle.zi_outcome.specs.declared.outcome.Outcome.{Outcome}
+use Rattle.zi_outcome.specs.declared.outcome.Outcome.TheVariants.{Done, Usage, DamagedTree, Memory}
 use Rattle.zi_app.specs.World.{World}
-use Rattle.zi_app.specs.Writing.{PrintsThen, Prints}
+use Rattle.zi_outcome.specs.Writing.{PrintsThen, Prints}
 use Rattle.zi_app.specs.Showing.{ShowsText}
 use Rattle.zi_app.specs.ManifestCommand.{Shows}
 use Rattle.zi_app.specs.StoreVerify.{TellsCheck}
@@ -26,7 +26,7 @@ use Rattle.zi_app.specs.Words.{IsInForm, words_outcome}
 use Rattle.zi_app.specs.Asking.{FeedsStay}
 use Rattle.zi_app.proofs.AskingLemmas.{unasked_stay}
 use Rattle.zi_app.specs.Shelves.{Lasts}
-use Rattle.zi_app.specs.Line.{Tells}
+use Rattle.zi_outcome.specs.Line.{Tells}
 use Rattle.zi_store.specs.Keeping.{is_names, is_reading}
 use Rattle.zi_app.proofs.ShelvesLemmas.{untouched, nothing_done, untouched_lasts, keeps_lasts}
 

@@ -27,11 +27,11 @@ use Rattle.zi_store.specs.TreeAnswers.{ReadsTree}
 use Rattle.zi_store.specs.FileAnswers.{file_at, ReadsFile}
 use Rattle.zi_store.specs.Walking.{passed}
 use Rattle.zi_store.specs.Verdicts.{Verifies}
-use Rattle.zi_app.specs.declared.outcome.Outcome.{Outcome}
+use Rattle.zi_outcome.specs.declared.outcome.Outcome.{Outcome}
 use Rattle.zi_app.specs.declared.difference.Difference.{Difference}
 use Rattle.zi_app.specs.declared.difference.Difference.TheVariants.{NoManifest, Agrees, FirstIn}
 use Rattle.zi_app.specs.Shelves.{Held}
-use Rattle.zi_app.specs.Writing.{Prints}
+use Rattle.zi_outcome.specs.Writing.{Prints}
 use Rattle.zi_app.specs.StoreList.{name_line}
 use Rattle.zi_app.specs.ManifestCommand.{Shows}
 use Rattle.zi_app.specs.StoreVerify.{manifest_limit, HasOwnManifest, HasDigest, HasComputed, Compares, DiffersBy}

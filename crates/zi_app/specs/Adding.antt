@@ -21,12 +21,12 @@ use Rattle.zi_session.specs.declared.step.Step.{Step}
 use Rattle.zi_session.specs.declared.step.Step.TheVariants as step
 use Rattle.zi_words.specs.Forms.{Word}
 use Rattle.zi_app.specs.Shelves.{Untouched, Lasts, ShelfFailed}
-use Rattle.zi_app.specs.Writing.{StopsShort}
+use Rattle.zi_outcome.specs.Writing.{StopsShort}
 use Rattle.zi_app.specs.Asking.{FeedsStay}
 use Rattle.zi_app.specs.World.{World, NothingWritten}
 use Rattle.zi_app.specs.Gathering.{Gathers, IsUnread, IsAbsent, IsTooLong, IsTwice, IsTooLarge, GetsSome}
-use Rattle.zi_app.specs.declared.outcome.Outcome.{Outcome}
-use Rattle.zi_app.specs.declared.outcome.Outcome.TheVariants.{Done, FeedRead, FeedTooLong, NoFile, Overlap, TreeTooLarge, BadName, Mismatch, Crowded, StoreFault, SinkFault, Memory}
+use Rattle.zi_outcome.specs.declared.outcome.Outcome.{Outcome}
+use Rattle.zi_outcome.specs.declared.outcome.Outcome.TheVariants.{Done, FeedRead, FeedTooLong, NoFile, Overlap, TreeTooLarge, BadName, Mismatch, Crowded, StoreFault, SinkFault, Memory}
 
 -- d is the tree of the files, no name in it is bad, and its digest is the name
 pub record IsToAdd (name : DigestName) (files : List Word) (before after : Feeding) (d : Dir) : Type 0 where

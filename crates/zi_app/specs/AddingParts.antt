@@ -12,10 +12,10 @@ use Rattle.zi_session.specs.declared.step.Step.TheVariants as step
 use Rattle.zi_app.specs.declared.gathering.GatherFault.{GatherFault}
 use Rattle.zi_app.specs.declared.gathering.GatherFault.TheVariants as gather
 use Rattle.zi_app.specs.Shelves.{Untouched}
-use Rattle.zi_app.specs.Writing.{Prints}
+use Rattle.zi_outcome.specs.Writing.{Prints}
 use Rattle.zi_app.specs.Adding.{HasRun, stored_line, present_line}
-use Rattle.zi_app.specs.declared.outcome.Outcome.{Outcome}
-use Rattle.zi_app.specs.declared.outcome.Outcome.TheVariants.{FeedRead, FeedTooLong, NoFile, Overlap, TreeTooLarge, BadName, Mismatch, Crowded, StoreFault, Memory}
+use Rattle.zi_outcome.specs.declared.outcome.Outcome.{Outcome}
+use Rattle.zi_outcome.specs.declared.outcome.Outcome.TheVariants.{FeedRead, FeedTooLong, NoFile, Overlap, TreeTooLarge, BadName, Mismatch, Crowded, StoreFault, Memory}
 
 -- the outcome where there is no tree of the files
 abbrev pub files_outcome : GatherFault → Outcome

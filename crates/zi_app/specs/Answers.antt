@@ -5,13 +5,13 @@ use Rattle.zi_outside.specs.Views.{Sinking}
 use Rattle.zi_words.specs.declared.request.Request.{Request}
 use Rattle.zi_words.specs.declared.request.Request.TheVariants as request
 use Rattle.zi_words.specs.Words.{Right, AreRight}
-use Rattle.zi_app.specs.declared.outcome.Outcome.{Outcome}
-use Rattle.zi_app.specs.declared.outcome.Outcome.TheVariants.{Usage, Memory, Unbuilt}
+use Rattle.zi_outcome.specs.declared.outcome.Outcome.{Outcome}
+use Rattle.zi_outcome.specs.declared.outcome.Outcome.TheVariants.{Usage, Memory, Unbuilt}
 use Rattle.zi_app.specs.declared.help.TheConstants.{HELP, VERSION}
 use Rattle.zi_app.specs.Asking.{FeedsStay}
 use Rattle.zi_app.specs.Shelves.{Lasts}
 use Rattle.zi_app.specs.World.{World, NothingDone}
-use Rattle.zi_app.specs.Line.{Tells}
+use Rattle.zi_outcome.specs.Line.{Tells}
 use Rattle.zi_app.specs.Select.{Selects}
 use Rattle.zi_app.specs.ManifestCommand.{Manifests}
 use Rattle.zi_app.specs.StoreList.{Lists}

@@ -9,10 +9,10 @@ use Rattle.zi_shelf.specs.Shelving.{Shelving}
 use Rattle.zi_store.specs.Keeping.{Keeps, is_reading}
 use Rattle.zi_store.specs.declared.trees.TreeRead.TheVariants as read
 use Rattle.zi_store.specs.TreeAnswers.{ReadsTree}
-use Rattle.zi_app.specs.declared.outcome.Outcome.{Outcome}
-use Rattle.zi_app.specs.declared.outcome.Outcome.TheVariants.{MissingTree, BadName, TreeTooLarge, Memory}
+use Rattle.zi_outcome.specs.declared.outcome.Outcome.{Outcome}
+use Rattle.zi_outcome.specs.declared.outcome.Outcome.TheVariants.{MissingTree, BadName, TreeTooLarge, Memory}
 use Rattle.zi_app.specs.Shelves.{Held}
-use Rattle.zi_app.specs.Writing.{Prints}
+use Rattle.zi_outcome.specs.Writing.{Prints}
 use Rattle.zi_app.specs.World.{World, FeedsUnasked, ShelfCalm, NothingWritten}
 use Rattle.zi_app.specs.StoreRead.{FailsAt}
 use Rattle.zi_app.specs.StoreList.{name_line}

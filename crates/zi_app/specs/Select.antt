@@ -1,5 +1,5 @@
 -- `select`: the selections document of the choice that the words ask for.
-use Rattle.std.specs.Prelude.{◌≡◌, ℕ, ◌⊎◌, Bool, true, false, not, ◌&&◌, ◌==◌, List, [], ◌∷◌, length, slice_get, Some}
+use Rattle.std.specs.Prelude.{◌≡◌, ℕ, ◌<◌, ◌≤◌, ◌⊎◌, Bool, true, false, not, ◌&&◌, ◌==◌, List, [], ◌∷◌, length, Some}
 use Rattle.std.specs.List.{list_all}
 use Rattle.zi_digest.specs.declared.DigestName.{DigestName}
 use Rattle.zi_outside.specs.Views.{Feeding, Sinking}
@@ -8,16 +8,22 @@ use Rattle.zi_store.specs.Keeping.{Keeps, is_names}
 use Rattle.zi_words.specs.declared.request.Ask.{Ask}
 use Rattle.zi_universe.specs.declared.types.Candidate.{Candidate}
 use Rattle.zi_universe.specs.declared.types.Interface.{Interface}
+use Rattle.zi_universe.specs.declared.types.Requirement.{Requirement}
 use Rattle.zi_universe.specs.declared.fault.LoadFault.{LoadFault}
 use Rattle.zi_universe.specs.declared.fault.LoadFault.TheVariants as load
 use Rattle.zi_universe.specs.Loading.{names_of, Task, LoadsAsking, RefusesAsking}
 use Rattle.zi_choice.specs.Choice.{first_alone}
 use Rattle.zi_choice.specs.Best.{IsBest}
-use Rattle.zi_app.specs.declared.outcome.Outcome.{Outcome}
-use Rattle.zi_app.specs.declared.outcome.Outcome.TheVariants.{Done, FeedRead, NoRootFeed, BadFeed, FeedTooLong, TooManyFeeds, TooManyInterfaces, TooManyCandidates, Unwritable, SinkFault, Memory, Unbuilt}
+use Rattle.zi_build.specs.Clauses.{formula, literals, most_literals}
+use Rattle.zi_docout.specs.Amiss.{first_amiss}
+use Rattle.zi_docout.specs.Answers.{told}
+use Rattle.zi_sels.specs.declared.types.Selections.{Selections}
+use Rattle.zi_sels.specs.Chosen.{AreSelected}
+use Rattle.zi_sels.specs.Written.{tree, document}
+use Rattle.zi_outcome.specs.declared.outcome.Outcome.{Outcome}
+use Rattle.zi_outcome.specs.declared.outcome.Outcome.TheVariants.{Done, FeedRead, NoRootFeed, BadFeed, FeedTooLong, TooManyFeeds, TooManyInterfaces, TooManyCandidates, TooLarge, Unwritable, SinkFault, Memory, Unbuilt}
 use Rattle.zi_app.specs.Wanted.{requirement_of}
-use Rattle.zi_app.specs.Document.{document, IsAmiss}
-use Rattle.zi_app.specs.Writing.{StopsShort}
+use Rattle.zi_outcome.specs.Writing.{StopsShort}
 use Rattle.zi_app.specs.Asking.{FeedsStay}
 use Rattle.zi_app.specs.World.{World, FeedsUnasked, ShelfCalm}
 use Rattle.zi_app.specs.StoreRead.{FailsAt, AreStored}
@@ -40,41 +46,60 @@ IsRefused stored ask before after fault = RefusesAsking (task_of stored ask) bef
 abbrev pub is_empty : {X : Type 0} → List X → Bool
 is_empty xs = length xs == 0
 
--- A candidate that needs, restricts, sets and fetches nothing: it has no active dependency of its own, no binding and no digest.
-abbrev pub is_simple : Candidate → Bool
-is_simple c = is_empty c.imp.deps && is_empty c.imp.bindings && is_empty c.imp.digests
+-- a candidate without an active dependency of its own
+abbrev pub needs_nothing : Candidate → Bool
+needs_nothing c = is_empty c.imp.deps
 
 -- the candidates of the root, which is the first of the interfaces
 abbrev pub root_candidates : List Interface → List Candidate
 root_candidates [] = []
 root_candidates (root ∷ others) = root.candidates
 
--- this program chooses from these candidates: there is one, and all of them are simple
+-- this program chooses from these candidates: there is one, and none of them needs another interface
 abbrev pub are_built : List Candidate → Bool
-are_built cs = not (is_empty cs) && list_all is_simple cs
+are_built cs = not (is_empty cs) && list_all needs_nothing cs
 
 -- it chooses from these interfaces
 abbrev pub is_built : List Interface → Bool
 is_built universe = are_built (root_candidates universe)
 
--- c is the first candidate of the root
-abbrev pub IsFirst : List Interface → Candidate → Type 0
-IsFirst universe c = slice_get (root_candidates universe) 0 ≡ Some c
+-- the constraints on a choice from these interfaces have few enough literals
+abbrev pub AreFew : List Interface → Requirement → Type 0
+AreFew universe req = literals (formula universe req).constraints ≤ most_literals
 
--- c is the first candidate of the root, in the universe that the words ask for, which this program chooses from; and the choice
--- of it, and of nothing else, is the best choice
-pub record Chooses (stored : List DigestName) (ask : Ask) (before after : Feeding) (c : Candidate) : Type 0 where
+-- they have too many
+abbrev pub AreMany : List Interface → Requirement → Type 0
+AreMany universe req = most_literals < literals (formula universe req).constraints
+
+-- the universe that the words ask for is there, and the constraints on a choice from it are few enough
+pub record IsThere (stored : List DigestName) (ask : Ask) (before after : Feeding) : Type 0 where
   pub universe : List Interface
   pub loaded : IsLoaded stored ask before after universe
-  pub built : is_built universe ≡ true
-  pub first : IsFirst universe c
-  pub best : IsBest universe (requirement_of ask) (first_alone universe)
+  pub few : AreFew universe (requirement_of ask)
+
+-- The universe that the words ask for is there, this program chooses from it, and the choice of the root's first candidate, and of
+-- nothing else, is the best choice: these are its selections.
+pub record Chooses (stored : List DigestName) (ask : Ask) (before after : Feeding) (sels : Selections) : Type 0 where
+  pub there : IsThere stored ask before after
+  pub built : is_built there.universe ≡ true
+  pub best : IsBest there.universe (requirement_of ask) (first_alone there.universe)
+  pub selected : AreSelected there.universe (requirement_of ask) (first_alone there.universe) sels
 
 -- the universe that the words ask for is there, and this program can't choose from it
 pub record IsUnbuilt (stored : List DigestName) (ask : Ask) (before after : Feeding) : Type 0 where
+  pub there : IsThere stored ask before after
+  pub built : is_built there.universe ≡ false
+
+-- the universe that the words ask for is there, and the constraints on a choice from it have more literals than this
+pub record IsTooLarge (stored : List DigestName) (ask : Ask) (before after : Feeding) (limit : ℕ) : Type 0 where
   pub universe : List Interface
   pub loaded : IsLoaded stored ask before after universe
-  pub built : is_built universe ≡ false
+  pub many : AreMany universe (requirement_of ask)
+  pub limit_is : limit ≡ most_literals
+
+-- The document can't be written: the element of this number is the first that can't.
+abbrev pub IsAmiss : Selections → ℕ → Type 0
+IsAmiss sels place = (n : ℕ) × (first_amiss (tree sels) ≡ Some n) × (place ≡ told n)
 
 -- what the work over the names in the store is lent
 pub record Lent : Type 0 where
@@ -89,9 +114,9 @@ Refused stored ask before after fault = IsRefused stored ask before.feeds after.
 
 -- over a store with these names
 abbrev pub SelectsOver : List DigestName → Ask → Lent → Lent → Outcome → Type 0
--- c is chosen, and its document was written
+-- what is selected was written
 SelectsOver stored ask before after Done =
-    (c : Candidate) × Chooses stored ask before.feeds after.feeds c × Writes before.out (document ask.root c) after.out
+    (sels : Selections) × Chooses stored ask before.feeds after.feeds sels × Writes before.out (document sels) after.out
 SelectsOver stored ask before after (FeedRead uri) = Refused stored ask before after (load.FeedRead uri)
 SelectsOver stored ask before after NoRootFeed = Refused stored ask before after load.NoRootFeed
 SelectsOver stored ask before after (BadFeed uri fault) = Refused stored ask before after (load.BadFeed uri fault)
@@ -99,17 +124,19 @@ SelectsOver stored ask before after (FeedTooLong uri limit) = Refused stored ask
 SelectsOver stored ask before after (TooManyFeeds limit) = Refused stored ask before after (load.TooManyFeeds limit)
 SelectsOver stored ask before after (TooManyInterfaces limit) = Refused stored ask before after (load.TooManyInterfaces limit)
 SelectsOver stored ask before after (TooManyCandidates limit) = Refused stored ask before after (load.TooManyCandidates limit)
--- c is chosen, and its document can't be written
+SelectsOver stored ask before after (TooLarge limit) = IsTooLarge stored ask before.feeds after.feeds limit × (after.out ≡ before.out)
+-- the document can't be written
 SelectsOver stored ask before after (Unwritable place) =
-    (c : Candidate) × Chooses stored ask before.feeds after.feeds c × IsAmiss ask.root c place × (after.out ≡ before.out)
+    (sels : Selections) × Chooses stored ask before.feeds after.feeds sels × IsAmiss sels place × (after.out ≡ before.out)
 -- the output failed in the document
 SelectsOver stored ask before after SinkFault =
-    (c : Candidate) × Chooses stored ask before.feeds after.feeds c × WritesFront before.out (document ask.root c) after.out
--- memory was refused before the loading, in it, or later
+    (sels : Selections) × Chooses stored ask before.feeds after.feeds sels × WritesFront before.out (document sels) after.out
+-- memory was refused before the loading, in it, behind it, or in the document
 SelectsOver stored ask before after Memory =
     (after ≡ before)
     ⊎ (Refused stored ask before after load.Memory
-    ⊎ ((c : Candidate) × Chooses stored ask before.feeds after.feeds c × StopsShort before.out (document ask.root c) after.out))
+    ⊎ (((universe : List Interface) × IsLoaded stored ask before.feeds after.feeds universe × (after.out ≡ before.out))
+    ⊎ ((sels : Selections) × Chooses stored ask before.feeds after.feeds sels × StopsShort before.out (document sels) after.out)))
 -- this program can't choose from that universe
 SelectsOver stored ask before after Unbuilt = IsUnbuilt stored ask before.feeds after.feeds × (after.out ≡ before.out)
 SelectsOver stored ask before after other = ⊥

@@ -4,8 +4,8 @@ use Rattle.std.specs.List.{flat_map}
 use Rattle.zi_digest.specs.declared.DigestName.{DigestName}
 use Rattle.zi_digest.specs.Name.{spelling}
 use Rattle.zi_store.specs.Keeping.{Keeps, is_names}
-use Rattle.zi_app.specs.declared.outcome.Outcome.{Outcome}
-use Rattle.zi_app.specs.Writing.{Prints}
+use Rattle.zi_outcome.specs.declared.outcome.Outcome.{Outcome}
+use Rattle.zi_outcome.specs.Writing.{Prints}
 use Rattle.zi_app.specs.World.{World, FeedsUnasked, ShelfCalm}
 use Rattle.zi_app.specs.StoreRead.{FailsAt, AreStored}
 

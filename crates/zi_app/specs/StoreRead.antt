@@ -4,8 +4,8 @@ use Rattle.zi_digest.specs.declared.DigestName.{DigestName}
 use Rattle.zi_shelf.specs.Names.{Name}
 use Rattle.zi_shelf.specs.Shelving.{Shelving}
 use Rattle.zi_store.specs.Stored.{NamesStored}
-use Rattle.zi_app.specs.declared.outcome.Outcome.{Outcome}
-use Rattle.zi_app.specs.declared.outcome.Outcome.TheVariants.{StoreFault, Memory}
+use Rattle.zi_outcome.specs.declared.outcome.Outcome.{Outcome}
+use Rattle.zi_outcome.specs.declared.outcome.Outcome.TheVariants.{StoreFault, Memory}
 use Rattle.zi_app.specs.Shelves.{Held, ShelfFailed}
 use Rattle.zi_app.specs.World.{World, ShelfCalm, NothingWritten}
 

@@ -16,14 +16,14 @@ use Rattle.zi_store.specs.Walking.{passed}
 use Rattle.zi_store.specs.FileAnswers.{file_at}
 use Rattle.zi_store.specs.Verdicts.{Verifies}
 use Rattle.zi_store.specs.Lines.{DifferFirstIn}
-use Rattle.zi_app.specs.declared.outcome.Outcome.{Outcome}
-use Rattle.zi_app.specs.declared.outcome.Outcome.TheVariants.{MissingTree, DamagedTree, BadName, TreeTooLarge}
+use Rattle.zi_outcome.specs.declared.outcome.Outcome.{Outcome}
+use Rattle.zi_outcome.specs.declared.outcome.Outcome.TheVariants.{MissingTree, DamagedTree, BadName, TreeTooLarge}
 use Rattle.zi_app.specs.declared.difference.Difference.{Difference}
 use Rattle.zi_app.specs.declared.difference.Difference.TheVariants.{NoManifest, Agrees, FirstIn}
 use Rattle.zi_app.specs.declared.checked.Checked.{Checked}
 use Rattle.zi_app.specs.declared.checked.Checked.TheVariants as checked
 use Rattle.zi_app.specs.Shelves.{Held}
-use Rattle.zi_app.specs.Writing.{Prints, PrintsThen}
+use Rattle.zi_outcome.specs.Writing.{Prints, PrintsThen}
 use Rattle.zi_app.specs.World.{World, FeedsUnasked, ShelfCalm}
 use Rattle.zi_app.specs.StoreRead.{FailsAt}
 

@@ -9,9 +9,9 @@ use Rattle.zi_words.specs.declared.request.WordsFault.{WordsFault}
 use Rattle.zi_words.specs.declared.request.WordsFault.TheVariants as fault
 use Rattle.zi_words.specs.Words.{AreRight}
 use Rattle.zi_words.specs.Store.{is_file}
-use Rattle.zi_app.specs.declared.outcome.Outcome.{Outcome}
-use Rattle.zi_app.specs.declared.outcome.Outcome.TheVariants.{Usage, Memory}
-use Rattle.zi_app.specs.Line.{Tells}
+use Rattle.zi_outcome.specs.declared.outcome.Outcome.{Outcome}
+use Rattle.zi_outcome.specs.declared.outcome.Outcome.TheVariants.{Usage, Memory}
+use Rattle.zi_outcome.specs.Line.{Tells}
 
 -- the program needs no command of the root, and each file goes into a tree under a name
 abbrev pub IsInForm : Request → Type 0

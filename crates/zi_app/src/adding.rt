@@ -9,10 +9,9 @@ ghost use Rattle.zi_app.specs.Adding.{Adds, HasRun};
 ghost use Rattle.zi_app.specs.AddingParts.{files_outcome, IsEnd, Closes, Mismatches, AddsTree};
 
 use crate::gathering::{GatherFault, gather};
-use crate::outcome::Outcome;
-use crate::writing::put_text;
 use std::alloc::Global;
 use zi_digest::DigestName;
+use zi_outcome::{Outcome, put_text};
 use zi_outside::{Feeds, Sink};
 use zi_session::{BeginFault, Session, Step};
 use zi_shelf::Shelf;

@@ -6,17 +6,15 @@ ghost use Rattle.zi_shelf.specs.Told.{Rose};
 ghost use Rattle.zi_store.specs.Keeping.{Keeps, is_reading};
 ghost use Rattle.zi_store.specs.declared.verdicts.Verdict.TheVariants.{Damaged};
 ghost use Rattle.zi_store.specs.Verdicts.{Verifies};
-ghost use Rattle.zi_app.specs.declared.outcome.Outcome.TheVariants.{DamagedTree};
-ghost use Rattle.zi_app.specs.Writing.{PutsAll, PrintsThen};
+ghost use Rattle.zi_outcome.specs.declared.outcome.Outcome.TheVariants.{DamagedTree};
+ghost use Rattle.zi_outcome.specs.Writing.{PutsAll, PrintsThen};
 ghost use Rattle.zi_app.specs.Shelves.{Held};
 ghost use Rattle.zi_app.specs.StoreVerify.{ChecksAs, TellsCheck, VerifiesTree, difference_text};
 
-use crate::Outcome;
 use crate::difference::{Difference, difference_of};
-use crate::line::put_around;
-use crate::writing::{put_piece, put_text};
 use std::alloc::Global;
 use zi_digest::DigestName;
+use zi_outcome::{Outcome, put_around, put_piece, put_text};
 use zi_outside::{Sink, SinkFault};
 use zi_shelf::{Shelf, ShelfFault};
 use zi_store::{Verdict, verify};
@@ -103,7 +101,7 @@ fn put_difference<O: Sink>(difference: Difference, out: &mut O) -> Result<(), Si
 }
 
 // The line of a difference, and then the outcome of a damaged tree.
-#[tactic(auto, using(crate::proofs::WritingLemmas::printing))]
+#[tactic(auto, using(zi_outcome::proofs::WritingLemmas::printing))]
 fn blame<O: Sink>(
     alloc: Global,
     name: Text,

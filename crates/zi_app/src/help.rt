@@ -5,7 +5,8 @@ pub const HELP: &str = "zi reads Zero Install feeds and selects the implementati
 
 zi select [options] ROOT
     Writes the selections document of the program whose interface has the address ROOT:
-    a web address, or a path that begins with /. --no-command must stand.
+    a web address, or a path that begins with /. --no-command must stand. For now it
+    chooses only where no implementation that fits needs another interface.
 zi manifest ALGORITHM NAME
     Writes the manifest and the digest of the tree that the store has under NAME.
     ALGORITHM is sha1new, sha256 or sha256new.

@@ -5,24 +5,20 @@
 mod adding;
 mod checked;
 mod difference;
-mod document;
 mod files;
 mod gathering;
 mod help;
 pub mod laws;
-mod line;
 mod manifests;
 mod names;
-mod outcome;
 mod running;
 mod select;
 mod wanted;
-mod writing;
 
 pub use files::feed_file;
 pub use help::{HELP, VERSION};
-pub use outcome::Outcome;
 pub use running::{refuse, run};
+pub use zi_outcome::Outcome;
 pub use zi_universe::BadFeed;
 
 #[cfg(test)]

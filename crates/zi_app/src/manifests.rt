@@ -2,16 +2,15 @@
 ghost use Rattle.std.specs.Prelude.{◌≡◌, ◌++◌, IfOk};
 ghost use Rattle.zi_digest.specs.Name.{name_of};
 ghost use Rattle.zi_outside.specs.Views.{Feeding};
-ghost use Rattle.zi_app.specs.Writing.{Prints};
+ghost use Rattle.zi_outcome.specs.Writing.{Prints};
 ghost use Rattle.zi_app.specs.StoreList.{name_line};
 ghost use Rattle.zi_app.specs.ManifestCommand.{Shows, Manifests};
 
-use crate::Outcome;
 use crate::names::put_name;
-use crate::writing::put_text;
 use std::alloc::Global;
 use zi_digest::{Algorithm, DigestName, Hasher};
 use zi_manifest::{ManifestOutFault, write};
+use zi_outcome::{Outcome, put_text};
 use zi_outside::Sink;
 use zi_shelf::{Shelf, ShelfFault};
 use zi_store::{TreeRead, read_tree};
@@ -38,7 +37,7 @@ fn with_digest(alloc: Global, a: Algorithm, text: Vec<u8>) -> Result<Bytes, Memo
 }
 
 // Writes a text and the line of its digest.
-#[tactic(auto, using(crate::proofs::WritingLemmas::printing))]
+#[tactic(auto, using(zi_outcome::proofs::WritingLemmas::printing))]
 fn put_digested<O: Sink>(alloc: Global, a: Algorithm, text: Vec<u8>, out: &mut O) -> Outcome
     ensures { Prints (text.items ++ name_line (name_of a text.items)) (O.seen out.old) (O.seen out.new) result }
 {

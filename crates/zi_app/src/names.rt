@@ -1,13 +1,12 @@
 //! The work of `store list`.
 ghost use Rattle.std.specs.Prelude.{◌≡◌, ◌++◌, IfOk, OnOk};
 ghost use Rattle.zi_outside.specs.Views.{Feeding};
-ghost use Rattle.zi_app.specs.Writing.{Prints};
+ghost use Rattle.zi_outcome.specs.Writing.{Prints};
 ghost use Rattle.zi_app.specs.StoreList.{name_line, names_text, Lists};
 
-use crate::Outcome;
-use crate::writing::put_text;
 use std::alloc::Global;
 use zi_digest::DigestName;
+use zi_outcome::{Outcome, put_text};
 use zi_outside::Sink;
 use zi_shelf::{Shelf, ShelfFault};
 use zi_store::stored_names;
@@ -35,7 +34,7 @@ fn names_text(alloc: Global, names: &[DigestName]) -> Result<Vec<u8>, Memory>
 }
 
 // Writes the lines of digest names.
-#[tactic(auto, using(crate::proofs::WritingLemmas::printing))]
+#[tactic(auto, using(zi_outcome::proofs::WritingLemmas::printing))]
 fn put_names<O: Sink>(alloc: Global, names: &[DigestName], out: &mut O) -> Outcome
     ensures { Prints (names_text names.now) (O.seen out.old) (O.seen out.new) result }
 {

@@ -1,19 +1,17 @@
 //! The work of any words, and the line of how it ended.
 ghost use Rattle.std.specs.Prelude.{◌≡◌};
 ghost use Rattle.zi_app.specs.Answers.{Does, Works, Runs};
-ghost use Rattle.zi_app.specs.Line.{Tells};
+ghost use Rattle.zi_outcome.specs.Line.{Tells};
 ghost use Rattle.zi_app.specs.Words.{IsInForm, Stops, RefusesWords, words_outcome};
 
-use crate::Outcome;
 use crate::adding::add;
 use crate::checked::verify_tree;
 use crate::help::{HELP, VERSION};
-use crate::line::tell;
 use crate::manifests::manifest;
 use crate::names::list;
 use crate::select::select;
-use crate::writing::put_text;
 use std::alloc::Global;
+use zi_outcome::{Outcome, put_text, tell};
 use zi_outside::{Feeds, Sink, SinkFault, Vars};
 use zi_shelf::Shelf;
 use zi_text::Text;

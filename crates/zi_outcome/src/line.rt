@@ -1,8 +1,9 @@
+//! The line of an outcome, put piece by piece.
 ghost use Rattle.std.specs.Prelude.{◌≡◌, ◌<◌, ◌+◌, [], ◌∷◌, ◌++◌, codes};
 ghost use Rattle.std.specs.Fmt.{decimal};
 ghost use Rattle.zi_feed.specs.Faults.{number};
-ghost use Rattle.zi_app.specs.Line.{line_of, blamed, measure_of};
-ghost use Rattle.zi_app.specs.Writing.{PutsAll};
+ghost use Rattle.zi_outcome.specs.Line.{line_of, blamed, measure_of};
+ghost use Rattle.zi_outcome.specs.Writing.{PutsAll};
 
 use crate::Outcome;
 use crate::writing::put_piece;
@@ -13,7 +14,6 @@ use zi_tree::TreeLimit;
 use zi_universe::BadFeed;
 
 // Two pieces, one behind the other.
-
 #[tactic(auto, using(crate::proofs::WritingLemmas::pieces))]
 fn put_two<E: Sink>(a: &[u8], b: &[u8], err: &mut E) -> Result<(), SinkFault>
     ensures { PutsAll (E.seen err.old) (a.now ++ b.now) result (E.seen err.new) }
@@ -25,7 +25,6 @@ fn put_two<E: Sink>(a: &[u8], b: &[u8], err: &mut E) -> Result<(), SinkFault>
 }
 
 // Three pieces.
-
 #[tactic(auto, using(crate::proofs::WritingLemmas::pieces))]
 fn put_three<E: Sink>(a: &[u8], b: &[u8], c: &[u8], err: &mut E) -> Result<(), SinkFault>
     ensures { PutsAll (E.seen err.old) (a.now ++ b.now ++ c.now) result (E.seen err.new) }
@@ -77,7 +76,8 @@ fn put_behind<E: Sink>(a: &[u8], n: u64, err: &mut E) -> Result<(), SinkFault>
     }
 }
 
-/// A number between two pieces.
+/// Puts a number in decimal digits between two pieces. Failed comes where a put failed, at a front of them, and Memory where one
+/// lacked memory; it takes none of its own.
 #[tactic(auto, using(crate::proofs::WritingLemmas::pieces))]
 pub fn put_around<E: Sink>(a: &[u8], n: u64, b: &[u8], err: &mut E) -> Result<(), SinkFault>
     ensures { PutsAll (E.seen err.old) (a.now ++ decimal n ++ b.now) result (E.seen err.new) }
@@ -204,7 +204,8 @@ fn put_measure<E: Sink>(what: TreeLimit, limit: u64, err: &mut E) -> Result<(), 
     }
 }
 
-/// Writes the line of an outcome.
+/// Puts the line of an outcome: `zi: `, its text and LF, and nothing for Done. Failed comes where a put failed, at a front of the
+/// line, and Memory where one lacked memory; it takes none of its own.
 pub fn tell<E: Sink>(outcome: &Outcome, err: &mut E) -> Result<(), SinkFault>
     ensures { PutsAll (E.seen err.old) (line_of outcome.now) result (E.seen err.new) }
 {
@@ -224,6 +225,7 @@ pub fn tell<E: Sink>(outcome: &Outcome, err: &mut E) -> Result<(), SinkFault>
         Outcome::TooManyFeeds { limit } => put_limit(*limit, b" feeds\n", err),
         Outcome::TooManyInterfaces { limit } => put_limit(*limit, b" interfaces\n", err),
         Outcome::TooManyCandidates { limit } => put_limit(*limit, b" candidates\n", err),
+        Outcome::TooLarge { limit } => put_limit(*limit, b" literals\n", err),
         Outcome::NoFile { name } => put_name(b"zi: no file ", name, b"\n", err),
         Outcome::Overlap { path } => put_name(b"zi: ", path, b" is already there\n", err),
         Outcome::Mismatch { name, found } => {

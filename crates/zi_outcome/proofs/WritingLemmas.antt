@@ -6,9 +6,9 @@ use Rattle.zi_outside.specs.Views.{Sinking}
 use Rattle.zi_outside.specs.Outside.{gained, GainsFront, Writes, WritesFront, Puts}
 use Rattle.zi_outside.specs.declared.sink.SinkFault.{SinkFault}
 use Rattle.zi_outside.specs.declared.sink.SinkFault.TheVariants as fault
-use Rattle.zi_app.specs.Writing.{StopsShort, PutsAll, PrintsThen}
-use Rattle.zi_app.specs.declared.outcome.Outcome.{Outcome}
-use Rattle.zi_app.specs.declared.outcome.Outcome.TheVariants.{Memory}
+use Rattle.zi_outcome.specs.Writing.{StopsShort, PutsAll, PrintsThen}
+use Rattle.zi_outcome.specs.declared.outcome.Outcome.{Outcome}
+use Rattle.zi_outcome.specs.declared.outcome.Outcome.TheVariants.{Memory}
 
 gained-gained : (old : Option (List ℕ)) (a b : List ℕ) → gained (gained old a) b ≡ gained old (a ++ b)
 gained-gained None a b = refl

@@ -1,4 +1,4 @@
-use Rattle.zi_app.proofs.line.put_measure.Goals as goal
+use Rattle.zi_outcome.proofs.line.put_measure.Goals as goal
 
 pub returns-in-Size : goal.returns-in-Size
 returns-in-Size g c = rw c.in-Size.is c.put_around.ensures

@@ -3,9 +3,9 @@ use Rattle.std.specs.Prelude.{◌≡◌, ℕ, ◌⊎◌, List, [], ◌++◌, cod
 use Rattle.std.specs.Fmt.{decimal}
 use Rattle.zi_outside.specs.Views.{Sinking}
 use Rattle.zi_outside.specs.Outside.{Writes, WritesFront}
-use Rattle.zi_app.specs.Writing.{StopsShort}
-use Rattle.zi_app.specs.declared.outcome.Outcome.{Outcome}
-use Rattle.zi_app.specs.declared.outcome.Outcome.TheVariants.{Done, Usage, FeedRead, NoRootFeed, BadFeed, FeedTooLong, TooManyFeeds, TooManyInterfaces, TooManyCandidates, NoFile, Overlap, Mismatch, MissingTree, DamagedTree, BadName, TreeTooLarge, StoreFault, Crowded, Unwritable, SinkFault, Memory, Unbuilt}
+use Rattle.zi_outcome.specs.Writing.{StopsShort}
+use Rattle.zi_outcome.specs.declared.outcome.Outcome.{Outcome}
+use Rattle.zi_outcome.specs.declared.outcome.Outcome.TheVariants.{Done, Usage, FeedRead, NoRootFeed, BadFeed, FeedTooLong, TooManyFeeds, TooManyInterfaces, TooManyCandidates, TooLarge, NoFile, Overlap, Mismatch, MissingTree, DamagedTree, BadName, TreeTooLarge, StoreFault, Crowded, Unwritable, SinkFault, Memory, Unbuilt}
 use Rattle.zi_universe.specs.declared.fault.BadFeed.{BadFeed as Fault}
 use Rattle.zi_universe.specs.declared.fault.BadFeed.TheVariants as bad
 use Rattle.zi_tree.specs.declared.change.TreeLimit.{TreeLimit}
@@ -34,6 +34,7 @@ text_of (FeedTooLong uri limit) = uri ++ codes " is longer than " ++ decimal lim
 text_of (TooManyFeeds limit) = codes "more than " ++ decimal limit ++ codes " feeds"
 text_of (TooManyInterfaces limit) = codes "more than " ++ decimal limit ++ codes " interfaces"
 text_of (TooManyCandidates limit) = codes "more than " ++ decimal limit ++ codes " candidates"
+text_of (TooLarge limit) = codes "more than " ++ decimal limit ++ codes " literals"
 text_of (NoFile name) = codes "no file " ++ name
 text_of (Overlap path) = path ++ codes " is already there"
 text_of (Mismatch name found) = codes "expected " ++ name ++ codes ", found " ++ found
@@ -62,6 +63,7 @@ code_of (FeedTooLong uri limit) = 68
 code_of (TooManyFeeds limit) = 69
 code_of (TooManyInterfaces limit) = 70
 code_of (TooManyCandidates limit) = 71
+code_of (TooLarge limit) = 72
 code_of (NoFile name) = 75
 code_of (Overlap path) = 83
 code_of (Mismatch name found) = 85

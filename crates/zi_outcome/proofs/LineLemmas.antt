@@ -5,8 +5,8 @@ use Rattle.std.specs.Fmt.{decimal, digits, digits_onto, digit_glyph}
 use Rattle.std.proofs.lemmas.Bool.Decides.{nat_tests}
 use Rattle.zi_outside.specs.Views.{Sinking}
 use Rattle.zi_outside.specs.declared.sink.SinkFault.{SinkFault}
-use Rattle.zi_app.specs.Writing.{PutsAll}
-use Rattle.zi_app.proofs.WritingLemmas.{then_put, put_stops}
+use Rattle.zi_outcome.specs.Writing.{PutsAll}
+use Rattle.zi_outcome.proofs.WritingLemmas.{then_put, put_stops}
 
 -- the digits of a number are those of its tenth, and one more
 onto_join : (b : Bool) (g : ℕ) (d : List ℕ → List ℕ) (acc : List ℕ) → ((xs : List ℕ) → d xs ≡ d [] ++ xs) → cond b (g ∷ acc) (d (g ∷ acc)) ≡ cond b (g ∷ []) (d (g ∷ [])) ++ acc
