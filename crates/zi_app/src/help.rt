@@ -3,6 +3,8 @@
 /// The answer to `--help`: each command and option that is built, with what stands where it isn't said.
 pub const HELP: &str = "zi reads Zero Install feeds and selects the implementations of a program.
 
+For example: zi select --no-command /home/me/hello.xml
+
 zi select [options] ROOT
     Writes the selections document of the program whose interface has the address ROOT:
     a web address, or a path that begins with /. --no-command must stand. For now it
@@ -12,7 +14,8 @@ zi manifest ALGORITHM NAME
     ALGORITHM is sha1new, sha256 or sha256new.
 zi store add DIGEST FILE..
     Adds a tree of these files, each under the last part of its path, if DIGEST is its
-    digest. Writes stored, or present where the store has it already.
+    digest. The files aren't executable in it, and have the time 0. Writes stored, or present
+    where the store has it already.
 zi store verify DIGEST
     Writes sound where the tree of that digest in the store has it, and otherwise how the
     manifest that stands in it differs: in which line, not at all, or that none stands there.
@@ -28,8 +31,10 @@ Options of select, before ROOT:
     --version RANGE             Versions of ROOT, as 1.2..!2 | 3 (default: every version).
                                 At most once.
     --version-for URI RANGE     The same for the interface URI. Any number of times.
-    --os NAME                   The operating system to run on (default: Linux).
-    --cpu NAME                  The machine to run on (default: x86_64).
+    --os NAME                   The operating system to run on (default: Linux). Each but Windows
+                                also runs what is for POSIX.
+    --cpu NAME                  The machine to run on (default: x86_64). x86_64, i686, i586 and
+                                i486 also run what is for those behind them and for i386.
     --lang TAG                  A language, the best first (default: en). Any number of times.
     --level LEVEL               developer, testing or stable: from this stability on one is as
                                 good as another (default: stable).
@@ -44,6 +49,46 @@ Options of select, before ROOT:
 Feeds of web addresses are files in the folder that ZI_FEEDS names (default: feeds), each
 named by its address with every byte but letters, digits, -, . and _ percent-encoded.
 Trees are stored in the folder that ZI_STORE names (default: store), each under its digest.
+
+Status, and the line on standard error behind \"zi: \":
+     0  (no line)                     done
+    64  usage at word N               words count from 0, the command is word 0
+    65  cannot read FEED
+    66  no feed for the root
+    67  bad feed FEED: KIND at PLACE  KIND by the tables below; PLACE counts bytes from 0
+    68  FEED is longer than N bytes
+    69  more than N feeds
+    70  more than N interfaces
+    71  more than N candidates
+    72  more than N literals         of constraints on what may be chosen
+    75  no file NAME
+    83  NAME is already there         two files have one last part
+    85  expected DIGEST, found DIGEST
+    86  NAME is not stored
+    87  DIGEST is damaged: DIGEST     the second is the digest of what is there now
+    88  bad name PATH                 a newline, or .manifest
+    89  tree too large: WHAT past N   WHAT is size, nodes or depth
+    90  store fault at NAME
+    91  N temporary names taken
+    93  cannot write
+    94  out of memory
+    95  not built yet
+    96  cannot write element N
+
+Kinds of faults of documents:
+    1  not UTF-8                      5  a reference that means nothing
+    2  another encoding               6  a prefix that isn't declared, or may not be
+    3  a document type                7  an attribute twice
+    4  not well-formed                8  more than 64 elements one in another
+
+Kinds of faults of feeds:
+    1  the root isn't a feed's        8  a step of a retrieval
+    2  no id                          9  no interface, or no src
+    3  version                       10  another address than it was read under
+    4  version expression            11  stability
+    5  arch                          12  address
+    6  digest                        13  an id twice
+    7  binding, command, dependency
 ";
 
 /// The answer to `--version`.

@@ -1,0 +1,42 @@
+# Completion of zi's words for bash: source this file, or put it into the folder of bash-completion under the name zi.
+
+_zi() {
+    local word=${COMP_WORDS[COMP_CWORD]} before=${COMP_WORDS[COMP_CWORD-1]}
+    local options="--no-command --version --version-for --os --cpu --lang --level --network --use --rate --"
+    COMPREPLY=()
+    if [ "$COMP_CWORD" -eq 1 ]; then
+        mapfile -t COMPREPLY < <(compgen -W "select manifest store --help --version" -- "$word")
+        return
+    fi
+    case ${COMP_WORDS[1]} in
+        select)
+            case $before in
+                --os) mapfile -t COMPREPLY < <(compgen -W "Linux Darwin FreeBSD Windows POSIX" -- "$word") ;;
+                --cpu) mapfile -t COMPREPLY < <(compgen -W "x86_64 i686 i586 i486 i386 aarch64" -- "$word") ;;
+                --level) mapfile -t COMPREPLY < <(compgen -W "developer testing stable" -- "$word") ;;
+                --network) mapfile -t COMPREPLY < <(compgen -W "full minimal off" -- "$word") ;;
+                --version | --version-for | --lang | --use | --rate) ;;
+                *)
+                    case $word in
+                        -*) mapfile -t COMPREPLY < <(compgen -W "$options" -- "$word") ;;
+                        *) mapfile -t COMPREPLY < <(compgen -f -- "$word") ;;
+                    esac
+                    ;;
+            esac
+            ;;
+        manifest)
+            if [ "$COMP_CWORD" -eq 2 ]; then
+                mapfile -t COMPREPLY < <(compgen -W "sha1new sha256 sha256new" -- "$word")
+            fi
+            ;;
+        store)
+            if [ "$COMP_CWORD" -eq 2 ]; then
+                mapfile -t COMPREPLY < <(compgen -W "add verify list" -- "$word")
+            elif [ "${COMP_WORDS[2]}" = add ] && [ "$COMP_CWORD" -gt 3 ]; then
+                mapfile -t COMPREPLY < <(compgen -f -- "$word")
+            fi
+            ;;
+    esac
+}
+
+complete -o filenames -F _zi zi
