@@ -1,0 +1,140 @@
+#!/usr/bin/env python3
+"""The lemmas and the time of the search, beside minisat and cadical on the same formulas in the same run.
+
+Run it after `rt ci` (or `rt run` in crates/search_speed), which builds the program. The formulas are pigeons in too few holes, and
+random clauses of three literals, 4.26 for each variable, where about half of the formulas have a model. Pigeons in one hole are a
+group here and a clause for each pair of them for the other solvers, which know no groups; for these a conflict is what a lemma is
+here. The program decides the variables in order and never begins anew, so what it needs says how it learns, not how it guesses.
+All answers are to agree; a run that takes longer than twenty seconds is given up.
+"""
+import sys
+
+sys.path.append(sys.path.pop(0))  # last: select.py beside this file has the name of a module that subprocess needs
+
+import itertools
+import pathlib
+import random
+import re
+import shutil
+import statistics
+import subprocess
+import tempfile
+import time
+
+SECONDS = 20
+BUDGET = 1_000_000
+SEEDS = 20
+PIGEONS = (8, 9)
+VARIABLES = (100, 150)
+RATIO = 4.26
+PROGRAM = pathlib.Path(__file__).resolve().parent.parent / "crates/search_speed/out/search_speed"
+
+# the other solvers: what they are called with before the formula, and where they tell their conflicts
+OTHERS = {
+    "minisat": (["minisat", "-verb=1"], re.compile(r"^conflicts\s*:\s*(\d+)", re.M)),
+    "cadical": (["cadical", "-n"], re.compile(r"^c conflicts:\s*(\d+)", re.M)),
+}
+ANSWERS = {10: "model", 20: "refuted"}
+
+
+def dimacs(variables, clauses, groups=()):
+    lines = [f"p cnf {variables} {len(clauses) + len(groups)}"]
+    lines += [" ".join(map(str, [*clause, 0])) for clause in clauses]
+    lines += [" ".join(map(str, ["g", *group, 0])) for group in groups]
+    return "\n".join(lines) + "\n"
+
+
+def pigeons(count):
+    """So many pigeons in one hole fewer: the formula for the program, and for the others."""
+    holes = count - 1
+    clauses = [range(i * holes + 1, (i + 1) * holes + 1) for i in range(count)]
+    groups = [range(j + 1, count * holes + 1, holes) for j in range(holes)]
+    pairs = [(-x, -y) for group in groups for x, y in itertools.combinations(group, 2)]
+    return dimacs(count * holes, clauses, groups), dimacs(count * holes, clauses + pairs)
+
+
+def threes(variables, seed):
+    """Random clauses of three literals."""
+    chance = random.Random(f"{variables} {seed}")
+    drawn = (chance.sample(range(1, variables + 1), 3) for _ in range(round(RATIO * variables)))
+    text = dimacs(variables, [[x * chance.choice((1, -1)) for x in clause] for clause in drawn])
+    return text, text
+
+
+def timed(words, **given):
+    """What a run wrote, its status and its time; None where it takes too long."""
+    start = time.perf_counter()
+    try:
+        done = subprocess.run(words, capture_output=True, text=True, timeout=SECONDS, **given)
+    except subprocess.TimeoutExpired:
+        return None
+    return done.stdout, done.returncode, time.perf_counter() - start
+
+
+def ours(text):
+    """The answer, the number of lemmas and the time of the program, or None."""
+    run = timed([PROGRAM, str(BUDGET)], input=text)
+    if run is None:
+        return None
+    out, status, taken = run
+    if status != 0 or out.split("\n", 1)[0] not in ("model", "refuted", "spent"):
+        sys.exit(f"{PROGRAM}: status {status}, {out[:40]!r}")
+    return out.split("\n", 1)[0], out.count("\nl "), taken
+
+
+def theirs(name, path):
+    words, conflicts = OTHERS[name]
+    run = timed([*words, path])
+    if run is None:
+        return None
+    out, status, taken = run
+    if status not in ANSWERS:
+        sys.exit(f"{name}: status {status}")
+    return ANSWERS[status], int(conflicts.search(out).group(1)), taken
+
+
+def compare(what, formulas, others, folder):
+    """Runs all over these formulas, and prints what each solver needed."""
+    results = {name: [] for name in ("here", *others)}
+    for text, other_text in formulas:
+        path = pathlib.Path(folder, "formula.cnf")
+        path.write_text(other_text)
+        runs = {"here": ours(text), **{name: theirs(name, path) for name in others}}
+        answers = {run[0] for run in runs.values() if run and run[0] != "spent"}
+        if len(answers) > 1:
+            sys.exit(f"{what}: the answers are not the same: {runs}\n{text}")
+        for name, run in runs.items():
+            results[name].append(run)
+    print(what)
+    for name, runs in results.items():
+        print(f"  {name}: {summary(runs)}", flush=True)
+
+
+def summary(runs):
+    """The sums over the runs that were answered, and the medians where there are several."""
+    ended = [run for run in runs if run and run[0] != "spent"]
+    spent = sum(bool(run) and run[0] == "spent" for run in runs)
+    line = f"{len(ended)} answered, {sum(run[0] == 'refuted' for run in ended)} of them refuted, {spent} spent, {runs.count(None)} given up"
+    if ended:
+        line += f": {sum(run[1] for run in ended)} lemmas, {sum(run[2] for run in ended):.3f} s"
+    if len(ended) > 1:
+        line += f"; medians {statistics.median(run[1] for run in ended):.0f}, {statistics.median(run[2] for run in ended):.4f} s"
+    return line
+
+
+def main():
+    if not PROGRAM.exists():
+        sys.exit(f"{PROGRAM} isn't built: run `rt ci` first")
+    others = [name for name in OTHERS if shutil.which(name)]
+    missing = [name for name in OTHERS if name not in others]
+    if missing:
+        print(f"{' and '.join(missing)} not installed: no comparison with {'it' if len(missing) == 1 else 'them'}")
+    with tempfile.TemporaryDirectory(prefix="zi-bench-") as folder:
+        for count in PIGEONS:
+            compare(f"{count} pigeons in {count - 1} holes", [pigeons(count)], others, folder)
+        for variables in VARIABLES:
+            compare(f"{SEEDS} formulas of {variables} variables in threes", [threes(variables, seed) for seed in range(SEEDS)], others, folder)
+
+
+if __name__ == "__main__":
+    main()
