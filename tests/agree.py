@@ -1,20 +1,27 @@
 #!/usr/bin/env python3
 """Chooses from random feeds with the proved program and with 0install, and counts where the two don't choose the same.
 
-The program is crates/zi/out/zi; the gate leaves it there. The feeds need nothing else: groups in groups, an import, versions
-with modifiers, platforms, stabilities, languages and dates, over the platforms and version ranges that a user may ask for. They
-are the same in every run; a number on the command line asks for as many. The status is 1 where one is chosen otherwise.
+The program is crates/zi/out/zi; the gate leaves it there. Some feeds need nothing else: groups in groups, an import, versions
+with modifiers, platforms, stabilities, languages and dates, over the platforms and version ranges that a user may ask for.
+Others are programs of several feeds that need one another (tests/programs.py); what is to be chosen for these is also worked out
+here by the rules of docs/ (tests/universes.py). All are the same in every run; a number on the command line asks for as many of
+each. Last comes the demonstration, whose best choice is known. The status is 1 where one is chosen otherwise.
 
+0install walks what the root's command needs before what the root itself needs, so it is held to the rules with that one change.
 English is asked for alone, since the two rank several languages otherwise, and no version ends with a dash, which 0install
-refuses (docs/DECISIONS.md). Where 0install is missing nothing is compared.
+refuses (docs/DECISIONS.md). Where 0install is missing nothing is compared with it, and what the program isn't built for yet isn't
+asked of it.
 """
 import os
 import random
-import re
 import shutil
 import subprocess
 import sys
 import tempfile
+import xml.etree.ElementTree
+
+import universes
+from programs import Demonstration, Program
 
 TOP = os.path.dirname(os.path.dirname(os.path.abspath(__file__)))
 PROGRAM = os.path.join(TOP, "crates", "zi", "out", "zi")
@@ -23,6 +30,8 @@ SYSTEMS = ["Linux", "Linux", "*", "POSIX", "Windows", "Darwin", "MacOSX"]
 MACHINES = ["*", "x86_64", "x86_64", "i686", "i386", "i486", "src", "armv7l"]
 STABILITIES = ["stable", "testing", "developer", "buggy", "insecure"]
 RANGES = ["2..", "..!2", "1..!10", "1.2", "0..!1 | 2..", "!3"]
+NOT_BUILT = 95
+DEMONSTRATIONS = (1, 2, 10, 40)
 
 
 class Feeds:
@@ -81,14 +90,32 @@ def text_of(attributes):
 
 
 def chosen(words, env=None):
-    """The implementation that is chosen, or None."""
+    """The ids that are chosen, by interface; none where the words are refused."""
     done = subprocess.run(words, env=env, stdout=subprocess.PIPE, stderr=subprocess.DEVNULL)
-    found = re.search(rb"<selection [^>]*\bid=[\"']([^\"']*)[\"']", done.stdout)
-    return found.group(1).decode() if found else None
+    if done.returncode != 0:
+        return {}
+    selections = xml.etree.ElementTree.fromstring(done.stdout).findall(f"{{{NS}}}selection")
+    return {selection.get("interface"): selection.get("id") for selection in selections}
 
 
-def choose(feeds, folder):
-    """What the two choose from one feed."""
+def chosen_here(command, options, root):
+    return chosen([PROGRAM, "select", *(["--no-command"] if command is None else ["--command", command]), *options, root])
+
+
+def chosen_by_0install(command, options, root):
+    folder = os.path.dirname(root)
+    env = dict(os.environ, HOME=folder, XDG_CONFIG_HOME=folder, XDG_CACHE_HOME=folder, LC_ALL="en.UTF-8", LANGUAGE="")
+    return chosen(["0install", "select", "--offline", "--xml", f"--command={command or ''}", *options, root], env)
+
+
+def chosen_by_rules(asked):
+    best = universes.best(universes.load(asked), asked) or {}
+    return {interface: candidate.id for interface, candidate in best.items() if candidate}
+
+
+def choose(number, folder):
+    """What the two choose from one feed, and what was asked."""
+    feeds = Feeds(number)
     root = os.path.join(folder, "root.xml")
     imports = []
     if feeds.some(0.4):
@@ -98,9 +125,36 @@ def choose(feeds, folder):
     asked = ["--os", feeds.random.choice(["Linux", "Linux", "Windows", "Darwin"]), "--cpu", feeds.random.choice(["x86_64", "x86_64", "i686"])]
     if feeds.some(0.3):
         asked += ["--version", feeds.random.choice(RANGES)]
-    env = dict(os.environ, HOME=folder, XDG_CONFIG_HOME=folder, XDG_CACHE_HOME=folder, LC_ALL="en.UTF-8", LANGUAGE="")
-    ours = chosen([PROGRAM, "select", "--no-command"] + asked + [root])
-    return ours, chosen(["0install", "select", "--offline", "--xml", "--command="] + asked + [root], env), asked
+    return {"here": chosen_here(None, asked, root), "by 0install": chosen_by_0install(None, asked, root)}, asked
+
+
+def program_here(number, folder):
+    """What is chosen for a program of several feeds, by the rules and here, and what was asked."""
+    options, asked = Program(number).write(folder)
+    return {"by the rules": chosen_by_rules(asked), "here": chosen_here(asked.command, options, asked.root)}, [*options, f"command {asked.command}"]
+
+
+def program_by_0install(number, folder):
+    """The same by 0install, which walks what the root's command needs before what the root itself needs; else by the same rules."""
+    options, asked = Program(number).write(folder)
+    rules = chosen_by_rules(asked._replace(command_first=True))
+    return {"by the rules": rules, "by 0install": chosen_by_0install(asked.command, options, asked.root)}, [*options, f"command {asked.command}"]
+
+
+def demonstrated(number, folder, choosing):
+    """What is to be chosen for the demonstration of a number, and what is."""
+    demonstration = Demonstration(DEMONSTRATIONS[number], folder, "  <name>n</name>\n  <summary>s</summary>\n")
+    demonstration.write()
+    return {"wanted": demonstration.chosen(), "chosen": choosing(None, [], demonstration.address("root"))}, [str(DEMONSTRATIONS[number])]
+
+
+def is_built_for_needs(folder):
+    """Whether the program chooses for a program that needs another; it says so itself where it isn't built for that yet."""
+    implementation = "<implementation id='i' version='1' local-path='.'/>"
+    root = os.path.join(folder, "root.xml")
+    write(root, f"<interface xmlns='{NS}'><group><requires interface='./lib.xml'/>{implementation}</group></interface>")
+    write(os.path.join(folder, "lib.xml"), f"<interface xmlns='{NS}'>{implementation}</interface>")
+    return subprocess.run([PROGRAM, "select", "--no-command", root], stdout=subprocess.DEVNULL, stderr=subprocess.DEVNULL).returncode != NOT_BUILT
 
 
 def write(path, text):
@@ -108,22 +162,45 @@ def write(path, text):
         file.write(text)
 
 
-def main():
-    if not shutil.which("0install"):
-        print("0install isn't on the path: nothing is compared")
-        return
-    many = int(sys.argv[1]) if len(sys.argv) > 1 else 300
+def compare(what, many, ask, top):
+    """Asks for so many choices, each over feeds in a folder of its own; how many aren't alike."""
     both = wrong = 0
+    answers = {}
+    for number in range(many):
+        folder = os.path.join(top, f"{what} {number}")
+        os.mkdir(folder)
+        answers, asked = ask(number, folder)
+        first = next(iter(answers.values()))
+        if any(answer != first for answer in answers.values()):
+            wrong += 1
+            print(f"{what} {number}, {' '.join(asked)}: " + ", ".join(f"{answer} {who}" for who, answer in answers.items()))
+        elif first:
+            both += 1
+    print(f"{many} {what} ({', '.join(answers)}): {both} chosen alike, {many - both - wrong} with nothing to choose for all, {wrong} chosen otherwise")
+    return wrong
+
+
+def main():
+    many = int(sys.argv[1]) if len(sys.argv) > 1 else 300
+    wrong = 0
     with tempfile.TemporaryDirectory(prefix="zi-agree-") as top:
-        for number in range(many):
-            folder = os.path.join(top, str(number))
-            os.mkdir(folder)
-            ours, theirs, asked = choose(Feeds(number), folder)
-            both += ours is not None and ours == theirs
-            if ours != theirs:
-                wrong += 1
-                print(f"feed {number}, {' '.join(asked)}: {ours} here, {theirs} by 0install")
-    print(f"{many} feeds: {both} chosen alike, {many - both - wrong} with nothing to choose for both, {wrong} chosen otherwise")
+        is_there = os.path.exists(PROGRAM)
+        has_other = shutil.which("0install")
+        is_built = is_there and is_built_for_needs(top)
+        if not has_other:
+            print("0install isn't on the path: nothing is compared with it")
+        if not is_there:
+            print("crates/zi/out/zi isn't there: run the gate first")
+        elif not is_built:
+            print("the program isn't built yet for programs that need others: it isn't asked about them")
+        if is_there and has_other:
+            wrong += compare("feeds", many, choose, top)
+        if is_built:
+            wrong += compare("programs", many, program_here, top)
+            wrong += compare("demonstrations", len(DEMONSTRATIONS), lambda number, folder: demonstrated(number, folder, chosen_here), top)
+        if has_other:
+            wrong += compare("programs for 0install", many, program_by_0install, top)
+            wrong += compare("demonstrations for 0install", len(DEMONSTRATIONS), lambda number, folder: demonstrated(number, folder, chosen_by_0install), top)
     sys.exit(1 if wrong else 0)
 
 
