@@ -25,12 +25,16 @@ def fill(top, folders, files, size):
             put(inside / str(file), b"a" * size)
 
 
-def timed_with_peak(command, runs, wanted=0, env=None):
-    """The least time and the most memory of some runs, in seconds and bytes; each is to end with the status that is wanted."""
+def timed_with_peak(command, runs, wanted=0, env=None, given=os.devnull):
+    """The least time and the most memory of some runs, in seconds and bytes; each is to end with the status that is wanted.
+
+    What they read from standard input is the file `given`.
+    """
     best, peak = float("inf"), 0
     for _ in range(runs):
-        start = time.perf_counter()
-        child = subprocess.Popen(command, stdout=subprocess.DEVNULL, stderr=subprocess.PIPE, env=env)
+        with open(given, "rb") as source:
+            start = time.perf_counter()
+            child = subprocess.Popen(command, stdin=source, stdout=subprocess.DEVNULL, stderr=subprocess.PIPE, env=env)
         with child.stderr:
             error = child.stderr.read()
         _, status, usage = os.wait4(child.pid, 0)

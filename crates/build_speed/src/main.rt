@@ -1,0 +1,148 @@
+//! Reads feeds from standard input, a line for each: its address and what stands in its root; the first is the root's. Builds
+//! the constraints of their universe as often as the one word says, and prints how many variables, constraints and literals
+//! there are; where it says 0 the feeds are loaded alone.
+//! `bench/build.py` makes the feeds, and holds the time against that of other tools.
+#![tactic(auto)]
+
+use std::alloc::{AllocError, Global};
+use std::env;
+use std::io::{self, Read};
+use std::process::ExitCode;
+use thiserror::Error;
+use zi_build::{BuildFault, build};
+use zi_formula::{Constraint, Formula};
+use zi_outside::SureFeeds;
+use zi_policy::{Network, Policy, Stability};
+use zi_text::{List, Memory, Text};
+use zi_universe::{LoadFault, Requirement, load};
+
+/// Why nothing is counted.
+#[derive(Debug, Drop, Error)]
+enum Fault {
+    /// The feeds are refused.
+    #[error("{0}")]
+    Load(LoadFault),
+    /// There are more literals than this.
+    #[error("more than {0} literals")]
+    TooLarge(u64),
+    /// Memory was refused.
+    #[error("out of memory")]
+    Memory,
+}
+
+impl From<Memory> for Fault {
+    fn from(_: Memory) -> Self {
+        Fault::Memory
+    }
+}
+
+impl From<AllocError> for Fault {
+    fn from(_: AllocError) -> Self {
+        Fault::Memory
+    }
+}
+
+impl From<LoadFault> for Fault {
+    fn from(fault: LoadFault) -> Self {
+        Fault::Load(fault)
+    }
+}
+
+impl From<BuildFault> for Fault {
+    fn from(fault: BuildFault) -> Self {
+        match fault {
+            BuildFault::TooLarge { limit } => Fault::TooLarge(limit),
+            BuildFault::Memory => Fault::Memory,
+        }
+    }
+}
+
+/// The feeds of a text's lines.
+fn feeds_of(alloc: Global, lines: &str) -> Result<SureFeeds, Fault> {
+    let mut feeds = SureFeeds::new(alloc);
+    for line in lines.lines() {
+        if let Some((uri, inside)) = line.split_once(' ') {
+            let bytes = format!(in alloc;
+                "<interface xmlns='http://zero-install.sourceforge.net/2004/injector/interface'>{inside}</interface>"
+            )?;
+            feeds.put(uri, bytes.as_bytes())?;
+        }
+    }
+    Ok(feeds)
+}
+
+/// A policy for Linux on x86_64.
+fn policy(alloc: Global) -> Result<Policy, Memory> {
+    Ok(Policy {
+        os: Text::from_str(alloc, "Linux")?,
+        machine: Text::from_str(alloc, "x86_64")?,
+        langs: List::new(alloc),
+        level: Stability::Stable,
+        network: Network::Full,
+        uses: List::new(alloc),
+        overrides: List::new(alloc),
+    })
+}
+
+/// How many variables, constraints and literals a formula has, as a line.
+fn counts(alloc: Global, f: &Formula) -> Result<String, Fault> {
+    let mut literals: usize = 0;
+    for c in f.constraints.as_slice() {
+        let more = match c {
+            Constraint::Clause(lits) => lits.len(),
+            Constraint::AtMostOne(variables) => variables.len(),
+        };
+        literals = literals.saturating_add(more);
+    }
+    Ok(format!(in alloc;
+        "{} variables, {} constraints, {literals} literals",
+        f.variables,
+        f.constraints.len()
+    )?)
+}
+
+/// What is built so many times, counted.
+fn built(alloc: Global, lines: &str, times: u32) -> Result<String, Fault> {
+    let (root, _) = lines.split_once(' ').unwrap_or((lines, ""));
+    let req = Requirement {
+        interface: Text::from_str(alloc, root)?,
+        command: None,
+        limits: List::new(alloc),
+    };
+    let mut feeds = feeds_of(alloc, lines)?;
+    let universe = load(alloc, &req, &policy(alloc)?, &[], &mut feeds)?;
+    let mut line = String::from_str(alloc, "loaded")?;
+    for _ in 0..times {
+        let formula = build(alloc, &universe, &req)?;
+        line = counts(alloc, &formula)?;
+    }
+    Ok(line)
+}
+
+/// The number that the program's one word is.
+fn asked(rt: &HostRuntime) -> io::Result<Option<u32>> {
+    let mut words = env::args(rt)?;
+    let _program = words.next();
+    match words.next() {
+        Some(word) => Ok(word.as_str().parse::<u32>().ok()),
+        None => Ok(None),
+    }
+}
+
+fn main(rt: HostRuntime) -> io::Result<ExitCode> {
+    let Some(times) = asked(&rt)? else {
+        eprintln!(rt; "build_speed: how often to build")?;
+        return Ok(ExitCode::from(2));
+    };
+    let mut text = Vec::new(rt.alloc());
+    rt.stdin().read_to_end(&mut text)?;
+    let Ok(lines) = std::str::from_utf8(text.as_slice()) else {
+        eprintln!(rt; "build_speed: the feeds aren't UTF-8")?;
+        return Ok(ExitCode::from(2));
+    };
+    match built(rt.alloc(), lines, times) {
+        Ok(line) => println!(rt; "{}", line.as_str())?,
+        Err(fault) => println!(rt; "{fault}")?,
+    }
+    Ok(ExitCode::SUCCESS)
+}
