@@ -199,7 +199,8 @@ def main():
             wrong += compare("programs", many, program_here, top)
             wrong += compare("demonstrations", len(DEMONSTRATIONS), lambda number, folder: demonstrated(number, folder, chosen_here), top)
         if has_other:
-            wrong += compare("programs for 0install", many, program_by_0install, top)
+            # while the program isn't asked about them, a few show that the rules by which they are judged are 0install's
+            wrong += compare("programs for 0install", many if is_built else many // 10, program_by_0install, top)
             wrong += compare("demonstrations for 0install", len(DEMONSTRATIONS), lambda number, folder: demonstrated(number, folder, chosen_by_0install), top)
     sys.exit(1 if wrong else 0)
 
