@@ -19,35 +19,11 @@ import subprocess
 import tempfile
 
 from measure import timed_with_peak
+from shapes import chain, impl, impls, requires, theirs_on, web, write_feeds
 
 TOP = pathlib.Path(__file__).resolve().parent.parent
 PROGRAM = os.environ.get("BUILD_SPEED", str(TOP / "crates/build_speed/out/build_speed"))
-NS = "http://zero-install.sourceforge.net/2004/injector/interface"
 RUNS = 3
-
-
-def impl(version, inside=""):
-    return f'<implementation id="{version}" version="{version}" local-path="here">{inside}</implementation>'
-
-
-def impls(count):
-    return "".join(f'<implementation id="{n}" version="{n}" local-path="here"/>' for n in range(count))
-
-
-def requires(interface, more=""):
-    return f'<requires interface="./{interface}.xml"{more}/>'
-
-
-def chain(count):
-    """So many interfaces, each of which needs the next: what stands in the root of each one's feed."""
-    return [impl(1, requires(n + 1) if n + 1 < count else "") for n in range(count)]
-
-
-def web(count):
-    """So many interfaces of ten versions, each of which needs three others, and refuses the oldest versions of them."""
-    others = lambda n: ((n * 7 + 1) % count, (n + 1) % count, (n * 3 + 2) % count)
-    needs = lambda n, v: "".join(requires(other, f' version="{v // 3}.."') for other in others(n))
-    return ["".join(impl(v, needs(n, v)) for v in range(10)) for n in range(count)]
 
 
 def versions(root, lib, rest):
@@ -72,25 +48,11 @@ SHAPES = (
 )
 
 
-def write(folder, feeds):
-    """The feeds as files, each with the name and the summary that 0install asks for, and as what the program reads."""
-    given = os.path.join(folder, "given")
-    with open(given, "w") as lines:
-        for n, inside in enumerate(feeds):
-            path = os.path.join(folder, f"{n}.xml")
-            lines.write(f"{path} {inside}\n")
-            with open(path, "w") as file:
-                file.write(f'<interface xmlns="{NS}"><name>n</name><summary>s</summary>{inside}</interface>\n')
-    return given, os.path.join(folder, "0.xml")
-
-
 def chosen(folder, root, ours):
     """Our whole run beside 0install's."""
-    other = shutil.which("0install")
-    if not other:
+    theirs = theirs_on(folder, root, RUNS)
+    if theirs is None:
         return "0install isn't installed: no ratio to it"
-    env = dict(os.environ, HOME=folder, XDG_CONFIG_HOME=folder, XDG_CACHE_HOME=folder)
-    theirs, _ = timed_with_peak([other, "select", "--offline", "--command=", "--xml", root], RUNS, env=env)
     return f"with the loading {ours / theirs:.3f} of the time in which 0install chooses ({theirs:.2f} s)"
 
 
@@ -117,8 +79,9 @@ def main():
         print(shape)
         for sizes in tried:
             with tempfile.TemporaryDirectory(prefix="zi-bench-") as folder:
-                os.mkdir(os.path.join(folder, "here"))  # 0install wants the path of an implementation to be there
-                given, root = write(folder, feeds_of(*sizes))
+                root, lines = write_feeds(folder, feeds_of(*sizes))
+                given = os.path.join(folder, "given")
+                pathlib.Path(given).write_text(lines)
                 with open(given) as source:
                     line = subprocess.run([PROGRAM, "1"], stdin=source, capture_output=True, text=True).stdout.strip()
                 literals = int(re.search(r"(\d+) literals", line)[1])

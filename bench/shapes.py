@@ -1,0 +1,54 @@
+"""Feeds of programs with dependencies, and how long 0install takes to choose from them."""
+import os
+import pathlib
+import shutil
+
+from measure import timed_with_peak
+
+NS = "http://zero-install.sourceforge.net/2004/injector/interface"
+
+
+def impl(version, inside=""):
+    return f'<implementation id="{version}" version="{version}" local-path="here">{inside}</implementation>'
+
+
+def impls(count):
+    return "".join(f'<implementation id="{n}" version="{n}" local-path="here"/>' for n in range(count))
+
+
+def requires(interface, more=""):
+    return f'<requires interface="./{interface}.xml"{more}/>'
+
+
+def chain(count):
+    """So many interfaces, each of which needs the next: what stands in the root of each one's feed."""
+    return [impl(1, requires(n + 1) if n + 1 < count else "") for n in range(count)]
+
+
+def web(count):
+    """So many interfaces of ten versions, each of which needs three others, and refuses the oldest versions of them."""
+    others = lambda n: ((n * 7 + 1) % count, (n + 1) % count, (n * 3 + 2) % count)
+    needs = lambda n, v: "".join(requires(other, f' version="{v // 3}.."') for other in others(n))
+    return ["".join(impl(v, needs(n, v)) for v in range(10)) for n in range(count)]
+
+
+def write_feeds(folder, feeds):
+    """The feeds as files, numbered from 0, each with the name and the summary that 0install asks for: the root's path, and a line for each with its path and what
+    stands in its root. Beside them stands the folder `here`, since 0install wants the path of an implementation to be there."""
+    os.mkdir(os.path.join(folder, "here"))
+    lines = []
+    for n, inside in enumerate(feeds):
+        path = os.path.join(folder, f"{n}.xml")
+        lines.append(f"{path} {inside}\n")
+        pathlib.Path(path).write_text(f'<interface xmlns="{NS}"><name>n</name><summary>s</summary>{inside}</interface>\n')
+    return os.path.join(folder, "0.xml"), "".join(lines)
+
+
+def theirs_on(folder, root, runs, wanted=0):
+    """The least time of some runs of `0install select` on these feeds, which end with this status; None where it isn't installed."""
+    other = shutil.which("0install")
+    if not other:
+        return None
+    env = dict(os.environ, HOME=folder, XDG_CONFIG_HOME=folder, XDG_CACHE_HOME=folder)
+    taken, _ = timed_with_peak([other, "select", "--offline", "--command=", "--xml", root], runs, wanted, env=env)
+    return taken

@@ -1,0 +1,79 @@
+#!/usr/bin/env python3
+"""Times `zi select` on programs with dependencies, beside `0install select` on the same feeds in the same run, where that is installed.
+
+Run it after `rt ci`, which builds the program. Interfaces in a chain and in a web have a choice, and so has the last shape, where only
+the oldest of many versions fits: its certificate is written too, and its size printed. At the end of the third chain no version
+fits, so there is no choice. A size is printed with the ratio of its time to that of the one before it, and of their interfaces or versions.
+"""
+import sys
+
+sys.path.append(sys.path.pop(0))  # last: select.py beside this file has the name of a module that subprocess needs
+
+import os
+import pathlib
+import subprocess
+import tempfile
+
+from measure import timed_with_peak
+from shapes import chain, impl, impls, requires, theirs_on, web, write_feeds
+
+TOP = pathlib.Path(__file__).resolve().parent.parent
+PROGRAM = os.environ.get("ZI_PROGRAM", str(TOP / "crates/zi/out/zi"))
+RUNS = 3
+
+
+def ending(count):
+    """So many interfaces in a chain, the last of which needs versions that nobody has."""
+    return [*chain(count)[:-1], impl(1, requires(count, ' version="5.."')), impl(1)]
+
+
+def oldest(count):
+    """One program, and another of so many versions, of which it can use the oldest alone: each newer one needs a version of a third that isn't there."""
+    others = "".join(impl(version, requires(2, ' version="5.."')) for version in range(1, count))
+    return [impl(1, requires(1)), impl(0) + others, impl(1)]
+
+
+def wide(count):
+    """So many interfaces of sixteen versions each around one program."""
+    return [impl(1, "".join(map(requires, range(1, count)))), *([impls(16)] * (count - 1))]
+
+
+# the shapes, the sizes that are tried, the status that is wanted here and there, whether a certificate is measured, and whether 0install is asked
+SHAPES = (
+    ("interfaces in a chain", chain, (125, 250, 500), (0, 0), False, True),
+    ("interfaces of ten versions in a web", web, (125, 250, 500), (0, 0), False, True),
+    ("interfaces in a chain that ends without a solution", ending, (25, 50, 100), (73, 1), False, True),
+    ("versions of which the oldest alone fits", oldest, (15_000, 30_000, 60_000), (0, 0), True, False),
+    ("interfaces of sixteen versions around one", wide, (1024, 2048, 4096), (0, 0), False, False),
+)
+
+
+def certificate(root):
+    """The size of the certificate."""
+    return len(subprocess.run([PROGRAM, "select", "--no-command", "--proof", root], capture_output=True, check=True).stdout)
+
+
+def main():
+    if not os.path.exists(PROGRAM):
+        sys.exit(f"{PROGRAM} isn't built: run `rt ci` first")
+    for shape, feeds_of, sizes, (here, there), is_certified, is_compared in SHAPES:
+        print(shape)
+        last = None
+        for size in sizes:
+            with tempfile.TemporaryDirectory(prefix="zi-bench-") as folder:
+                root, _ = write_feeds(folder, feeds_of(size))
+                ours, peak = timed_with_peak([PROGRAM, "select", "--no-command", root], RUNS, here)
+                line = f"{size:6d}: {ours * 1000:8.1f} ms, peak {peak / 1e6:.0f} MB"
+                if last:
+                    line += f", {ours / last[1]:.2f} times the time for {size / last[0]:.0f} times as many"
+                last = size, ours
+                if is_certified:
+                    line += f", certificate {certificate(root)} bytes"
+                if is_compared:
+                    theirs = theirs_on(folder, root, RUNS, there)
+                    line += "; 0install isn't installed: no ratio to it" if theirs is None else f"; {ours / theirs:.3f} of 0install's time ({theirs:.2f} s)"
+                print(line, flush=True)
+
+
+if __name__ == "__main__":
+    main()
