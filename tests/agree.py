@@ -32,6 +32,7 @@ STABILITIES = ["stable", "testing", "developer", "buggy", "insecure"]
 RANGES = ["2..", "..!2", "1..!10", "1.2", "0..!1 | 2..", "!3"]
 NOT_BUILT = 95
 DEMONSTRATIONS = (1, 2, 10, 40)
+SECONDS = 300
 
 
 class Feeds:
@@ -91,7 +92,7 @@ def text_of(attributes):
 
 def chosen(words, env=None):
     """The ids that are chosen, by interface; none where the words are refused."""
-    done = subprocess.run(words, env=env, stdout=subprocess.PIPE, stderr=subprocess.DEVNULL)
+    done = subprocess.run(words, env=env, stdout=subprocess.PIPE, stderr=subprocess.DEVNULL, timeout=SECONDS)
     if done.returncode != 0:
         return {}
     selections = xml.etree.ElementTree.fromstring(done.stdout).findall(f"{{{NS}}}selection")
@@ -154,7 +155,7 @@ def is_built_for_needs(folder):
     root = os.path.join(folder, "root.xml")
     write(root, f"<interface xmlns='{NS}'><group><requires interface='./lib.xml'/>{implementation}</group></interface>")
     write(os.path.join(folder, "lib.xml"), f"<interface xmlns='{NS}'>{implementation}</interface>")
-    return subprocess.run([PROGRAM, "select", "--no-command", root], stdout=subprocess.DEVNULL, stderr=subprocess.DEVNULL).returncode != NOT_BUILT
+    return subprocess.run([PROGRAM, "select", "--no-command", root], stdout=subprocess.DEVNULL, stderr=subprocess.DEVNULL, timeout=SECONDS).returncode != NOT_BUILT
 
 
 def write(path, text):
@@ -176,6 +177,8 @@ def compare(what, many, ask, top):
             print(f"{what} {number}, {' '.join(asked)}: " + ", ".join(f"{answer} {who}" for who, answer in answers.items()))
         elif first:
             both += 1
+        if (number + 1) % 100 == 0:
+            print(f"{number + 1} of {many} {what}", flush=True)
     print(f"{many} {what} ({', '.join(answers)}): {both} chosen alike, {many - both - wrong} with nothing to choose for all, {wrong} chosen otherwise")
     return wrong
 

@@ -3,8 +3,8 @@
 
 First come certificates by hand, over feeds by hand. Then the program crates/zi/out/zi is asked for those of random programs and of the
 demonstration (programs.py), where it writes any yet: each is to exclude for the best choice by the rules, or to refute where no choice is valid,
-and with one hint changed the program's own judgement is to be the checker's. A number on the command line asks for as many. The
-status is 1 where something is wrong.
+and with one hint changed the program's own judgement, where it has the command for it, is to be the checker's. A number on the command
+line asks for as many. The status is 1 where something is wrong.
 """
 import os
 import random
@@ -21,6 +21,7 @@ TOP = os.path.dirname(os.path.dirname(os.path.abspath(__file__)))
 PROGRAM = os.path.join(TOP, "crates", "zi", "out", "zi")
 DONE, USAGE, NO_SOLUTION, REJECTED, NOT_BUILT = 0, 64, 73, 78, 95
 DEMONSTRATIONS = (1, 10, 40)
+SECONDS = 300
 
 
 def impl(id_, version, inside="", **said):
@@ -89,7 +90,7 @@ def wrong_by_hand(folder):
 
 
 def run(*words):
-    done = subprocess.run([PROGRAM, *words], stdout=subprocess.PIPE, stderr=subprocess.DEVNULL)
+    done = subprocess.run([PROGRAM, *words], stdout=subprocess.PIPE, stderr=subprocess.DEVNULL, timeout=SECONDS)
     return done.returncode, done.stdout
 
 
@@ -108,7 +109,7 @@ def changed(text, chance):
 
 
 def judged_here(words, root, choice, text, folder):
-    """Whether the program accepts a text: `check` with the document that it selects itself, or `refute`."""
+    """Whether the program accepts a text: `check` with the document that it selects itself, or `refute`; None where it doesn't know `check` yet."""
     proof = os.path.join(folder, "proof")
     with open(proof, "wb") as file:
         file.write(text)
@@ -119,7 +120,7 @@ def judged_here(words, root, choice, text, folder):
         with open(selections, "wb") as file:
             file.write(run("select", *words, root)[1])
         status, _ = run("check", *words, root, selections, proof)
-    return {DONE: True, REJECTED: False}.get(status, f"status {status}")
+    return {DONE: True, REJECTED: False, USAGE: None}.get(status, f"status {status}")
 
 
 def wrong_of(asked, options, choice, folder):
@@ -134,7 +135,7 @@ def wrong_of(asked, options, choice, folder):
         return f"not accepted: {text}"
     for other in filter(None, [text, *(changed(text, chance) for _ in range(3))]):
         here = judged_here(words, asked.root, choice, other, folder)
-        if here != judge(universe, asked, choice, other):
+        if here not in (None, judge(universe, asked, choice, other)):
             return f"{here} here, and otherwise by the checker: {other}"
     return None
 
@@ -155,14 +156,16 @@ def wrong_of_demonstration(number, folder):
 
 def check(what, numbers, wrong_of_number, top):
     wrong = 0
-    for number in numbers:
+    for done, number in enumerate(numbers):
         folder = os.path.join(top, f"{what} {number}")
         os.mkdir(folder)
         found = wrong_of_number(number, folder)
         if found:
             wrong += 1
             print(f"{what} {number}: {found}")
-    print(f"{len(numbers)} of {what}: {wrong} wrong")
+        if (done + 1) % 100 == 0:
+            print(f"{done + 1} of {len(numbers)} {what}", flush=True)
+    print(f"{len(numbers)} {what}: {wrong} wrong")
     return wrong
 
 

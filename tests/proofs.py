@@ -512,7 +512,7 @@ def wrong_in(formula, true_in, found, text, budget):
 
 def searched(formula, budget):
     """What the program comes to, and the proof text that it writes."""
-    done = subprocess.run([PROGRAM, str(budget)], input=dimacs(formula), stdout=subprocess.PIPE, check=True)
+    done = subprocess.run([PROGRAM, str(budget)], input=dimacs(formula), stdout=subprocess.PIPE, check=True, timeout=300)
     found, text = done.stdout.split(b"\n", 1)
     return found.decode(), text
 
