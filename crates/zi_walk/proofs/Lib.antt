@@ -1,0 +1,9 @@
+pub mod Rules
+pub mod Passed
+pub mod Found
+pub mod Quiet
+pub mod First
+pub mod Ways
+pub mod Replay
+pub mod Stops
+pub mod OpenLaws

@@ -1,0 +1,21 @@
+use Rattle.std.proofs.Common.{length, sym, ap, ◌∙◌}
+use Rattle.zi_sat.specs.Trail.{known_from}
+use Rattle.zi_choice.specs.Vars.{candidates_of}
+use Rattle.zi_walk.specs.Rule.{is_undecided}
+use Rattle.zi_walk.proofs.OpenLaws.{first_starts, first_found, first_passed, first_ends}
+use Rattle.zi_walk.proofs.open.undecided_at.Goals as goal
+
+pub loop-c-init : goal.loop-c-init
+loop-c-init c = first_starts (is_undecided c.args.n.now (known_from c.args.t.now.entries) c.args.i) (candidates_of c.args.n.now c.args.i)
+
+pub returns-then-is_undecided-clause-is : goal.returns-then-is_undecided-clause-is
+returns-then-is_undecided-clause-is c =
+    first_found (is_undecided c.args.n.now (known_from c.args.t.now.entries) c.args.i) (candidates_of c.args.n.now c.args.i) c.loop-c.c (length c.candidates.result.now) c.loop-c.invariant c.loop-c-test.true (ap length c.candidates.ensures.is) (sym c.is_undecided.ensures ∙ c.if-is_undecided.true)
+
+pub loop-c-preserved : goal.loop-c-preserved
+loop-c-preserved c =
+    first_passed (is_undecided c.args.n.now (known_from c.args.t.now.entries) c.args.i) (candidates_of c.args.n.now c.args.i) c.loop-c.c (length c.candidates.result.now) c.loop-c.invariant c.loop-c-test.true (ap length c.candidates.ensures.is) (sym c.is_undecided.ensures ∙ c.if-is_undecided.false)
+
+pub returns-clause-is : goal.returns-clause-is
+returns-clause-is c =
+    first_ends (is_undecided c.args.n.now (known_from c.args.t.now.entries) c.args.i) (candidates_of c.args.n.now c.args.i) c.loop-c.c (length c.candidates.result.now) c.loop-c.invariant c.loop-c-test.false (ap length c.candidates.ensures.is)
