@@ -1,0 +1,4 @@
+pub mod TakeLaws
+pub mod MeetLaws
+pub mod ValidLaws
+pub mod ExcludeLaws
