@@ -2,20 +2,21 @@
 
 _zi() {
     local word=${COMP_WORDS[COMP_CWORD]} before=${COMP_WORDS[COMP_CWORD-1]}
-    local options="--no-command --version --version-for --os --cpu --lang --level --network --use --rate --"
+    local options="--command --no-command --version --version-for --os --cpu --lang --level --network --use --rate --search --"
     COMPREPLY=()
     if [ "$COMP_CWORD" -eq 1 ]; then
-        mapfile -t COMPREPLY < <(compgen -W "select manifest store --help --version" -- "$word")
+        mapfile -t COMPREPLY < <(compgen -W "select refute manifest store --help --version" -- "$word")
         return
     fi
     case ${COMP_WORDS[1]} in
-        select)
+        select | refute)
+            [ "${COMP_WORDS[1]}" = select ] && options="--proof $options"
             case $before in
                 --os) mapfile -t COMPREPLY < <(compgen -W "Linux Darwin FreeBSD Windows POSIX" -- "$word") ;;
                 --cpu) mapfile -t COMPREPLY < <(compgen -W "x86_64 i686 i586 i486 i386 aarch64" -- "$word") ;;
                 --level) mapfile -t COMPREPLY < <(compgen -W "developer testing stable" -- "$word") ;;
                 --network) mapfile -t COMPREPLY < <(compgen -W "full minimal off" -- "$word") ;;
-                --version | --version-for | --lang | --use | --rate) ;;
+                --command | --version | --version-for | --lang | --use | --rate | --search) ;;
                 *)
                     case $word in
                         -*) mapfile -t COMPREPLY < <(compgen -W "$options" -- "$word") ;;

@@ -212,6 +212,46 @@ def whole_feeds(folder):
     expect(run(SELECT + [root], folder), 0, selections(root, "a", "1"), b"")
 
 
+YES = (0, b"yes\n", b"")
+REJECTED = (78, b"", b"zi: rejected\n")
+NONE_AT_ALL = b"zi-proof 1\nl 0 1 0\ne\n"
+
+
+def proofs_that_refute(folder):
+    """A proof is read behind the loading, and says yes where each lemma follows and the last one has no literal."""
+    root = write(folder, "none.xml", f'<interface xmlns="{NS}"/>')
+    proof = os.path.join(folder, "proof")
+    words = ["refute", root, proof]
+    expect(run(words, folder), 75, b"", f"zi: no file {proof}\n".encode())
+    rows = [
+        (NONE_AT_ALL, YES),
+        # the hint is missing, or cites what isn't there, or there is no lemma
+        (b"zi-proof 1\nl 0 0\ne\n", REJECTED),
+        (b"zi-proof 1\nl 0 2 0\ne\n", REJECTED),
+        (b"zi-proof 1\ne\n", REJECTED),
+        # a block, which no refutation has
+        (b"zi-proof 1\nl 0 1 0\nb 1 1 1 0\ne\n", REJECTED),
+        # it is cut, or has an empty line more, or isn't a proof at all
+        (b"zi-proof 1\nl 0 1 0\n", (77, b"", b"zi: bad proof at line 3\n")),
+        (NONE_AT_ALL + b"\n", (77, b"", b"zi: bad proof at line 4\n")),
+        (b"", (77, b"", b"zi: bad proof at line 1\n")),
+    ]
+    for text, wanted in rows:
+        write(folder, "proof", text)
+        expect(run(words, folder), *wanted)
+    write(folder, "proof", NONE_AT_ALL)
+    expect(run(["refute", "--no-command", "--os", "Windows", root, proof], folder), *YES)
+    # something fits, or did under other options: the limit takes the one implementation away
+    root = write(folder, "one.xml", feed(impl("a", "1")))
+    expect(run(["refute", "--no-command", root, proof], folder), *REJECTED)
+    expect(run(["refute", "--no-command", "--version", "2..", root, proof], folder), *YES)
+    # the feeds are loaded first
+    os.remove(proof)
+    root = write(folder, "bad.xml", "<interface/>")
+    expect(run(["refute", root, proof], folder), 67, b"", f"zi: bad feed {root}: feed 1 at 0\n".encode())
+    expect(run(["refute", os.path.join(folder, "no.xml"), proof], folder), 66, b"", b"zi: no feed for the root\n")
+
+
 def limits(folder):
     def of(count):
         ids = "".join(f"<implementation id='{n}'/>" for n in range(count))
@@ -277,14 +317,19 @@ def wrong_words(folder):
         (["--help", "x"], 1),
         (["--version", "--help"], 1),
         (["select"], 1),
-        (["select", "/a"], 1),
-        (["select", "--"], 1),
+        (["select", "--"], 2),
+        (["select", "/a", "--proof"], 2),
+        (["refute", "/a"], 2),
+        (["refute", "/a", "b", "c"], 3),
+        (["refute", "--proof", "/a", "b"], 1),
+        (["select", "--command", "", "/a"], 2),
+        (["select", "--command", "a", "--no-command", "/a"], 3),
         (["select", "--no-command"], 2),
         (["select", "--no-command", "a"], 2),
         (["select", "--no-command", "/a", "/b"], 3),
         (["select", "--no-command", "--no-command", "/a"], 2),
         (["select", "--no-command", "--", "--", "/a"], 3),
-        (["select", "--no-command", "--proof", "/a"], 2),
+        (["select", "--no-command", "--proof", "--proof", "/a"], 3),
         (["select", "--no-command", "/a\tb"], 2),
         (["select", "--no-command", "--version=1", "/a"], 2),
         (["select", "--no-command", "--version", "..3", "/a"], 3),
@@ -295,8 +340,8 @@ def wrong_words(folder):
         (["select", "--no-command", "--level", "preferred", "/a"], 3),
         (["select", "--no-command", "--network", "none", "/a"], 3),
         (["select", "--no-command", "--os", "", "/a"], 3),
-        (["select", "--no-command", "--search", "5", "/r"], 2),
-        (["select", "--search", "5", "--no-command", "/r"], 1),
+        (["select", "--no-command", "--search", "5"], 4),
+        (["select", "--search", "4000000001", "--no-command", "/r"], 2),
         (["select", "--no-command", "--rate", "/a", "x", "stable", "--rate", "/a", "x", "stable", "/a"], 8),
         (["select", b"--no-command\xff"], 1),
         (["select", "--no-command", b"/\xff"], 2),
@@ -311,8 +356,8 @@ def wrong_words(folder):
 
 def help_and_version(folder):
     status, out, err = run(["--help"], folder)
-    options = ["--no-command", "--version", "--version-for", "--os", "--cpu", "--lang", "--level", "--network", "--use", "--rate"]
-    missing = [word for word in ["zi select", "zi --help", "zi --version", "Linux", "x86_64", "ZI_FEEDS"] + options if word.encode() not in out]
+    options = ["--no-command", "--version", "--version-for", "--os", "--cpu", "--lang", "--level", "--network", "--use", "--rate", "--command", "--search", "--proof"]
+    missing = [word for word in ["zi select", "zi refute", "zi --help", "zi --version", "Linux", "x86_64", "ZI_FEEDS"] + options if word.encode() not in out]
     if status != 0 or err or missing or not out.endswith(b"\n"):
         raise Wrong(f"{status}, {missing}, {out!r}, {err!r}")
     expect(run(["--version"], folder), 0, b"zi 0.1\n", b"")
@@ -541,6 +586,7 @@ ROWS = [
     dependencies_are_loaded_first,
     whole_feeds,
     what_is_said_of_the_chosen,
+    proofs_that_refute,
     limits,
     many_implementations,
     feeds_that_cannot_be_read,

@@ -32,16 +32,16 @@ use Rattle.zi_app.specs.declared.gathering.GatherFault.{GatherFault}
 use Rattle.zi_app.specs.declared.gathering.GatherFault.TheVariants as gather
 use Rattle.zi_outcome.specs.declared.outcome.Outcome.{Outcome}
 use Rattle.zi_outcome.specs.declared.outcome.Outcome.TheVariants.{Done, BadName, Mismatch, Memory}
-use Rattle.zi_app.specs.Shelves.{Untouched, Lasts, ShelfFailed}
-use Rattle.zi_app.specs.World.{World}
+use Rattle.zi_world.specs.Shelves.{Untouched, Lasts, ShelfFailed}
+use Rattle.zi_world.specs.World.{World}
 use Rattle.zi_outcome.specs.Writing.{Prints}
 use Rattle.zi_app.specs.Gathering.{Gathers, Refuses}
 use Rattle.zi_app.specs.Adding.{IsToAdd, HasRun, Tries, Costs, AddsNothing, AddsTo, Adds, KeepsStored, beginning, stored_line, present_line}
 use Rattle.zi_app.specs.AddingParts.{files_outcome, IsEnd, Closes, Lent, IsIdle, AddsTree}
-use Rattle.zi_app.specs.Asking.{FeedsStay}
+use Rattle.zi_world.specs.Asking.{FeedsStay}
 use Rattle.zi_tree.specs.declared.change.TreeLimit.TheVariants as limit
-use Rattle.zi_app.proofs.AskingLemmas.{asks_stay}
-use Rattle.zi_app.proofs.ShelvesLemmas.{some_is, untouched, untouched_lasts}
+use Rattle.zi_world.proofs.AskingLemmas.{asks_stay}
+use Rattle.zi_world.proofs.ShelvesLemmas.{some_is, untouched, untouched_lasts}
 use Rattle.zi_app.proofs.GatheringLemmas.{gathers_some}
 
 -- Why there is no tree of the files.

@@ -1,5 +1,3 @@
-pub mod AskingLemmas
-pub mod ShelvesLemmas
 pub mod SelectLemmas
 pub mod StoreLemmas
 pub mod GatheringLemmas

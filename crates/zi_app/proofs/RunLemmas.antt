@@ -1,14 +1,17 @@
 -- The work of the words, and its outcome.
-use Rattle.std.proofs.Common.{◌≡◌, ◌≢◌, inl, inr, ◌⊎◌, List, ℕ, [], ◌∷◌, length, refl, sym, subst, true, false, None}
+use Rattle.std.proofs.Common.{◌≡◌, ◌≢◌, inl, inr, ◌⊎◌, List, ℕ, [], ◌∷◌, length, refl, sym, subst, Bool, true, false}
 use Rattle.std.proofs.lemmas.List.{append-nil}
 use Rattle.zi_text.specs.Front.{StopsAt, stops_at_end}
-use Rattle.zi_words.specs.declared.asked.Asked.{Asked}
+use Rattle.zi_words.specs.declared.loader.Loader.{Loader}
+use Rattle.zi_words.specs.declared.loader.Loader.TheVariants as loader
+use Rattle.zi_words.specs.declared.request.Ask.{Ask}
 use Rattle.zi_outside.specs.Views.{Sinking}
 use Rattle.zi_words.specs.declared.request.Request.{Request}
 use Rattle.zi_words.specs.declared.request.Request.TheVariants as request
-use Rattle.zi_words.specs.Words.{Right, AreRight, FaultMeans}
+use Rattle.zi_words.specs.Words.{request_of, Right, AreRight, FaultMeans}
 use Rattle.zi_words.specs.declared.request.WordsFault.{WordsFault}
 use Rattle.zi_words.specs.declared.request.WordsFault.TheVariants as fault
+use Rattle.zi_words.specs.Forms.{Word}
 use Rattle.zi_words.specs.Options.{ask_of, gathered}
 use Rattle.zi_words.specs.Store.{AsksStore}
 use Rattle.zi_app.specs.declared.checked.Checked.{Checked}
@@ -16,24 +19,25 @@ use Rattle.zi_app.specs.declared.checked.Checked.TheVariants as checked
 use Rattle.zi_digest.specs.declared.DigestName.{DigestName}
 use Rattle.zi_outcome.specs.declared.outcome.Outcome.{Outcome}
 use Rattle.zi_outcome.specs.declared.outcome.Outcome.TheVariants.{Done, Usage, DamagedTree, Memory}
-use Rattle.zi_app.specs.World.{World}
+use Rattle.zi_world.specs.World.{World}
 use Rattle.zi_outcome.specs.Writing.{PrintsThen, Prints}
 use Rattle.zi_app.specs.Showing.{ShowsText}
 use Rattle.zi_app.specs.ManifestCommand.{Shows}
 use Rattle.zi_app.specs.StoreVerify.{TellsCheck}
+use Rattle.zi_app.specs.Select.{wants_more, SelectsFor}
 use Rattle.zi_app.specs.Answers.{Does, Works, Runs}
 use Rattle.zi_app.specs.Words.{IsInForm, words_outcome}
-use Rattle.zi_app.specs.Asking.{FeedsStay}
-use Rattle.zi_app.proofs.AskingLemmas.{unasked_stay}
-use Rattle.zi_app.specs.Shelves.{Lasts}
+use Rattle.zi_world.specs.Asking.{FeedsStay}
+use Rattle.zi_world.proofs.AskingLemmas.{unasked_stay}
+use Rattle.zi_world.specs.Shelves.{Lasts}
 use Rattle.zi_outcome.specs.Line.{Tells}
 use Rattle.zi_store.specs.Keeping.{is_names, is_reading}
-use Rattle.zi_app.proofs.ShelvesLemmas.{untouched, nothing_done, untouched_lasts, keeps_lasts}
+use Rattle.zi_world.proofs.ShelvesLemmas.{untouched, nothing_done, untouched_lasts, keeps_lasts}
 
--- right words ask for no command, and for files with names
-asked_none : (root : List ℕ) (a : Asked) → (ask_of root a).command ≡ None
-unfolding ask_of
-asked_none root a = refl
+-- right words ask for files with names
+loads_form : (l : Loader) (ask : Ask) (proof : Bool) (named : List Word) → IsInForm (request_of l ask proof named)
+loads_form loader.Select ask proof named = tt
+loads_form loader.Refute ask proof named = tt
 
 store_form : (ws : List (List ℕ)) (r : Request) → AsksStore ws r → IsInForm r
 store_form [] r s = absurd s
@@ -43,7 +47,8 @@ store_form (w ∷ ws) r (inr (inr (e, are, asked))) = subst IsInForm (sym asked)
 
 pub in_form : (words : List (List ℕ)) (r : Request) → Right words r → IsInForm r
 in_form [] r right = absurd right
-in_form (w ∷ ws) r (inl (e, asks)) = subst IsInForm (sym asks.asked) (asked_none asks.root (gathered asks.options))
+in_form (w ∷ ws) r (inl (l, e, asks)) =
+    subst IsInForm (sym asks.asked) (loads_form l (ask_of asks.root (gathered asks.options)) (gathered asks.options).proof asks.named)
 in_form (w ∷ ws) r (inr (inl (inl (e, (a, name, are, right, asked))))) = subst IsInForm (sym asked) tt
 in_form (w ∷ ws) r (inr (inl (inr (e, s)))) = store_form ws r s
 in_form (w ∷ ws) r (inr (inr (are, inl (e, asked)))) = subst IsInForm (sym asked) tt
@@ -65,9 +70,13 @@ no_check name checked.Missing old new index (e, w) = (cc e)
 no_check name (checked.BadName path) old new index (e, w) = (cc e)
 no_check name (checked.TooLarge what limit) old new index (e, w) = (cc e)
 
+no_select : (more : Bool) (ask : Ask) (before after : World) (index : ℕ) → SelectsFor more ask before after (Usage index) → ⊥
+no_select true ask before after index (e, n) = (cc e)
+no_select false ask before after index d = elim d.answer [ inl f ↦ f.0 | inr s ↦ s.1.2 ]
+
 never_usage : (asked : Request) (before after : World) (index : ℕ) → Does asked before after (Usage index) → ⊥
-never_usage (request.Select ask false) before after index d = elim d.answer [ inl f ↦ f.0 | inr s ↦ s.1.2 ]
-never_usage (request.Select ask true) before after index (e, n) = (cc e)
+never_usage (request.Select ask proof) before after index d = no_select (wants_more ask proof) ask before after index d
+never_usage (request.Refute ask proof) before after index d = elim d.answer [ inl f ↦ f.0 | inr s ↦ s.1.2 ]
 never_usage (request.Manifest algorithm name) before after index d = elim d.answer [
   | inl f ↦ f
   | inr s ↦ elim s.1 [
@@ -106,9 +115,17 @@ shows text shown world out outcome e p = record { feeds = refl; shelf = untouche
 pub ruleset answering = (nothing_done)
 
 -- Feeds and shelf can be used on.
+select_lasts : (more : Bool) (ask : Ask) (before after : World) (outcome : Outcome) → SelectsFor more ask before after outcome → Lasts before.shelf after.shelf
+select_lasts true ask before after outcome (e, n) = untouched_lasts before.shelf after.shelf n.shelf
+select_lasts false ask before after outcome d = keeps_lasts is_names before.shelf after.shelf d.shelf
+
+select_stays : (more : Bool) (ask : Ask) (before after : World) (outcome : Outcome) → SelectsFor more ask before after outcome → FeedsStay before.feeds after.feeds
+select_stays true ask before after outcome (e, n) = unasked_stay before.feeds after.feeds n.feeds
+select_stays false ask before after outcome d = d.feeds
+
 does_last : (asked : Request) (before after : World) (outcome : Outcome) → Does asked before after outcome → Lasts before.shelf after.shelf
-does_last (request.Select ask false) before after outcome d = keeps_lasts is_names before.shelf after.shelf d.shelf
-does_last (request.Select ask true) before after outcome (e, n) = untouched_lasts before.shelf after.shelf n.shelf
+does_last (request.Select ask proof) before after outcome d = select_lasts (wants_more ask proof) ask before after outcome d
+does_last (request.Refute ask proof) before after outcome d = keeps_lasts is_names before.shelf after.shelf d.shelf
 does_last (request.Manifest algorithm name) before after outcome d = keeps_lasts is_reading before.shelf after.shelf d.shelf
 does_last (request.Add name files) before after outcome d = d.shelf
 does_last (request.Verify name) before after outcome d = keeps_lasts is_reading before.shelf after.shelf d.shelf
@@ -117,8 +134,8 @@ does_last request.Help before after outcome d = untouched_lasts before.shelf aft
 does_last request.Version before after outcome d = untouched_lasts before.shelf after.shelf d.shelf
 
 does_stay : (asked : Request) (before after : World) (outcome : Outcome) → Does asked before after outcome → FeedsStay before.feeds after.feeds
-does_stay (request.Select ask false) before after outcome d = d.feeds
-does_stay (request.Select ask true) before after outcome (e, n) = unasked_stay before.feeds after.feeds n.feeds
+does_stay (request.Select ask proof) before after outcome d = select_stays (wants_more ask proof) ask before after outcome d
+does_stay (request.Refute ask proof) before after outcome d = d.feeds
 does_stay (request.Manifest algorithm name) before after outcome d = unasked_stay before.feeds after.feeds d.feeds
 does_stay (request.Add name files) before after outcome d = d.feeds
 does_stay (request.Verify name) before after outcome d = unasked_stay before.feeds after.feeds d.feeds

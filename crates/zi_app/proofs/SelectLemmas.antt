@@ -1,6 +1,6 @@
 -- The choice, and what it means for the words that asked for it.
 use Rattle.std.proofs.Common.{◌≡◌, ℕ, inl, inr, ◌⊎◌, Bool, true, false, List, [], ◌∷◌, length, refl, sym, ap, subst, ◌∙◌, Option, Some, None, arith}
-use Rattle.std.specs.Prelude.{slice_get, All, not, ◌&&◌, ◌==◌, ◌<◌}
+use Rattle.std.specs.Prelude.{slice_get, All, not, ◌&&◌, ◌||◌, is_some, ◌==◌, ◌<◌}
 use Rattle.std.proofs.lemmas.Bool.{and_parts}
 use Rattle.std.proofs.lemmas.Bool.Decides.{nat_tests}
 use Rattle.std.proofs.lemmas.List.Elements.{All-nil, All-cons}
@@ -15,9 +15,9 @@ use Rattle.zi_universe.specs.declared.fault.LoadFault.{LoadFault}
 use Rattle.zi_universe.specs.declared.fault.LoadFault.TheVariants as load
 use Rattle.zi_universe.specs.Loading.{names_of, Task, LoadsAsking, RefusesAsking}
 use Rattle.zi_outcome.specs.declared.outcome.Outcome.{Outcome}
-use Rattle.zi_outcome.specs.declared.outcome.Outcome.TheVariants.{Done, Usage, FeedRead, NoRootFeed, BadFeed, FeedTooLong, TooManyFeeds, TooManyInterfaces, TooManyCandidates, TooLarge, NoFile, Overlap, Mismatch, MissingTree, DamagedTree, BadName, TreeTooLarge, StoreFault, Crowded, Unwritable, SinkFault, Memory, Unbuilt}
+use Rattle.zi_outcome.specs.declared.outcome.Outcome.TheVariants.{Done, Usage, FeedRead, NoRootFeed, BadFeed, FeedTooLong, TooManyFeeds, TooManyInterfaces, TooManyCandidates, TooLarge, NoSolution, Spent, NoFile, BadProof, Rejected, Overlap, Mismatch, MissingTree, DamagedTree, BadName, TreeTooLarge, StoreFault, Crowded, Unwritable, SinkFault, Memory, Unbuilt}
 use Rattle.zi_outcome.specs.Refused.{outcome_of}
-use Rattle.zi_app.specs.Wanted.{requirement_of}
+use Rattle.zi_choosing.specs.Wanted.{requirement_of}
 use Rattle.zi_sels.specs.declared.types.Selections.{Selections}
 use Rattle.zi_sels.specs.Chosen.{AreSelected}
 use Rattle.zi_sels.specs.Written.{document}
@@ -29,7 +29,9 @@ use Rattle.zi_build.specs.declared.building.BuildFault.TheVariants as build
 use Rattle.zi_build.specs.Answers.{FaultMeans}
 use Rattle.zi_digest.specs.declared.DigestName.{DigestName}
 use Rattle.zi_outcome.specs.Writing.{Prints}
-use Rattle.zi_app.specs.Select.{is_empty, needs_nothing, are_built, is_built, root_candidates, AreFew, IsThere, Chooses, IsAmiss, task_of, IsLoaded, IsRefused, Lent, SelectsOver}
+use Rattle.zi_app.specs.Select.{is_empty, needs_nothing, are_built, is_built, root_candidates, AreFew, IsThere, Chooses, IsAmiss, task_of, IsLoaded, IsRefused, Lent, SelectsOver, Selects, SelectsFor}
+use Rattle.zi_world.specs.World.{World}
+use Rattle.zi_world.proofs.ShelvesLemmas.{nothing_done}
 use Rattle.zi_app.specs.SelectParts.{build_outcome, PrintsDocument, ChoosesNothing, ChoosesFrom}
 use Rattle.zi_outcome.proofs.WritingLemmas.{nothing_put}
 
@@ -143,7 +145,11 @@ nothing_as stored ask before after u (FeedTooLong uri limit) loaded why w = absu
 nothing_as stored ask before after u (TooManyFeeds limit) loaded why w = absurd why
 nothing_as stored ask before after u (TooManyInterfaces limit) loaded why w = absurd why
 nothing_as stored ask before after u (TooManyCandidates limit) loaded why w = absurd why
+nothing_as stored ask before after u (NoSolution proof) loaded why w = absurd why
+nothing_as stored ask before after u (Spent proof count) loaded why w = absurd why
 nothing_as stored ask before after u (NoFile name) loaded why w = absurd why
+nothing_as stored ask before after u (BadProof line) loaded why w = absurd why
+nothing_as stored ask before after u Rejected loaded why w = absurd why
 nothing_as stored ask before after u (Overlap path) loaded why w = absurd why
 nothing_as stored ask before after u (Mismatch name found) loaded why w = absurd why
 nothing_as stored ask before after u (MissingTree name) loaded why w = absurd why
@@ -201,3 +207,19 @@ refused_load stored ask req policy before after e outcome at_req at_policy r w a
 -- there was no memory for the task
 pub no_task : (stored : List DigestName) (ask : Ask) (lent : Lent) → SelectsOver stored ask lent lent Memory
 no_task stored ask lent = inl refl
+
+-- Where a proof or a command is wanted nothing is done.
+pub not_yet : (more : Bool) (ask : Ask) (world : World) → more ≡ true → SelectsFor more ask world world Unbuilt
+not_yet true ask world e = (refl, nothing_done world)
+not_yet false ask world e = cc
+
+pub selected_for : (more : Bool) (ask : Ask) (before after : World) (outcome : Outcome) → more ≡ false → Selects ask before after outcome → SelectsFor more ask before after outcome
+selected_for true ask before after outcome e d = cc
+selected_for false ask before after outcome e d = d
+
+pub no_command : (proof : Bool) (o : Option (List ℕ)) → (proof || is_some o) ≡ false → o ≡ None
+no_command true o e = cc
+no_command false None e = refl
+no_command false (Some c) e = cc
+
+pub ruleset selecting_for = (not_yet, selected_for, no_command)

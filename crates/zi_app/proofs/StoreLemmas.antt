@@ -30,7 +30,7 @@ use Rattle.zi_store.specs.Verdicts.{Verifies}
 use Rattle.zi_outcome.specs.declared.outcome.Outcome.{Outcome}
 use Rattle.zi_app.specs.declared.difference.Difference.{Difference}
 use Rattle.zi_app.specs.declared.difference.Difference.TheVariants.{NoManifest, Agrees, FirstIn}
-use Rattle.zi_app.specs.Shelves.{Held}
+use Rattle.zi_world.specs.Shelves.{Held}
 use Rattle.zi_outcome.specs.Writing.{Prints}
 use Rattle.zi_app.specs.StoreList.{name_line}
 use Rattle.zi_app.specs.ManifestCommand.{Shows}
@@ -182,13 +182,3 @@ bad_told name path s r e v = subst (λ x. Verifies name x s) e v
 pub large_told : (name : DigestName) (what : TreeLimit) (limit : ℕ) (s : Shelved Dir) (r : Result Verdict ShelfFault) → r ≡ Ok (verdict.TooLarge what limit) → Verifies name r s
     → Verifies name (Ok (verdict.TooLarge what limit)) s
 large_told name what limit s r e v = subst (λ x. Verifies name x s) e v
-
--- how a call of the store answered
-pub failed : {T : Type 0} (f : ShelfFault) → f ≡ fault.Failed → ◌≡◌ {A = Result T ShelfFault} (Err f) (Err fault.Failed)
-failed f e = ap (λ x. Err x) e
-
-pub not_failed : {T : Type 0} (f : ShelfFault) → f ≡ fault.Memory → ◌≡◌ {A = Result T ShelfFault} (Err f) (Err fault.Failed) → ⊥
-not_failed f is e = cc
-
-pub answered : {T : Type 0} (x : T) → ◌≡◌ {A = Result T ShelfFault} (Ok x) (Err fault.Failed) → ⊥
-answered x e = cc

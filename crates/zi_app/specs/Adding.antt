@@ -20,10 +20,10 @@ use Rattle.zi_session.specs.Alone.{EndsAlone}
 use Rattle.zi_session.specs.declared.step.Step.{Step}
 use Rattle.zi_session.specs.declared.step.Step.TheVariants as step
 use Rattle.zi_words.specs.Forms.{Word}
-use Rattle.zi_app.specs.Shelves.{Untouched, Lasts, ShelfFailed}
+use Rattle.zi_world.specs.Shelves.{Untouched, Lasts, ShelfFailed}
 use Rattle.zi_outcome.specs.Writing.{StopsShort}
-use Rattle.zi_app.specs.Asking.{FeedsStay}
-use Rattle.zi_app.specs.World.{World, NothingWritten}
+use Rattle.zi_world.specs.Asking.{FeedsStay}
+use Rattle.zi_world.specs.World.{World, NothingWritten}
 use Rattle.zi_app.specs.Gathering.{Gathers, IsUnread, IsAbsent, IsTooLong, IsTwice, IsTooLarge, GetsSome}
 use Rattle.zi_outcome.specs.declared.outcome.Outcome.{Outcome}
 use Rattle.zi_outcome.specs.declared.outcome.Outcome.TheVariants.{Done, FeedRead, FeedTooLong, NoFile, Overlap, TreeTooLarge, BadName, Mismatch, Crowded, StoreFault, SinkFault, Memory}

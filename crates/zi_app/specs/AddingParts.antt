@@ -11,7 +11,7 @@ use Rattle.zi_session.specs.declared.step.Step.{Step}
 use Rattle.zi_session.specs.declared.step.Step.TheVariants as step
 use Rattle.zi_app.specs.declared.gathering.GatherFault.{GatherFault}
 use Rattle.zi_app.specs.declared.gathering.GatherFault.TheVariants as gather
-use Rattle.zi_app.specs.Shelves.{Untouched}
+use Rattle.zi_world.specs.Shelves.{Untouched}
 use Rattle.zi_outcome.specs.Writing.{Prints}
 use Rattle.zi_app.specs.Adding.{HasRun, stored_line, present_line}
 use Rattle.zi_outcome.specs.declared.outcome.Outcome.{Outcome}

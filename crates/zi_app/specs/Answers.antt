@@ -1,18 +1,19 @@
 -- What the program does.
-use Rattle.std.specs.Prelude.{◌≡◌, ◌≢◌, ℕ, ◌⊎◌, true, false, List}
+use Rattle.std.specs.Prelude.{◌≡◌, ◌≢◌, ℕ, ◌⊎◌, List}
 use Rattle.zi_text.specs.Front.{StopsAt}
 use Rattle.zi_outside.specs.Views.{Sinking}
 use Rattle.zi_words.specs.declared.request.Request.{Request}
 use Rattle.zi_words.specs.declared.request.Request.TheVariants as request
 use Rattle.zi_words.specs.Words.{Right, AreRight}
 use Rattle.zi_outcome.specs.declared.outcome.Outcome.{Outcome}
-use Rattle.zi_outcome.specs.declared.outcome.Outcome.TheVariants.{Usage, Memory, Unbuilt}
+use Rattle.zi_outcome.specs.declared.outcome.Outcome.TheVariants.{Usage, Memory}
 use Rattle.zi_app.specs.declared.help.TheConstants.{HELP, VERSION}
-use Rattle.zi_app.specs.Asking.{FeedsStay}
-use Rattle.zi_app.specs.Shelves.{Lasts}
-use Rattle.zi_app.specs.World.{World, NothingDone}
+use Rattle.zi_world.specs.Asking.{FeedsStay}
+use Rattle.zi_world.specs.Shelves.{Lasts}
+use Rattle.zi_world.specs.World.{World, NothingDone}
 use Rattle.zi_outcome.specs.Line.{Tells}
-use Rattle.zi_app.specs.Select.{Selects}
+use Rattle.zi_choosing.specs.Refute.{ChecksNone}
+use Rattle.zi_app.specs.Select.{wants_more, SelectsFor}
 use Rattle.zi_app.specs.ManifestCommand.{Manifests}
 use Rattle.zi_app.specs.StoreList.{Lists}
 use Rattle.zi_app.specs.StoreVerify.{VerifiesTree}
@@ -21,9 +22,8 @@ use Rattle.zi_app.specs.Showing.{ShowsText}
 
 -- What a request asks for is done, to this outcome.
 abbrev pub Does : Request → World → World → Outcome → Type 0
-Does (request.Select ask false) before after outcome = Selects ask before after outcome
--- proofs aren't built yet
-Does (request.Select ask true) before after outcome = (outcome ≡ Unbuilt) × NothingDone before after
+Does (request.Select ask proof) before after outcome = SelectsFor (wants_more ask proof) ask before after outcome
+Does (request.Refute ask proof) before after outcome = ChecksNone ask proof before after outcome
 Does (request.Manifest algorithm name) before after outcome = Manifests algorithm name before after outcome
 Does (request.Add name files) before after outcome = Adds name files before after outcome
 Does (request.Verify name) before after outcome = VerifiesTree name before after outcome

@@ -11,10 +11,10 @@ use Rattle.zi_store.specs.declared.trees.TreeRead.TheVariants as read
 use Rattle.zi_store.specs.TreeAnswers.{ReadsTree}
 use Rattle.zi_outcome.specs.declared.outcome.Outcome.{Outcome}
 use Rattle.zi_outcome.specs.declared.outcome.Outcome.TheVariants.{MissingTree, BadName, TreeTooLarge, Memory}
-use Rattle.zi_app.specs.Shelves.{Held}
+use Rattle.zi_world.specs.Shelves.{Held}
 use Rattle.zi_outcome.specs.Writing.{Prints}
-use Rattle.zi_app.specs.World.{World, FeedsUnasked, ShelfCalm, NothingWritten}
-use Rattle.zi_app.specs.StoreRead.{FailsAt}
+use Rattle.zi_world.specs.World.{World, FeedsUnasked, ShelfCalm, NothingWritten}
+use Rattle.zi_world.specs.StoreRead.{FailsAt}
 use Rattle.zi_app.specs.StoreList.{name_line}
 
 abbrev pub manifest_text : Algorithm → Dir → List ℕ

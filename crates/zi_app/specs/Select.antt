@@ -1,5 +1,5 @@
 -- `select`: the selections document of the choice that the words ask for.
-use Rattle.std.specs.Prelude.{◌≡◌, ℕ, ◌<◌, ◌≤◌, ◌⊎◌, Bool, true, false, not, ◌&&◌, ◌==◌, List, [], ◌∷◌, length, Some}
+use Rattle.std.specs.Prelude.{◌≡◌, ℕ, ◌<◌, ◌≤◌, ◌⊎◌, Bool, true, false, not, ◌&&◌, ◌||◌, is_some, ◌==◌, List, [], ◌∷◌, length, Some}
 use Rattle.std.specs.List.{list_all}
 use Rattle.zi_digest.specs.declared.DigestName.{DigestName}
 use Rattle.zi_outside.specs.Views.{Feeding, Sinking}
@@ -22,11 +22,11 @@ use Rattle.zi_sels.specs.Chosen.{AreSelected}
 use Rattle.zi_sels.specs.Written.{tree, document}
 use Rattle.zi_outcome.specs.declared.outcome.Outcome.{Outcome}
 use Rattle.zi_outcome.specs.declared.outcome.Outcome.TheVariants.{Done, FeedRead, NoRootFeed, BadFeed, FeedTooLong, TooManyFeeds, TooManyInterfaces, TooManyCandidates, TooLarge, Unwritable, SinkFault, Memory, Unbuilt}
-use Rattle.zi_app.specs.Wanted.{requirement_of}
+use Rattle.zi_choosing.specs.Wanted.{requirement_of}
 use Rattle.zi_outcome.specs.Writing.{StopsShort}
-use Rattle.zi_app.specs.Asking.{FeedsStay}
-use Rattle.zi_app.specs.World.{World, FeedsUnasked, ShelfCalm}
-use Rattle.zi_app.specs.StoreRead.{FailsAt, AreStored}
+use Rattle.zi_world.specs.Asking.{FeedsStay}
+use Rattle.zi_world.specs.World.{World, FeedsUnasked, ShelfCalm, NothingDone}
+use Rattle.zi_world.specs.StoreRead.{FailsAt, AreStored}
 
 -- The choice.
 
@@ -150,8 +150,17 @@ FindsOut ask before after outcome =
     (FailsAt [] before after outcome × FeedsUnasked before after)
     ⊎ (ShelfCalm before after × ((stored : List DigestName) × AreStored before.shelf stored × SelectsOver stored ask (lent before) (lent after) outcome))
 
+-- whether a proof or a command is wanted
+abbrev pub wants_more : Ask → Bool → Bool
+wants_more ask proof = proof || is_some ask.command
+
 -- The shelf is asked for its names alone, and over these the work is done.
 pub record Selects (ask : Ask) (before after : World) (outcome : Outcome) : Type 0 where
   pub feeds : FeedsStay before.feeds after.feeds
   pub shelf : Keeps is_names before.shelf after.shelf
   pub answer : FindsOut ask before after outcome
+
+-- where a proof or a command is wanted this program can't choose yet, and nothing is done
+abbrev pub SelectsFor : Bool → Ask → World → World → Outcome → Type 0
+SelectsFor true ask before after outcome = (outcome ≡ Unbuilt) × NothingDone before after
+SelectsFor false ask before after outcome = Selects ask before after outcome

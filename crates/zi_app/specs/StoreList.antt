@@ -6,8 +6,8 @@ use Rattle.zi_digest.specs.Name.{spelling}
 use Rattle.zi_store.specs.Keeping.{Keeps, is_names}
 use Rattle.zi_outcome.specs.declared.outcome.Outcome.{Outcome}
 use Rattle.zi_outcome.specs.Writing.{Prints}
-use Rattle.zi_app.specs.World.{World, FeedsUnasked, ShelfCalm}
-use Rattle.zi_app.specs.StoreRead.{FailsAt, AreStored}
+use Rattle.zi_world.specs.World.{World, FeedsUnasked, ShelfCalm}
+use Rattle.zi_world.specs.StoreRead.{FailsAt, AreStored}
 
 -- the digest's spelling and LF
 abbrev pub name_line : DigestName → List ℕ

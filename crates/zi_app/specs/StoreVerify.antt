@@ -22,10 +22,10 @@ use Rattle.zi_app.specs.declared.difference.Difference.{Difference}
 use Rattle.zi_app.specs.declared.difference.Difference.TheVariants.{NoManifest, Agrees, FirstIn}
 use Rattle.zi_app.specs.declared.checked.Checked.{Checked}
 use Rattle.zi_app.specs.declared.checked.Checked.TheVariants as checked
-use Rattle.zi_app.specs.Shelves.{Held}
+use Rattle.zi_world.specs.Shelves.{Held}
 use Rattle.zi_outcome.specs.Writing.{Prints, PrintsThen}
-use Rattle.zi_app.specs.World.{World, FeedsUnasked, ShelfCalm}
-use Rattle.zi_app.specs.StoreRead.{FailsAt}
+use Rattle.zi_world.specs.World.{World, FeedsUnasked, ShelfCalm}
+use Rattle.zi_world.specs.StoreRead.{FailsAt}
 
 -- 64 MiB
 abbrev pub manifest_limit : ℕ

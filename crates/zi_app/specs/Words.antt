@@ -1,5 +1,5 @@
 -- What the words are that are handed on, and those that aren't read.
-use Rattle.std.specs.Prelude.{◌≡◌, ℕ, true, List, None}
+use Rattle.std.specs.Prelude.{◌≡◌, ℕ, true, List}
 use Rattle.std.specs.List.{list_all}
 use Rattle.zi_text.specs.Front.{StopsAt}
 use Rattle.zi_outside.specs.Views.{Sinking}
@@ -13,9 +13,8 @@ use Rattle.zi_outcome.specs.declared.outcome.Outcome.{Outcome}
 use Rattle.zi_outcome.specs.declared.outcome.Outcome.TheVariants.{Usage, Memory}
 use Rattle.zi_outcome.specs.Line.{Tells}
 
--- the program needs no command of the root, and each file goes into a tree under a name
+-- each file goes into a tree under a name
 abbrev pub IsInForm : Request → Type 0
-IsInForm (request.Select ask proof) = ask.command ≡ None
 IsInForm (request.Add name files) = list_all is_file files ≡ true
 IsInForm other = Unit {0}
 

@@ -8,7 +8,7 @@ ghost use Rattle.zi_store.specs.declared.verdicts.Verdict.TheVariants.{Damaged};
 ghost use Rattle.zi_store.specs.Verdicts.{Verifies};
 ghost use Rattle.zi_outcome.specs.declared.outcome.Outcome.TheVariants.{DamagedTree};
 ghost use Rattle.zi_outcome.specs.Writing.{PutsAll, PrintsThen};
-ghost use Rattle.zi_app.specs.Shelves.{Held};
+ghost use Rattle.zi_world.specs.Shelves.{Held};
 ghost use Rattle.zi_app.specs.StoreVerify.{ChecksAs, TellsCheck, VerifiesTree, difference_text};
 
 use crate::difference::{Difference, difference_of};

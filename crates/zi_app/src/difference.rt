@@ -4,7 +4,7 @@ ghost use Rattle.zi_manifest.specs.Manifest.{own_name, first_bad, as_read, manif
 ghost use Rattle.zi_manifest.specs.Listing.{IsManifest};
 ghost use Rattle.zi_shelf.specs.Told.{Rose};
 ghost use Rattle.zi_store.specs.Keeping.{Keeps, is_reading};
-ghost use Rattle.zi_app.specs.Shelves.{Held};
+ghost use Rattle.zi_world.specs.Shelves.{Held};
 ghost use Rattle.zi_app.specs.StoreVerify.{HasOwnManifest, HasDigest, HasComputed, Compares, DiffersBy};
 
 use std::alloc::Global;

@@ -7,8 +7,10 @@ For example: zi select --no-command /home/me/hello.xml
 
 zi select [options] ROOT
     Writes the selections document of the program whose interface has the address ROOT:
-    a web address, or a path that begins with /. --no-command must stand. For now it
-    chooses only where no implementation that fits needs another interface.
+    a web address, or a path that begins with /. For now it chooses only with --no-command,
+    without --proof, and where no implementation that fits needs another interface.
+zi refute [options] ROOT PROOF
+    Writes yes where the file PROOF proves that no implementations fit together for ROOT.
 zi manifest ALGORITHM NAME
     Writes the manifest and the digest of the tree that the store has under NAME.
     ALGORITHM is sha1new, sha256 or sha256new.
@@ -26,7 +28,8 @@ zi --help
 zi --version
     Writes the name and the version.
 
-Options of select, before ROOT:
+Options of select and refute, before ROOT:
+    --command NAME              The command of the program that is wanted (default: run).
     --no-command                Needs no command of the program.
     --version RANGE             Versions of ROOT, as 1.2..!2 | 3 (default: every version).
                                 At most once.
@@ -44,6 +47,9 @@ Options of select, before ROOT:
     --rate URI ID STABILITY     The stability of the implementation ID of the interface URI:
                                 insecure, buggy, developer, testing, stable, packaged or
                                 preferred (default: the feed's). Once for each implementation.
+    --search N                  How many lemmas a search may learn, at most 4000000000
+                                (default: 100000).
+    --proof                     Of select alone: not built yet.
     --                          Ends the options.
 
 Feeds of web addresses are files in the folder that ZI_FEEDS names (default: feeds), each
@@ -62,6 +68,8 @@ Status, and the line on standard error behind \"zi: \":
     71  more than N candidates
     72  more than N literals         of constraints on what may be chosen
     75  no file NAME
+    77  bad proof at line N           lines count from 1
+    78  rejected                      the proof doesn't prove it
     83  NAME is already there         two files have one last part
     85  expected DIGEST, found DIGEST
     86  NAME is not stored

@@ -13,7 +13,6 @@ mod manifests;
 mod names;
 mod running;
 mod select;
-mod wanted;
 
 pub use files::feed_file;
 pub use help::{HELP, VERSION};

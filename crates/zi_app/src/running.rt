@@ -11,6 +11,7 @@ use crate::manifests::manifest;
 use crate::names::list;
 use crate::select::select;
 use std::alloc::Global;
+use zi_choosing::refute;
 use zi_outcome::{Outcome, put_text, tell};
 use zi_outside::{Feeds, Sink, SinkFault, Vars};
 use zi_shelf::Shelf;
@@ -20,7 +21,7 @@ use zi_words::{Request, WordsFault};
 /// Does all that the program does: reads the words, does what they ask for, and writes the line of how that ended.
 ///
 /// `select` finds out which digests are stored, loads the universe that its words ask for, and writes the document of the root's
-/// first candidate; `manifest`, `store verify` and `store list` read the store and write what they say of it, and `store add` puts
+/// first candidate; `refute` loads it too, and says whether a proof shows that nothing fits; `manifest`, `store verify` and `store list` read the store and write what they say of it, and `store add` puts
 /// files there as a tree; `--help` and `--version` write their texts. Proofs aren't built: `Unbuilt`.
 pub fn run<F: Feeds, K: Shelf, O: Sink, E: Sink>(
     alloc: Global,
@@ -87,11 +88,8 @@ fn answer<F: Feeds, K: Shelf, O: Sink>(
     ensures { Does request (record { feeds = F.seen feeds.old; shelf = K.seen shelf.old; out = O.seen out.old }) (record { feeds = F.seen feeds.new; shelf = K.seen shelf.new; out = O.seen out.new }) result }
 {
     match request {
-        Request::Select { ask, proof: false } => select(alloc, ask, feeds, shelf, out),
-        Request::Select {
-            ask: _,
-            proof: true,
-        } => Outcome::Unbuilt,
+        Request::Select { ask, proof } => select(alloc, ask, proof, feeds, shelf, out),
+        Request::Refute { ask, proof } => refute(alloc, ask, proof, feeds, shelf, out),
         Request::Manifest { algorithm, name } => manifest(alloc, algorithm, name, shelf, out),
         Request::Add { name, files } => add(alloc, name, files, feeds, shelf, out),
         Request::Verify { name } => verify_tree(alloc, name, shelf, out),

@@ -170,6 +170,25 @@ fn refusals_have_their_lines(rt: HostRuntime) -> Result<(), Fail> {
 }
 
 #[test]
+fn proofs_are_checked(rt: HostRuntime) -> Result<(), Fail> {
+    let rows = [
+        ("zi-proof 1\nl 0 1 0\ne\n", 0, "yes\n", ""),
+        ("zi-proof 1\nl 0 0\ne\n", 78, "", "zi: rejected\n"),
+        ("zi-proof 1\nl 0 1 0\n", 77, "", "zi: bad proof at line 3\n"),
+    ];
+    for (proof, code, written, line) in rows {
+        let mut feeds = fed(rt.alloc(), "", [].as_slice())?;
+        feeds.put("/p", proof.as_bytes())?;
+        let words = ["refute", ROOT, "/p"];
+        let (status, out, err) = called(rt.alloc(), words.as_slice(), &mut feeds, [].as_slice())?;
+        assert_eq!(rt; status, code);
+        assert_eq!(rt; out.bytes().as_slice(), written.as_bytes());
+        assert_eq!(rt; err.bytes().as_slice(), line.as_bytes());
+    }
+    Ok(())
+}
+
+#[test]
 fn an_import_is_named(rt: HostRuntime) -> Result<(), Fail> {
     let mut feeds = fed(rt.alloc(), "<feed src='b.xml'/>", [].as_slice())?;
     let other = format!(in rt.alloc();

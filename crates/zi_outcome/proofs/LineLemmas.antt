@@ -78,6 +78,15 @@ pub told_many : (old : Sinking) (n what : List ℕ) (r : Result (Unit {0}) SinkF
     → PutsAll old (codes "zi: " ++ (codes "more than " ++ n ++ what) ++ codes "\n") r new
 told_many old n what r new p = subst (λ t. PutsAll old t r new) (sym (many_line n what)) p
 
+-- the line of a search that is spent, in its pieces
+spent_line : (n : List ℕ) → codes "zi: " ++ (codes "search spent after " ++ n ++ codes " lemmas") ++ codes "\n" ≡ codes "zi: search spent after " ++ n ++ codes " lemmas\n"
+spent_line n = simp append_assoc
+
+pub told_spent : (old : Sinking) (n : List ℕ) (r : Result (Unit {0}) SinkFault) (new : Sinking)
+    → PutsAll old (codes "zi: search spent after " ++ n ++ codes " lemmas\n") r new
+    → PutsAll old (codes "zi: " ++ (codes "search spent after " ++ n ++ codes " lemmas") ++ codes "\n") r new
+told_spent old n r new p = subst (λ t. PutsAll old t r new) (sym (spent_line n)) p
+
 -- a value and what is said of it, in their pieces
 pub told_then : (old : Sinking) (value what : List ℕ) (r : Result (Unit {0}) SinkFault) (new : Sinking)
     → PutsAll old (codes "zi: " ++ value ++ (what ++ codes "\n")) r new → PutsAll old (codes "zi: " ++ (value ++ what) ++ codes "\n") r new

@@ -3,7 +3,7 @@ use Rattle.std.proofs.Common.{◌≡◌, ℕ, suc, inr, ◌+◌, List, [], ◌�
 use Rattle.std.proofs.lemmas.List.{append-nil, take_min, take-append-le}
 use Rattle.zi_outside.specs.Count.{Rose}
 use Rattle.zi_outside.specs.Views.{Sinking}
-use Rattle.zi_outside.specs.Outside.{gained, GainsFront, Writes, WritesFront, Puts}
+use Rattle.zi_outside.specs.Outside.{gained, GainsFront, Writes, Puts}
 use Rattle.zi_outside.specs.declared.sink.SinkFault.{SinkFault}
 use Rattle.zi_outside.specs.declared.sink.SinkFault.TheVariants as fault
 use Rattle.zi_outcome.specs.Writing.{StopsShort, PutsAll, PrintsThen}

@@ -5,7 +5,7 @@ use Rattle.zi_outside.specs.Views.{Sinking}
 use Rattle.zi_outside.specs.Outside.{Writes, WritesFront}
 use Rattle.zi_outcome.specs.Writing.{StopsShort}
 use Rattle.zi_outcome.specs.declared.outcome.Outcome.{Outcome}
-use Rattle.zi_outcome.specs.declared.outcome.Outcome.TheVariants.{Done, Usage, FeedRead, NoRootFeed, BadFeed, FeedTooLong, TooManyFeeds, TooManyInterfaces, TooManyCandidates, TooLarge, NoFile, Overlap, Mismatch, MissingTree, DamagedTree, BadName, TreeTooLarge, StoreFault, Crowded, Unwritable, SinkFault, Memory, Unbuilt}
+use Rattle.zi_outcome.specs.declared.outcome.Outcome.TheVariants.{Done, Usage, FeedRead, NoRootFeed, BadFeed, FeedTooLong, TooManyFeeds, TooManyInterfaces, TooManyCandidates, TooLarge, NoSolution, Spent, NoFile, BadProof, Rejected, Overlap, Mismatch, MissingTree, DamagedTree, BadName, TreeTooLarge, StoreFault, Crowded, Unwritable, SinkFault, Memory, Unbuilt}
 use Rattle.zi_universe.specs.declared.fault.BadFeed.{BadFeed as Fault}
 use Rattle.zi_universe.specs.declared.fault.BadFeed.TheVariants as bad
 use Rattle.zi_tree.specs.declared.change.TreeLimit.{TreeLimit}
@@ -35,7 +35,11 @@ text_of (TooManyFeeds limit) = codes "more than " ++ decimal limit ++ codes " fe
 text_of (TooManyInterfaces limit) = codes "more than " ++ decimal limit ++ codes " interfaces"
 text_of (TooManyCandidates limit) = codes "more than " ++ decimal limit ++ codes " candidates"
 text_of (TooLarge limit) = codes "more than " ++ decimal limit ++ codes " literals"
+text_of (NoSolution proof) = codes "no solution"
+text_of (Spent proof count) = codes "search spent after " ++ decimal count ++ codes " lemmas"
 text_of (NoFile name) = codes "no file " ++ name
+text_of (BadProof line) = codes "bad proof at line " ++ decimal line
+text_of Rejected = codes "rejected"
 text_of (Overlap path) = path ++ codes " is already there"
 text_of (Mismatch name found) = codes "expected " ++ name ++ codes ", found " ++ found
 text_of (MissingTree name) = name ++ codes " is not stored"
@@ -64,7 +68,11 @@ code_of (TooManyFeeds limit) = 69
 code_of (TooManyInterfaces limit) = 70
 code_of (TooManyCandidates limit) = 71
 code_of (TooLarge limit) = 72
+code_of (NoSolution proof) = 73
+code_of (Spent proof count) = 74
 code_of (NoFile name) = 75
+code_of (BadProof line) = 77
+code_of Rejected = 78
 code_of (Overlap path) = 83
 code_of (Mismatch name found) = 85
 code_of (MissingTree name) = 86

@@ -226,7 +226,13 @@ pub fn tell<E: Sink>(outcome: &Outcome, err: &mut E) -> Result<(), SinkFault>
         Outcome::TooManyInterfaces { limit } => put_limit(*limit, b" interfaces\n", err),
         Outcome::TooManyCandidates { limit } => put_limit(*limit, b" candidates\n", err),
         Outcome::TooLarge { limit } => put_limit(*limit, b" literals\n", err),
+        Outcome::NoSolution { proof: _ } => put_piece(b"zi: no solution\n", err),
+        Outcome::Spent { proof: _, count } => {
+            put_around(b"zi: search spent after ", *count, b" lemmas\n", err)
+        }
         Outcome::NoFile { name } => put_name(b"zi: no file ", name, b"\n", err),
+        Outcome::BadProof { line } => put_around(b"zi: bad proof at line ", *line, b"\n", err),
+        Outcome::Rejected => put_piece(b"zi: rejected\n", err),
         Outcome::Overlap { path } => put_name(b"zi: ", path, b" is already there\n", err),
         Outcome::Mismatch { name, found } => {
             put_names(b"zi: expected ", name, b", found ", found, err)

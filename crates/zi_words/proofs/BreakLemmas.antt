@@ -9,9 +9,10 @@ use Rattle.zi_version.specs.Value.{value}
 use Rattle.zi_version.specs.Range.{alternative, words, expression}
 use Rattle.zi_words.specs.declared.kind.Kind.{Kind}
 use Rattle.zi_words.specs.declared.kind.Kind.TheVariants as kind
+use Rattle.zi_words.specs.declared.loader.Loader.{Loader}
 use Rattle.zi_words.specs.declared.request.Request.{Request}
-use Rattle.zi_words.specs.Forms.{Word, Form, Address, Name, Anything, Range as ARange, Level, Network', Rating, Is, Are, is_address, is_carried, level_of, network_of, stability_of}
-use Rattle.zi_words.specs.Options.{Item, name_of, forms, first, second, same, clash, any_clash}
+use Rattle.zi_words.specs.Forms.{Word, Form, Address, Name, Anything, Range as ARange, Level, Network', Rating, Budget, Is, Are, is_address, is_carried, level_of, network_of, stability_of, budget_of}
+use Rattle.zi_words.specs.Options.{Item, IsItem, name_of, has_option, forms, first, second, alike, clash, any_clash}
 use Rattle.zi_words.specs.Refused.{Asks, LeftAt}
 use Rattle.zi_words.specs.Taken.{Misses, BreaksOff}
 use Rattle.zi_words.proofs.LeftLemmas.{stuck_with, stopped}
@@ -27,9 +28,10 @@ example ARange = codes "1"
 example Level = codes "stable"
 example Network' = codes "off"
 example Rating = codes "stable"
+example Budget = codes "0"
 
 pub example_is : (f : Form) → Is f (example f)
-unfolding is_address is_carried chars expression words alternative value level_of network_of stability_of
+unfolding is_address is_carried chars expression words alternative value level_of network_of stability_of budget_of
 example_is Address = refl
 example_is Name = λ e. cc
 example_is Anything = tt
@@ -37,6 +39,7 @@ example_is ARange = refl
 example_is Level = refl
 example_is Network' = refl
 example_is Rating = refl
+example_is Budget = refl
 
 abbrev pub examples : List Form → List Word
 examples [] = []
@@ -104,21 +107,21 @@ broken (f ∷ fs) ws n (inr (w, rest, e, is, more)) =
     behind b (a ∷ args) x t h e = b.dead args x t h.1 (head_same a w (args ++ x) (b.front ++ stuck_with b.back t) e).1
 
 -- words behind an option that break off
-pub break_at : (before : List Item) (k : Kind) (ws front back rest : List Word) (n : ℕ) → any_clash before ≡ false → ws ≡ front ++ back → n ≡ length back
-    → Are (forms k) (front ++ rest) → list_any (λ y. clash y (record { kind = k; arguments = front ++ rest })) before ≡ false
-    → ((t : List Word) (r : Request) → First before k (front ++ stuck_with back t) r → ⊥) → LeftAt (Asks (After before)) (name_of k ∷ ws) n
-break_at before k ws front back rest n apart e m item free dead =
-    let P : List Word → Type 0 = λ v. LeftAt (Asks (After before)) (name_of k ∷ v) n in
-    let Q : ℕ → Type 0 = λ v. LeftAt (Asks (After before)) (name_of k ∷ (front ++ back)) v in
+pub break_at : (l : Loader) (before : List Item) (k : Kind) (ws front back rest : List Word) (n : ℕ) → any_clash before ≡ false → ws ≡ front ++ back → n ≡ length back
+    → IsItem l (record { kind = k; arguments = front ++ rest }) → list_any (λ y. clash y (record { kind = k; arguments = front ++ rest })) before ≡ false
+    → ((t : List Word) (r : Request) → First l before k (front ++ stuck_with back t) r → ⊥) → LeftAt (Asks (After l before)) (name_of k ∷ ws) n
+break_at l before k ws front back rest n apart e m item free dead =
+    let P : List Word → Type 0 = λ v. LeftAt (Asks (After l before)) (name_of k ∷ v) n in
+    let Q : ℕ → Type 0 = λ v. LeftAt (Asks (After l before)) (name_of k ∷ (front ++ back)) v in
     subst P (sym e) (subst Q (sym m)
-    (stopped (Asks (After before)) (name_of k ∷ front) back (live_within before k front rest apart item free)
-    (λ t (r, a). dead t r (first_of_after before k (front ++ stuck_with back t) r a))))
+    (stopped (Asks (After l before)) (name_of k ∷ front) back (live_within l before k front rest apart item free)
+    (λ t (r, a). dead t r (first_of_after l before k (front ++ stuck_with back t) r a))))
 
-pub break_off : (before : List Item) (k : Kind) (ws : List Word) (n : ℕ) → any_clash before ≡ false → BreaksOff (forms k) ws n
-    → ((args : List Word) → list_any (λ y. clash y (record { kind = k; arguments = args })) before ≡ false) → LeftAt (Asks (After before)) (name_of k ∷ ws) n
-break_off before k ws n apart h free =
+pub break_off : (l : Loader) (before : List Item) (k : Kind) (ws : List Word) (n : ℕ) → any_clash before ≡ false → has_option l k ≡ true → BreaksOff (forms k) ws n
+    → ((args : List Word) → list_any (λ y. clash y (record { kind = k; arguments = args })) before ≡ false) → LeftAt (Asks (After l before)) (name_of k ∷ ws) n
+break_off l before k ws n apart has h free =
     let b = broken (forms k) ws n h in
-    break_at before k ws b.front b.back b.rest n apart b.are b.left b.fits (free (b.front ++ b.rest)) (λ t r f. b.dead f.arguments f.rest t f.item (sym f.are))
+    break_at l before k ws b.front b.back b.rest n apart b.are b.left (has, b.fits) (free (b.front ++ b.rest)) (λ t r f. b.dead f.arguments f.rest t f.item.1 (sym f.are))
 
 -- an id that stands in none of these
 abbrev longest : List Item → ℕ
@@ -138,7 +141,7 @@ unused (i ∷ is) u id s lt =
     let no_id : bytes_eq (second i.arguments) id ≡ false = differ (second i.arguments) id (omega arith) in
     let no_pair : (bytes_eq (first i.arguments) u && bytes_eq (second i.arguments) id) ≡ false =
     ap (λ v. bytes_eq (first i.arguments) u && v) no_id ∙ and_false (bytes_eq (first i.arguments) u) in
-    let none : clash i (record { kind = kind.Rate; arguments = u ∷ id ∷ s ∷ [] }) ≡ false = ap (λ v. same i.kind kind.Rate && v) no_pair ∙ and_false (same i.kind kind.Rate) in
+    let none : clash i (record { kind = kind.Rate; arguments = u ∷ id ∷ s ∷ [] }) ≡ false = ap (λ v. alike i.kind kind.Rate && v) no_pair ∙ and_false (alike i.kind kind.Rate) in
     ap (λ v. v || list_any (λ y. clash y (record { kind = kind.Rate; arguments = u ∷ id ∷ s ∷ [] })) is) none ∙ unused is u id s (omega arith)
 
 pub fresh : (is : List Item) → (id : Word) × ((u s : Word) → list_any (λ y. clash y (record { kind = kind.Rate; arguments = u ∷ id ∷ s ∷ [] })) is ≡ false)

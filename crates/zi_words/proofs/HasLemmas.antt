@@ -10,9 +10,10 @@ use Rattle.std.specs.BTreeSet.{BTreeSet}
 use Rattle.std.proofs.lemmas.Map.Text.{is_eq-slice_cmp}
 use Rattle.zi_words.specs.declared.kind.Kind.{Kind}
 use Rattle.zi_words.specs.declared.kind.Kind.TheVariants as kind
+use Rattle.zi_words.specs.declared.loader.Loader.{Loader}
 use Rattle.zi_words.specs.declared.asked.Asked.{Asked}
-use Rattle.zi_words.specs.Forms.{Word, Form, Level, Network', Is, Are}
-use Rattle.zi_words.specs.Options.{Item, Once, OncePerPair, Often, AreItems, forms, rule_of, same, first, second, clash, clash_by, set, nothing, gathered}
+use Rattle.zi_words.specs.Forms.{Word, Form, Level, Network', Budget, Is, Are}
+use Rattle.zi_words.specs.Options.{Item, Once, OncePerPair, Often, AreItems, forms, rule_of, alike, first, second, clash, clash_by, set, nothing, gathered}
 use Rattle.zi_words.specs.Taken.{Key, key_cmp, holds, IsKey, SamePairs, AddsPair, AddsBy, has}
 use Rattle.zi_words.proofs.ClashLemmas.{or_none, or_true, and_false, and_true, any_push, any_same, any_never}
 
@@ -21,9 +22,13 @@ first_is f fs [] h = absurd h
 first_is f fs (w ∷ args) h = h.0
 
 -- setting one option has that one, and those that were there
-has_set : (k i : Kind) (args : List Word) (a : Asked) → rule_of k ≡ Once → Are (forms i) args → has k (set i args a) ≡ (has k a || same i k)
-has_set kind.NoCommand kind.NoCommand args a h m = sym (or_true a.no_command)
-has_set kind.NoCommand i args a h m = sym (or_none a.no_command)
+has_set : (k i : Kind) (args : List Word) (a : Asked) → rule_of k ≡ Once → Are (forms i) args → has k (set i args a) ≡ (has k a || alike i k)
+has_set kind.Command kind.Command args a h m = sym (or_true (is_some a.command))
+has_set kind.Command kind.NoCommand args a h m = sym (or_true (is_some a.command))
+has_set kind.Command i args a h m = sym (or_none (is_some a.command))
+has_set kind.NoCommand kind.Command args a h m = sym (or_true (is_some a.command))
+has_set kind.NoCommand kind.NoCommand args a h m = sym (or_true (is_some a.command))
+has_set kind.NoCommand i args a h m = sym (or_none (is_some a.command))
 has_set kind.Version kind.Version args a h m = sym (or_true a.version)
 has_set kind.Version i args a h m = sym (or_none a.version)
 has_set kind.VersionFor i args a h m = cc
@@ -38,19 +43,24 @@ has_set kind.Network kind.Network args a h m = first_is Network' [] args m ∙ s
 has_set kind.Network i args a h m = sym (or_none (is_some a.network))
 has_set kind.Use i args a h m = cc
 has_set kind.Rate i args a h m = cc
+has_set kind.Search kind.Search args a h m = first_is Budget [] args m ∙ sym (or_true (is_some a.search))
+has_set kind.Search i args a h m = sym (or_none (is_some a.search))
+has_set kind.Proof kind.Proof args a h m = sym (or_true a.proof)
+has_set kind.Proof i args a h m = sym (or_none a.proof)
 
 or_more : (a b c : Bool) → ((a || b) || c) ≡ (a || (b || c))
 or_more true b c = refl
 or_more false b c = refl
 
-has_fold : (k : Kind) (is : List Item) (a : Asked) → rule_of k ≡ Once → AreItems is
-    → has k (fold (λ (b : Asked) (i : Item). set i.kind i.arguments b) a is) ≡ (has k a || list_any (λ i. same i.kind k) is)
-has_fold k [] a h items = sym (or_none (has k a))
-has_fold k (i ∷ is) a h items =
-    has_fold k is (set i.kind i.arguments a) h items.1
-    ∙ (ap (λ v. v || list_any (λ (j : Item). same j.kind k) is) (has_set k i.kind i.arguments a h items.0) ∙ or_more (has k a) (same i.kind k) (list_any (λ (j : Item). same j.kind k) is))
+has_fold : (l : Loader) (k : Kind) (is : List Item) (a : Asked) → rule_of k ≡ Once → AreItems l is
+    → has k (fold (λ (b : Asked) (i : Item). set i.kind i.arguments b) a is) ≡ (has k a || list_any (λ i. alike i.kind k) is)
+has_fold l k [] a h items = sym (or_none (has k a))
+has_fold l k (i ∷ is) a h items =
+    has_fold l k is (set i.kind i.arguments a) h items.1
+    ∙ (ap (λ v. v || list_any (λ (j : Item). alike j.kind k) is) (has_set k i.kind i.arguments a h items.0.1) ∙ or_more (has k a) (alike i.kind k) (list_any (λ (j : Item). alike j.kind k) is))
 
 has_nothing : (k : Kind) → has k nothing ≡ false
+has_nothing kind.Command = refl
 has_nothing kind.NoCommand = refl
 has_nothing kind.Version = refl
 has_nothing kind.VersionFor = refl
@@ -61,13 +71,16 @@ has_nothing kind.Level = refl
 has_nothing kind.Network = refl
 has_nothing kind.Use = refl
 has_nothing kind.Rate = refl
+has_nothing kind.Search = refl
+has_nothing kind.Proof = refl
 
 -- an option that may stand once was set exactly where it stands
-pub has_gathered : (k : Kind) (is : List Item) → rule_of k ≡ Once → AreItems is → has k (gathered is) ≡ list_any (λ i. same i.kind k) is
+pub has_gathered : (l : Loader) (k : Kind) (is : List Item) → rule_of k ≡ Once → AreItems l is → has k (gathered is) ≡ list_any (λ i. alike i.kind k) is
 unfolding gathered
-has_gathered k is h items = has_fold k is nothing h items ∙ ap (λ v. v || list_any (λ (j : Item). same j.kind k) is) (has_nothing k)
+has_gathered l k is h items = has_fold l k is nothing h items ∙ ap (λ v. v || list_any (λ (j : Item). alike j.kind k) is) (has_nothing k)
 
 pub has_once : (k : Kind) (a : Asked) → has k a ≡ true → rule_of k ≡ Once
+has_once kind.Command a h = refl
 has_once kind.NoCommand a h = refl
 has_once kind.Version a h = refl
 has_once kind.VersionFor a h = cc
@@ -78,28 +91,30 @@ has_once kind.Level a h = refl
 has_once kind.Network a h = refl
 has_once kind.Use a h = cc
 has_once kind.Rate a h = cc
+has_once kind.Search a h = refl
+has_once kind.Proof a h = refl
 
 -- one that may stand once clashes with those of its kind
-pub clash_once : (k : Kind) (args : List Word) → rule_of k ≡ Once → (y : Item) → clash y (record { kind = k; arguments = args }) ≡ same y.kind k
-clash_once k args h y = ap (λ r. same y.kind k && clash_by r y.arguments args) h ∙ and_true (same y.kind k)
+pub clash_once : (k : Kind) (args : List Word) → rule_of k ≡ Once → (y : Item) → clash y (record { kind = k; arguments = args }) ≡ alike y.kind k
+clash_once k args h y = ap (λ r. alike y.kind k && clash_by r y.arguments args) h ∙ and_true (alike y.kind k)
 
-pub once_free : (before : List Item) (k : Kind) (args : List Word) → rule_of k ≡ Once → AreItems before → has k (gathered before) ≡ false
+pub once_free : (l : Loader) (before : List Item) (k : Kind) (args : List Word) → rule_of k ≡ Once → AreItems l before → has k (gathered before) ≡ false
     → list_any (λ y. clash y (record { kind = k; arguments = args })) before ≡ false
-once_free before k args h items none =
-    any_same (λ (y : Item). clash y (record { kind = k; arguments = args })) (λ y. same y.kind k) (clash_once k args h) before
-    ∙ (sym (has_gathered k before h items) ∙ none)
+once_free l before k args h items none =
+    any_same (λ (y : Item). clash y (record { kind = k; arguments = args })) (λ y. alike y.kind k) (clash_once k args h) before
+    ∙ (sym (has_gathered l k before h items) ∙ none)
 
-pub once_taken : (before : List Item) (k : Kind) (args : List Word) → rule_of k ≡ Once → AreItems before → has k (gathered before) ≡ true
+pub once_taken : (l : Loader) (before : List Item) (k : Kind) (args : List Word) → rule_of k ≡ Once → AreItems l before → has k (gathered before) ≡ true
     → list_any (λ y. clash y (record { kind = k; arguments = args })) before ≡ true
-once_taken before k args h items some =
-    any_same (λ (y : Item). clash y (record { kind = k; arguments = args })) (λ y. same y.kind k) (clash_once k args h) before
-    ∙ (sym (has_gathered k before h items) ∙ some)
+once_taken l before k args h items some =
+    any_same (λ (y : Item). clash y (record { kind = k; arguments = args })) (λ y. alike y.kind k) (clash_once k args h) before
+    ∙ (sym (has_gathered l k before h items) ∙ some)
 
 -- one that may stand often clashes with none
 pub often_free : (before : List Item) (k : Kind) (args : List Word) → rule_of k ≡ Often → list_any (λ y. clash y (record { kind = k; arguments = args })) before ≡ false
 often_free before k args h =
     any_never (λ (y : Item). clash y (record { kind = k; arguments = args }))
-    (λ y. ap (λ r. same y.kind k && clash_by r y.arguments args) h ∙ and_false (same y.kind k)) before
+    (λ y. ap (λ r. alike y.kind k && clash_by r y.arguments args) h ∙ and_false (alike y.kind k)) before
 
 -- the rating of a key
 abbrev pub rating : Key → Item
@@ -120,7 +135,7 @@ key_equal k q u v (e, f) =
     ∙ (ap (λ w. w && is_eq (slice_cmp nat_cmp k.1.now q.1.now)) (is_eq-slice_cmp k.0.now q.0.now ∙ ap (λ n. bytes_eq n q.0.now) e)
     ∙ ap (λ w. bytes_eq u q.0.now && w) (is_eq-slice_cmp k.1.now q.1.now ∙ ap (λ n. bytes_eq n q.1.now) f))
 
-told_kept : (before : List Item) (k : Kind) (args : List Word) (old new : BTreeSet Key) → same k kind.Rate ≡ false → SamePairs old new → Told before old
+told_kept : (before : List Item) (k : Kind) (args : List Word) (old new : BTreeSet Key) → alike k kind.Rate ≡ false → SamePairs old new → Told before old
     → Told (before ++ record { kind = k; arguments = args } ∷ []) new
 told_kept before k args old new other kept told q =
     let i : Item = record { kind = k; arguments = args } in
@@ -139,6 +154,7 @@ told_added before args old new (key, is, absent, more) told q =
 -- with one option more it has the pairs of them all
 pub told_next : (before : List Item) (k : Kind) (args : List Word) (old new : BTreeSet Key) → AddsBy (rule_of k) args old new → Told before old
     → Told (before ++ record { kind = k; arguments = args } ∷ []) new
+told_next before kind.Command args old new h told = told_kept before kind.Command args old new refl h told
 told_next before kind.NoCommand args old new h told = told_kept before kind.NoCommand args old new refl h told
 told_next before kind.Version args old new h told = told_kept before kind.Version args old new refl h told
 told_next before kind.VersionFor args old new h told = told_kept before kind.VersionFor args old new refl h told
@@ -149,24 +165,29 @@ told_next before kind.Level args old new h told = told_kept before kind.Level ar
 told_next before kind.Network args old new h told = told_kept before kind.Network args old new refl h told
 told_next before kind.Use args old new h told = told_kept before kind.Use args old new refl h told
 told_next before kind.Rate args old new h told = told_added before args old new h told
+told_next before kind.Search args old new h told = told_kept before kind.Search args old new refl h told
+told_next before kind.Proof args old new h told = told_kept before kind.Proof args old new refl h told
 
 -- what the set says of a key is whether a rating of those words clashes
 pub rate_clash : (before : List Item) (pairs : BTreeSet Key) (key : Key) (u v : Word) (args : List Word) → Told before pairs → IsKey key u v → first args ≡ u → second args ≡ v
     → list_any (λ y. clash y (record { kind = kind.Rate; arguments = args })) before ≡ holds pairs key
 rate_clash before pairs key u v args told (e, f) g h =
-    let by : Word → Word → Bool = λ a b. list_any (λ (y : Item). same y.kind kind.Rate && (bytes_eq (first y.arguments) a && bytes_eq (second y.arguments) b)) before in
+    let by : Word → Word → Bool = λ a b. list_any (λ (y : Item). alike y.kind kind.Rate && (bytes_eq (first y.arguments) a && bytes_eq (second y.arguments) b)) before in
     ap (λ a. by a (second args)) (g ∙ sym e) ∙ (ap (λ b. by key.0.now b) (h ∙ sym f) ∙ sym (told key))
 
 -- an option that may be taken clashes with none before
-pub free : (before : List Item) (k : Kind) (args : List Word) (old new : BTreeSet Key) → AreItems before → has k (gathered before) ≡ false → AddsBy (rule_of k) args old new
+pub free : (l : Loader) (before : List Item) (k : Kind) (args : List Word) (old new : BTreeSet Key) → AreItems l before → has k (gathered before) ≡ false → AddsBy (rule_of k) args old new
     → Told before old → list_any (λ y. clash y (record { kind = k; arguments = args })) before ≡ false
-free before kind.NoCommand args old new items none h told = once_free before kind.NoCommand args refl items none
-free before kind.Version args old new items none h told = once_free before kind.Version args refl items none
-free before kind.VersionFor args old new items none h told = often_free before kind.VersionFor args refl
-free before kind.Os args old new items none h told = once_free before kind.Os args refl items none
-free before kind.Cpu args old new items none h told = once_free before kind.Cpu args refl items none
-free before kind.Lang args old new items none h told = often_free before kind.Lang args refl
-free before kind.Level args old new items none h told = once_free before kind.Level args refl items none
-free before kind.Network args old new items none h told = once_free before kind.Network args refl items none
-free before kind.Use args old new items none h told = often_free before kind.Use args refl
-free before kind.Rate args old new items none (key, is, absent, more) told = rate_clash before old key (first args) (second args) args told is refl refl ∙ absent
+free l before kind.Command args old new items none h told = once_free l before kind.Command args refl items none
+free l before kind.NoCommand args old new items none h told = once_free l before kind.NoCommand args refl items none
+free l before kind.Version args old new items none h told = once_free l before kind.Version args refl items none
+free l before kind.VersionFor args old new items none h told = often_free before kind.VersionFor args refl
+free l before kind.Os args old new items none h told = once_free l before kind.Os args refl items none
+free l before kind.Cpu args old new items none h told = once_free l before kind.Cpu args refl items none
+free l before kind.Lang args old new items none h told = often_free before kind.Lang args refl
+free l before kind.Level args old new items none h told = once_free l before kind.Level args refl items none
+free l before kind.Network args old new items none h told = once_free l before kind.Network args refl items none
+free l before kind.Use args old new items none h told = often_free before kind.Use args refl
+free l before kind.Rate args old new items none (key, is, absent, more) told = rate_clash before old key (first args) (second args) args told is refl refl ∙ absent
+free l before kind.Search args old new items none h told = once_free l before kind.Search args refl items none
+free l before kind.Proof args old new items none h told = once_free l before kind.Proof args refl items none

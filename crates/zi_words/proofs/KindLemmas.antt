@@ -5,12 +5,13 @@ use Rattle.std.proofs.lemmas.Slice.Eq.{bytes_eq-Decides}
 use Rattle.zi_words.specs.declared.kind.Kind.{Kind}
 use Rattle.zi_words.specs.declared.kind.Kind.TheVariants as kind
 use Rattle.zi_words.specs.Forms.{Word, is_address}
-use Rattle.zi_words.specs.Options.{name_of, same}
+use Rattle.zi_words.specs.Options.{name_of}
 
 -- the option of a word, where it is one
 found : Word → Kind
 found w =
-    if bytes_eq w (name_of kind.NoCommand) then kind.NoCommand
+    if bytes_eq w (name_of kind.Command) then kind.Command
+    else if bytes_eq w (name_of kind.NoCommand) then kind.NoCommand
     else if bytes_eq w (name_of kind.Version) then kind.Version
     else if bytes_eq w (name_of kind.VersionFor) then kind.VersionFor
     else if bytes_eq w (name_of kind.Os) then kind.Os
@@ -19,10 +20,13 @@ found w =
     else if bytes_eq w (name_of kind.Level) then kind.Level
     else if bytes_eq w (name_of kind.Network) then kind.Network
     else if bytes_eq w (name_of kind.Use) then kind.Use
-    else kind.Rate
+    else if bytes_eq w (name_of kind.Rate) then kind.Rate
+    else if bytes_eq w (name_of kind.Search) then kind.Search
+    else kind.Proof
 
 found_name : (k : Kind) → found (name_of k) ≡ k
 unfolding found
+found_name kind.Command = refl
 found_name kind.NoCommand = refl
 found_name kind.Version = refl
 found_name kind.VersionFor = refl
@@ -33,12 +37,11 @@ found_name kind.Level = refl
 found_name kind.Network = refl
 found_name kind.Use = refl
 found_name kind.Rate = refl
+found_name kind.Search = refl
+found_name kind.Proof = refl
 
 pub same_name : (k l : Kind) → name_of k ≡ name_of l → k ≡ l
 same_name k l e = sym (found_name k) ∙ (ap found e ∙ found_name l)
-
-pub same_true : (k l : Kind) → same k l ≡ true → k ≡ l
-same_true k l h = same_name k l ((bytes_eq-Decides (name_of k) (name_of l)).0 h)
 
 pub bytes_same : (w : List ℕ) → bytes_eq w w ≡ true
 bytes_same w = (bytes_eq-Decides w w).1 refl
@@ -47,10 +50,8 @@ bytes_same w = (bytes_eq-Decides w w).1 refl
 pub not_same : (u v : Word) → bytes_eq u v ≡ false → u ≡ v → ⊥
 not_same u v f e = let g : false ≡ true = sym f ∙ (ap (bytes_eq u) (sym e) ∙ bytes_same u) in cc
 
-pub same_self : (k : Kind) → same k k ≡ true
-same_self k = bytes_same (name_of k)
-
 pub not_dashes : (k : Kind) → name_of k ≡ codes "--" → ⊥
+not_dashes kind.Command e = cc
 not_dashes kind.NoCommand e = cc
 not_dashes kind.Version e = cc
 not_dashes kind.VersionFor e = cc
@@ -61,9 +62,12 @@ not_dashes kind.Level e = cc
 not_dashes kind.Network e = cc
 not_dashes kind.Use e = cc
 not_dashes kind.Rate e = cc
+not_dashes kind.Search e = cc
+not_dashes kind.Proof e = cc
 
 no_address : (k : Kind) → is_address (name_of k) ≡ false
 unfolding is_address
+no_address kind.Command = refl
 no_address kind.NoCommand = refl
 no_address kind.Version = refl
 no_address kind.VersionFor = refl
@@ -74,6 +78,8 @@ no_address kind.Level = refl
 no_address kind.Network = refl
 no_address kind.Use = refl
 no_address kind.Rate = refl
+no_address kind.Search = refl
+no_address kind.Proof = refl
 
 pub not_address : (k : Kind) (root : Word) → name_of k ≡ root → is_address root ≡ true → ⊥
 not_address k root e h = let f : false ≡ true = sym (no_address k) ∙ (ap is_address e ∙ h) in cc

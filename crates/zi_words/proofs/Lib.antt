@@ -3,12 +3,14 @@ pub mod ClashLemmas
 pub mod KindLemmas
 pub mod OptionLemmas
 pub mod BreakLemmas
+pub mod NumeralLemmas
 pub mod TakenLemmas
 pub mod HasLemmas
 pub mod RateLemmas
 pub mod TurnLemmas
-pub mod RootLemmas
+pub mod EndLemmas
 pub mod StoreLemmas
 pub mod PieceLemmas
 pub mod RightLemmas
+pub mod SearchLaws
 pub mod OneLaws

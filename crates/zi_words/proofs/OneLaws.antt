@@ -1,46 +1,49 @@
 -- No words ask for two things.
-use Rattle.std.proofs.Common.{◌≡◌, List, [], ◌∷◌, ◌++◌, false, refl, sym, ap, ◌∙◌, subst, ◌⊎◌, inl, inr}
+use Rattle.std.proofs.Common.{◌≡◌, List, [], ◌∷◌, ◌++◌, true, false, refl, sym, ap, ◌∙◌, subst, ◌⊎◌, inl, inr}
 use Rattle.std.specs.Prelude.{codes}
 use Rattle.zi_digest.specs.Name.{spelling, IsDigest}
 use Rattle.zi_digest.specs.declared.Algorithm.{Algorithm}
 use Rattle.zi_digest.specs.declared.Algorithm.TheVariants as algorithm
 use Rattle.zi_digest.specs.declared.DigestName.{DigestName}
+use Rattle.zi_words.specs.declared.loader.Loader.{Loader}
 use Rattle.zi_words.specs.declared.request.Request.{Request}
 use Rattle.zi_words.specs.declared.request.Request.TheVariants as request
-use Rattle.zi_words.specs.Forms.{Word}
-use Rattle.zi_words.specs.Options.{spelled, gathered, ask_of}
+use Rattle.zi_words.specs.Forms.{Word, is_address}
+use Rattle.zi_words.specs.Options.{spelled, gathered}
 use Rattle.zi_words.specs.Store.{word_of, AsksManifest, AsksAdd, AsksVerify, AsksStore}
-use Rattle.zi_words.specs.Words.{EndsOptions, AsksSelect, Right}
+use Rattle.zi_words.specs.Words.{EndsOptions, asking, AsksLoading, Right}
+use Rattle.zi_words.proofs.KindLemmas.{dashes_address}
 use Rattle.zi_words.proofs.OptionLemmas.{after_none, all_in, no_option_ends, head_same}
-use Rattle.zi_words.proofs.RootLemmas.{ends_next}
+use Rattle.zi_words.proofs.EndLemmas.{ends_next}
 use Rattle.zi_words.proofs.StoreLemmas.{store_add_only, store_verify_only, store_list_only}
-use Rattle.zi_words.proofs.RightLemmas.{select_only, manifest_only, store_only, help_only, version_only}
+use Rattle.zi_words.proofs.RightLemmas.{loading_only, manifest_only, store_only, help_only, version_only}
 
--- the root of an end
-one_root : (ends : List Word) (root other : Word) → EndsOptions ends → (ends ++ root ∷ [] ≡ other ∷ []) ⊎ (ends ++ root ∷ [] ≡ codes "--" ∷ other ∷ []) → root ≡ other
-one_root ends root other (inl h) (inl e) =
-    let f : root ∷ [] ≡ other ∷ [] = sym (ap (λ v. v ++ root ∷ []) h) ∙ e in (head_same root other [] [] f).0
-one_root ends root other (inl h) (inr e) =
-    let f : root ∷ [] ≡ codes "--" ∷ other ∷ [] = sym (ap (λ v. v ++ root ∷ []) h) ∙ e in
-    let g = (head_same root (codes "--") [] (other ∷ []) f).1 in
-    cc
-one_root ends root other (inr h) (inl e) =
-    let f : codes "--" ∷ root ∷ [] ≡ other ∷ [] = sym (ap (λ v. v ++ root ∷ []) h) ∙ e in
-    let g = (head_same (codes "--") other (root ∷ []) [] f).1 in
-    cc
-one_root ends root other (inr h) (inr e) =
-    let f : codes "--" ∷ root ∷ [] ≡ codes "--" ∷ other ∷ [] = sym (ap (λ v. v ++ root ∷ []) h) ∙ e in
-    let g = (head_same (codes "--") (codes "--") (root ∷ []) (other ∷ []) f).1 in
-    (head_same root other [] [] g).0
+-- the root of an end, and what stands behind it
+one_end : (ends : List Word) (root other : Word) (named others : List Word) → EndsOptions ends → is_address root ≡ true → is_address other ≡ true
+    → (ends ++ root ∷ named ≡ other ∷ others) ⊎ (ends ++ root ∷ named ≡ codes "--" ∷ other ∷ others) → (root ≡ other) × (named ≡ others)
+one_end ends root other named others (inl h) a b (inl e) =
+    let f : root ∷ named ≡ other ∷ others = sym (ap (λ v. v ++ root ∷ named) h) ∙ e in head_same root other named others f
+one_end ends root other named others (inl h) a b (inr e) =
+    let f : root ∷ named ≡ codes "--" ∷ other ∷ others = sym (ap (λ v. v ++ root ∷ named) h) ∙ e in
+    let g : false ≡ true = sym dashes_address ∙ (ap is_address (sym (head_same root (codes "--") named (other ∷ others) f).0) ∙ a) in
+    absurd cc
+one_end ends root other named others (inr h) a b (inl e) =
+    let f : codes "--" ∷ root ∷ named ≡ other ∷ others = sym (ap (λ v. v ++ root ∷ named) h) ∙ e in
+    let g : false ≡ true = sym dashes_address ∙ (ap is_address (head_same (codes "--") other (root ∷ named) others f).0 ∙ b) in
+    absurd cc
+one_end ends root other named others (inr h) a b (inr e) =
+    let f : codes "--" ∷ root ∷ named ≡ codes "--" ∷ other ∷ others = sym (ap (λ v. v ++ root ∷ named) h) ∙ e in
+    let g = (head_same (codes "--") (codes "--") (root ∷ named) (other ∷ others) f).1 in
+    head_same root other named others g
 
-one_select : (ws : List Word) (a b : Request) → AsksSelect ws a → AsksSelect ws b → a ≡ b
-one_select ws a b x y =
-    let P : List Word → Type 0 = λ v. AsksSelect v b in
-    let tail = x.ends ++ x.root ∷ [] in
-    let z = all_in x.options [] tail b x.items (after_none (spelled x.options ++ tail) b (subst P x.are y)) in
-    let e = ends_next x.options tail b (λ k t f. no_option_ends k t x.ends x.root (sym f) x.ended x.address) z in
-    let same = one_root x.ends x.root e.root x.ended e.are in
-    x.asked ∙ (ap (λ v. request.Select (ask_of v (gathered x.options)) false) same ∙ sym e.asked)
+one_loading : (l : Loader) (ws : List Word) (a b : Request) → AsksLoading l ws a → AsksLoading l ws b → a ≡ b
+one_loading l ws a b x y =
+    let P : List Word → Type 0 = λ v. AsksLoading l v b in
+    let tail = x.ends ++ x.root ∷ x.named in
+    let z = all_in l x.options [] tail b x.items (after_none l (spelled x.options ++ tail) b (subst P x.are y)) in
+    let e = ends_next l x.options tail b (λ k t its f. no_option_ends k t x.ends x.root x.named (sym f) x.ended x.address) z in
+    let same = one_end x.ends x.root e.root x.named e.named x.ended x.address e.address e.are in
+    x.asked ∙ (ap (λ v. asking l v x.named (gathered x.options)) same.0 ∙ (ap (λ v. asking l e.root v (gathered x.options)) same.1 ∙ sym e.asked))
 
 one_word : (a b : Algorithm) → word_of a ≡ word_of b → a ≡ b
 one_word algorithm.Sha1new algorithm.Sha1new e = refl
@@ -80,8 +83,8 @@ module _ (one : (x y : DigestName) → IsDigest x → IsDigest y → spelling x 
 
   pub one_right : (ws : List Word) (a b : Request) → Right ws a → Right ws b → a ≡ b
   one_right [] a b x y = absurd x
-  one_right (w ∷ ws) a b (inl x) y =
-      let P : Word → Type 0 = λ v. Right (v ∷ ws) b in one_select ws a b x.1 (select_only ws b (subst P x.0 y))
+  one_right (w ∷ ws) a b (inl (l, e, x)) y =
+      let P : Word → Type 0 = λ v. Right (v ∷ ws) b in one_loading l ws a b x (loading_only l ws b (subst P e y))
   one_right (w ∷ ws) a b (inr (inl (inl x))) y =
       let P : Word → Type 0 = λ v. Right (v ∷ ws) b in one_manifest ws a b x.1 (manifest_only ws b (subst P x.0 y))
   one_right (w ∷ ws) a b (inr (inl (inr x))) y =

@@ -48,6 +48,9 @@ unrated old new pairs more ws rest last u id key (Left n) e a d k h m = inr (u, 
 unrated old new pairs more ws rest last u id key Memory e a d k h m = tt
 
 -- one field of what is asked changes
+abbrev pub with_command : Asked → Word → Asked
+with_command a v = record a { command = Some (Some v) }
+
 abbrev pub with_os : Asked → Word → Asked
 with_os a v = record a { os = Some v }
 

@@ -2,6 +2,7 @@
 use Rattle.std.specs.Prelude.{◌≡◌, ◌≢◌, ℕ, Bool, true, ◌&&◌, ◌||◌, nat_le, nat_eq, if◌then◌else◌, List, [], ◌∷◌, codes, bytes_eq, Option, Some, None, IsSome}
 use Rattle.std.specs.List.{list_all, starts_with}
 use Rattle.std.specs.Str.{chars}
+use Rattle.zi_text.specs.Numeral.{numeral}
 use Rattle.zi_version.specs.Range.{IsExpression}
 use Rattle.zi_policy.specs.declared.types.Stability.{Stability}
 use Rattle.zi_policy.specs.declared.types.Stability.TheVariants as stability
@@ -56,6 +57,18 @@ network_of text =
     else if bytes_eq text (codes "off") then Some network.Off
     else None
 
+-- the greatest number of lemmas that a search may be let learn
+abbrev pub most_lemmas : ℕ
+most_lemmas = 4000000000
+
+abbrev pub up_to : ℕ → Option ℕ → Option ℕ
+up_to most None = None
+up_to most (Some n) = if nat_le n most then Some n else None
+
+-- the numbers of lemmas, in decimal digits
+unfoldable pub budget_of : Word → Option ℕ
+budget_of text = up_to most_lemmas (numeral text)
+
 -- what an argument of an option may be
 pub data Form : Type 0 where
   Address : Form
@@ -65,6 +78,7 @@ pub data Form : Type 0 where
   Level : Form
   Network' : Form
   Rating : Form
+  Budget : Form
 
 -- the word is of this form
 abbrev pub Is : Form → Word → Type 0
@@ -75,6 +89,7 @@ Is Range w = IsExpression w
 Is Level w = IsSome (level_of w)
 Is Network' w = IsSome (network_of w)
 Is Rating w = IsSome (stability_of w)
+Is Budget w = IsSome (budget_of w)
 
 -- the words are of these forms, one each
 abbrev pub Are : List Form → List Word → Type 0

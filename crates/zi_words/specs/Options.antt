@@ -1,5 +1,5 @@
 -- The options of the commands that load feeds: what each is called, what stands behind it, and what it sets.
-use Rattle.std.specs.Prelude.{Bool, true, false, ◌&&◌, ◌||◌, List, [], ◌∷◌, ◌++◌, codes, bytes_eq, fold, map, get_or, Option, Some, None, unwrap_or}
+use Rattle.std.specs.Prelude.{◌≡◌, Bool, true, false, ◌&&◌, ◌||◌, List, [], ◌∷◌, ◌++◌, codes, bytes_eq, fold, map, get_or, Option, Some, None, unwrap_or}
 use Rattle.std.specs.List.{list_any}
 use Rattle.zi_version.specs.Range.{range_of}
 use Rattle.zi_version.specs.declared.alternative.Range.{Range}
@@ -9,14 +9,17 @@ use Rattle.zi_policy.specs.declared.types.Network.TheVariants as network
 use Rattle.zi_policy.specs.declared.types.Override.{Override}
 use Rattle.zi_words.specs.declared.kind.Kind.{Kind}
 use Rattle.zi_words.specs.declared.kind.Kind.TheVariants as kind
+use Rattle.zi_words.specs.declared.loader.Loader.{Loader}
+use Rattle.zi_words.specs.declared.loader.Loader.TheVariants as loader
 use Rattle.zi_words.specs.declared.asked.Limit.{Limit}
 use Rattle.zi_words.specs.declared.asked.Asked.{Asked}
 use Rattle.zi_words.specs.declared.request.Wanted.{Wanted}
 use Rattle.zi_words.specs.declared.request.Ask.{Ask}
-use Rattle.zi_words.specs.Forms.{Word, Form, Address, Name, Anything, Range as ARange, Level, Network', Rating, Are, level_of, network_of, stability_of}
+use Rattle.zi_words.specs.Forms.{Word, Form, Address, Name, Anything, Range as ARange, Level, Network', Rating, Budget, Are, level_of, network_of, stability_of, budget_of}
 
 -- the word of an option
 abbrev pub name_of : Kind → Word
+name_of kind.Command = codes "--command"
 name_of kind.NoCommand = codes "--no-command"
 name_of kind.Version = codes "--version"
 name_of kind.VersionFor = codes "--version-for"
@@ -27,9 +30,18 @@ name_of kind.Level = codes "--level"
 name_of kind.Network = codes "--network"
 name_of kind.Use = codes "--use"
 name_of kind.Rate = codes "--rate"
+name_of kind.Search = codes "--search"
+name_of kind.Proof = codes "--proof"
+
+-- the options that a command has: `--proof` is of `select` alone
+abbrev pub has_option : Loader → Kind → Bool
+has_option loader.Select k = true
+has_option loader.Refute kind.Proof = false
+has_option loader.Refute k = true
 
 -- its arguments
 abbrev pub forms : Kind → List Form
+forms kind.Command = Name ∷ []
 forms kind.NoCommand = []
 forms kind.Version = ARange ∷ []
 forms kind.VersionFor = Address ∷ ARange ∷ []
@@ -40,6 +52,8 @@ forms kind.Level = Level ∷ []
 forms kind.Network = Network' ∷ []
 forms kind.Use = Name ∷ []
 forms kind.Rate = Address ∷ Anything ∷ Rating ∷ []
+forms kind.Search = Budget ∷ []
+forms kind.Proof = []
 
 -- how often an option may stand: once, once for each pair of its first two arguments, or as often as one likes
 pub data Rule : Type 0 where
@@ -48,6 +62,7 @@ pub data Rule : Type 0 where
   Often : Rule
 
 abbrev pub rule_of : Kind → Rule
+rule_of kind.Command = Once
 rule_of kind.NoCommand = Once
 rule_of kind.Version = Once
 rule_of kind.VersionFor = Often
@@ -58,28 +73,35 @@ rule_of kind.Level = Once
 rule_of kind.Network = Once
 rule_of kind.Use = Often
 rule_of kind.Rate = OncePerPair
+rule_of kind.Search = Once
+rule_of kind.Proof = Once
+
+-- the option that says the same thing: `--no-command` says which command, as `--command` does
+abbrev pub topic : Kind → Kind
+topic kind.NoCommand = kind.Command
+topic k = k
 
 -- an option with its arguments, as it stands among the words
 pub record Item : Type 0 where
   pub kind : Kind
   pub arguments : List Word
 
--- its arguments are of the forms that it wants
-abbrev pub IsItem : Item → Type 0
-IsItem i = Are (forms i.kind) i.arguments
+-- the command has it, and its arguments are of the forms that it wants
+abbrev pub IsItem : Loader → Item → Type 0
+IsItem l i = (has_option l i.kind ≡ true) × Are (forms i.kind) i.arguments
 
-abbrev pub AreItems : List Item → Type 0
-AreItems [] = Unit {0}
-AreItems (i ∷ is) = IsItem i × AreItems is
+abbrev pub AreItems : Loader → List Item → Type 0
+AreItems l [] = Unit {0}
+AreItems l (i ∷ is) = IsItem l i × AreItems l is
 
 -- the words of options
 abbrev pub spelled : List Item → List Word
 spelled [] = []
 spelled (i ∷ is) = name_of i.kind ∷ (i.arguments ++ spelled is)
 
--- two options are the same
-abbrev pub same : Kind → Kind → Bool
-same k l = bytes_eq (name_of k) (name_of l)
+-- two options say the same thing
+abbrev pub alike : Kind → Kind → Bool
+alike k l = bytes_eq (name_of (topic k)) (name_of (topic l))
 
 -- the first two arguments
 abbrev pub first : List Word → Word
@@ -95,16 +117,12 @@ clash_by Often ws vs = false
 
 -- two options may not stand together
 abbrev pub clash : Item → Item → Bool
-clash i j = same i.kind j.kind && clash_by (rule_of j.kind) i.arguments j.arguments
+clash i j = alike i.kind j.kind && clash_by (rule_of j.kind) i.arguments j.arguments
 
 -- some of them may not
 abbrev pub any_clash : List Item → Bool
 any_clash [] = false
 any_clash (i ∷ is) = list_any (λ j. clash i j) is || any_clash is
-
--- `--no-command` is among them
-abbrev pub has_no_command : List Item → Bool
-has_no_command is = list_any (λ i. same i.kind kind.NoCommand) is
 
 -- the limit of a range, where there is one
 abbrev pub limit_of : Option Word → Option Range → List Limit
@@ -117,7 +135,8 @@ override_of interface id (Some s) = record { interface = interface; id = id; sta
 
 -- what an option sets
 abbrev pub set : Kind → List Word → Asked → Asked
-set kind.NoCommand args a = record a { no_command = true }
+set kind.Command args a = record a { command = Some (Some (first args)) }
+set kind.NoCommand args a = record a { command = Some None }
 set kind.Version args a = record a { version = true; limits = a.limits ++ limit_of None (range_of (first args)) }
 set kind.VersionFor args a = record a { limits = a.limits ++ limit_of (Some (first args)) (range_of (second args)) }
 set kind.Os args a = record a { os = Some (first args) }
@@ -127,11 +146,13 @@ set kind.Level args a = record a { level = level_of (first args) }
 set kind.Network args a = record a { network = network_of (first args) }
 set kind.Use args a = record a { uses = a.uses ++ first args ∷ [] }
 set kind.Rate args a = record a { overrides = a.overrides ++ override_of (first args) (second args) (stability_of (get_or args 2 [])) }
+set kind.Search args a = record a { search = budget_of (first args) }
+set kind.Proof args a = record a { proof = true }
 
 -- nothing is set
 abbrev pub nothing : Asked
 nothing = record {
-  no_command = false;
+  command = None;
   version = false;
   limits = [];
   os = None;
@@ -141,6 +162,8 @@ nothing = record {
   network = None;
   uses = [];
   overrides = [];
+  search = None;
+  proof = false;
 }
 
 -- what options set, each in turn
@@ -156,12 +179,11 @@ or_english (tag ∷ tags) = tag ∷ tags
 abbrev pub wanted : Word → Limit → Wanted
 wanted root l = record { interface = unwrap_or l.interface root; range = l.range }
 
--- What is asked of the program at an address: what isn't set has its default. No option sets how many lemmas a search may
--- learn, so that is always 100,000.
+-- What is asked of the program at an address: what isn't set has its default.
 unfoldable pub ask_of : Word → Asked → Ask
 ask_of root a = record {
   root = root;
-  command = None;
+  command = unwrap_or a.command (Some (codes "run"));
   limits = map (wanted root) a.limits;
   policy = record {
     os = unwrap_or a.os (codes "Linux");
@@ -172,5 +194,5 @@ ask_of root a = record {
     uses = a.uses;
     overrides = a.overrides;
   };
-  search = 100000;
+  search = unwrap_or a.search 100000;
 }

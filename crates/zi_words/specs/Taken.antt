@@ -9,6 +9,7 @@ use Rattle.std.specs.BTreeSet as tree
 use Rattle.std.specs.BTreeSet.{BTreeSet}
 use Rattle.zi_words.specs.declared.kind.Kind.{Kind}
 use Rattle.zi_words.specs.declared.kind.Kind.TheVariants as kind
+use Rattle.zi_words.specs.declared.loader.Loader.{Loader}
 use Rattle.zi_words.specs.declared.asked.Asked.{Asked}
 use Rattle.zi_digest.specs.Name.{spelling, IsDigest}
 use Rattle.zi_digest.specs.declared.DigestName.{DigestName}
@@ -17,7 +18,8 @@ use Rattle.zi_words.specs.declared.refusal.Refusal.{Refusal}
 use Rattle.zi_words.specs.declared.refusal.Refusal.TheVariants.{Left, Memory}
 use Rattle.zi_words.specs.Forms.{Word, Form, Address, Rating, Is, Are, is_address}
 use Rattle.zi_words.specs.Store.{is_file}
-use Rattle.zi_words.specs.Options.{Rule, Once, OncePerPair, Often, Item, AreItems, name_of, forms, rule_of, spelled, first, second, any_clash, set, gathered}
+use Rattle.zi_words.specs.Words.{count_of}
+use Rattle.zi_words.specs.Options.{Rule, Once, OncePerPair, Often, Item, AreItems, name_of, has_option, forms, rule_of, spelled, first, second, any_clash, set, gathered}
 
 -- the first word is missing, or isn't of this form
 abbrev pub Misses : Form → List Word → ℕ → Type 0
@@ -88,7 +90,8 @@ Takes k old pairs ws (Err Memory) new more = Unit {0}
 
 -- whether an option that may stand once was set
 abbrev pub has : Kind → Asked → Bool
-has kind.NoCommand a = a.no_command
+has kind.Command a = is_some a.command
+has kind.NoCommand a = is_some a.command
 has kind.Version a = a.version
 has kind.VersionFor a = false
 has kind.Os a = is_some a.os
@@ -98,23 +101,25 @@ has kind.Level a = is_some a.level
 has kind.Network a = is_some a.network
 has kind.Use a = false
 has kind.Rate a = false
+has kind.Search a = is_some a.search
+has kind.Proof a = a.proof
 
--- no option stands at the front
-abbrev pub NoOption : List Word → Type 0
-NoOption ws = (k : Kind) (t : List Word) → ws ≢ name_of k ∷ t
+-- no option of the command stands at the front
+abbrev pub NoOption : Loader → List Word → Type 0
+NoOption l ws = (k : Kind) (t : List Word) → has_option l k ≡ true → ws ≢ name_of k ∷ t
 
 -- the options at the front of the words are these, and set this; those words are left
-pub record Gathers (ws : List Word) (asked : Asked) (left : List Word) : Type 0 where
+pub record Gathers (l : Loader) (ws : List Word) (asked : Asked) (left : List Word) : Type 0 where
   pub options : List Item
   pub are : ws ≡ spelled options ++ left
-  pub items : AreItems options
+  pub items : AreItems l options
   pub apart : any_clash options ≡ false
   pub set_by : asked ≡ gathered options
-  pub last : NoOption left
+  pub last : NoOption l left
 
--- the one word that is left is an address
-abbrev pub IsRoot : List Word → Word → Type 0
-IsRoot ws root = (ws ≡ root ∷ []) × (is_address root ≡ true)
+-- what is left is an address, and as many words as the command has behind it
+abbrev pub IsEnd : Loader → List Word → Word × List Word → Type 0
+IsEnd l ws v = (ws ≡ v.0 ∷ v.1) × (is_address v.0 ≡ true) × (length v.1 ≡ count_of l)
 
 -- what is left behind a `--` at the front, or all
 abbrev pub PastDashes : List Word → List Word → Type 0

@@ -1,31 +1,58 @@
 -- Which words are right, and what they ask for.
-use Rattle.std.specs.Prelude.{◌≡◌, true, false, List, [], ◌∷◌, ◌++◌, codes, ◌⊎◌}
+use Rattle.std.specs.Prelude.{◌≡◌, ℕ, Bool, true, false, List, [], ◌∷◌, ◌++◌, length, codes, ◌⊎◌}
 use Rattle.zi_text.specs.Front.{StopsAt}
+use Rattle.zi_words.specs.declared.asked.Asked.{Asked}
+use Rattle.zi_words.specs.declared.loader.Loader.{Loader}
+use Rattle.zi_words.specs.declared.loader.Loader.TheVariants as loader
+use Rattle.zi_words.specs.declared.request.Ask.{Ask}
 use Rattle.zi_words.specs.declared.request.Request.{Request}
 use Rattle.zi_words.specs.declared.request.Request.TheVariants as request
 use Rattle.zi_words.specs.declared.request.WordsFault.{WordsFault}
 use Rattle.zi_words.specs.declared.request.WordsFault.TheVariants as fault
 use Rattle.zi_words.specs.Forms.{Word, is_address}
-use Rattle.zi_words.specs.Options.{Item, AreItems, spelled, any_clash, has_no_command, gathered, ask_of}
+use Rattle.zi_words.specs.Options.{Item, AreItems, spelled, any_clash, first, gathered, ask_of}
 use Rattle.zi_words.specs.Store.{InStore}
 
 -- what may end the options: nothing, or `--`
 abbrev pub EndsOptions : List Word → Type 0
 EndsOptions ws = (ws ≡ []) ⊎ (ws ≡ codes "--" ∷ [])
 
--- Behind `select`: options, each with its arguments, of which `--no-command` is one; then maybe `--`; then the root, an
--- address. Options that may not stand together don't.
-pub record AsksSelect (ws : List Word) (r : Request) : Type 0 where
+-- the word of a command that loads feeds
+abbrev pub loader_word : Loader → Word
+loader_word loader.Select = codes "select"
+loader_word loader.Refute = codes "refute"
+
+-- how many words it has behind the root
+abbrev pub count_of : Loader → ℕ
+count_of loader.Select = 0
+count_of loader.Refute = 1
+
+-- what it asks for with them
+abbrev pub request_of : Loader → Ask → Bool → List Word → Request
+request_of loader.Select ask proof named = request.Select ask proof
+request_of loader.Refute ask proof named = request.Refute ask (first named)
+
+abbrev pub asking : Loader → Word → List Word → Asked → Request
+asking l root named a = request_of l (ask_of root a) a.proof named
+
+-- Behind a command that loads feeds: options that it has, each with its arguments; then maybe `--`; then the root, an address; then
+-- as many words as it has there. Options that may not stand together don't.
+pub record AsksLoading (l : Loader) (ws : List Word) (r : Request) : Type 0 where
   pub options : List Item
   pub ends : List Word
   pub root : Word
-  pub are : ws ≡ spelled options ++ (ends ++ root ∷ [])
-  pub items : AreItems options
+  pub named : List Word
+  pub are : ws ≡ spelled options ++ (ends ++ root ∷ named)
+  pub items : AreItems l options
   pub apart : any_clash options ≡ false
-  pub no_command : has_no_command options ≡ true
   pub ended : EndsOptions ends
   pub address : is_address root ≡ true
-  pub asked : r ≡ request.Select (ask_of root (gathered options)) false
+  pub many : length named ≡ count_of l
+  pub asked : r ≡ asking l root named (gathered options)
+
+-- the commands that load feeds: their word, and the words behind it
+abbrev pub Loads : Word → List Word → Request → Type 0
+Loads w ws r = (l : Loader) × (w ≡ loader_word l) × AsksLoading l ws r
 
 -- a word that stands alone
 abbrev pub Alone : Word → List Word → Request → Type 0
@@ -34,7 +61,7 @@ Alone w ws r = (ws ≡ []) × (((w ≡ codes "--help") × (r ≡ request.Help)) 
 -- These words are right, and ask for this.
 abbrev pub Right : List Word → Request → Type 0
 Right [] r = ⊥
-Right (w ∷ ws) r = ((w ≡ codes "select") × AsksSelect ws r) ⊎ (InStore w ws r ⊎ Alone w ws r)
+Right (w ∷ ws) r = Loads w ws r ⊎ (InStore w ws r ⊎ Alone w ws r)
 
 -- these words are right
 abbrev pub AreRight : List Word → Type 0

@@ -1,10 +1,12 @@
 //! The words that stand behind an option or a command, each by its form.
 
-ghost use Rattle.std.specs.Prelude.{◌≡◌, ◌≢◌, [], ◌∷◌, ◌||◌, true, Some, codes, MatchResult};
+ghost use Rattle.std.specs.Prelude.{◌≡◌, ◌≢◌, [], ◌∷◌, ◌||◌, ◌&&◌, nat_lt, ◌^◌, if◌then◌else◌, true, Some, None, codes, MatchResult};
+ghost use Rattle.std.specs.Char.{is_ascii_digit};
 ghost use Rattle.std.specs.List.{list_all};
 ghost use Rattle.std.specs.Str.{chars};
+ghost use Rattle.zi_text.specs.Numeral.{number_from, numeral};
 ghost use Rattle.zi_version.specs.Range.{range_of};
-ghost use Rattle.zi_words.specs.Forms.{Word, begins, is_carried, is_address, level_of, stability_of, network_of, Address, Name, Range as ARange, Level, «Network'», Rating};
+ghost use Rattle.zi_words.specs.Forms.{Word, begins, is_carried, is_address, level_of, stability_of, network_of, budget_of, Address, Name, Range as ARange, Level, «Network'», Rating, Budget};
 ghost use Rattle.zi_words.specs.Taken.{MissesWith};
 
 use crate::refusal::Refusal;
@@ -12,6 +14,9 @@ use std::alloc::Global;
 use zi_policy::{Network, Stability};
 use zi_text::Text;
 use zi_version::{Range, RangeFault};
+
+// The greatest number of lemmas that may be asked for.
+const MOST_LEMMAS: u64 = 4_000_000_000;
 
 // A character that XML can carry, no tab and no line end.
 #[tactic(auto, unfolding(crate::specs::Forms::is_carried))]
@@ -165,6 +170,59 @@ pub fn network<'a>(words: &'a [Text]) -> Result<(Network, &'a [Text]), Refusal>
         None => Err(Refusal::Left(0)),
         Some((word, behind)) => match network_of(word.as_str()) {
             Some(network) => Ok((network, behind)),
+            None => Err(Refusal::Left(words.len())),
+        },
+    }
+}
+
+// The number that decimal digits stand for, where it is below 2^64.
+fn number(text: &[u8]) -> Option<u64>
+    ensures { result ≡ (if list_all is_ascii_digit text.now && nat_lt (number_from 0 text.now) (2 ^ 64)
+        then Some (number_from 0 text.now) else None) }
+{
+    let mut number = 0u64;
+    for digit in text {
+        if !digit.is_ascii_digit() {
+            return None;
+        }
+        number = number
+            .checked_mul(10)?
+            .checked_add(u64::from(*digit - b'0'))?;
+    }
+    Some(number)
+}
+
+// The number of one or more decimal digits, where it is below 2^64.
+fn numeral(text: &str) -> Option<u64>
+    ensures { result ≡ numeral text.now }
+{
+    if text.is_empty() {
+        return None;
+    }
+    number(text.as_bytes())
+}
+
+// The number of lemmas that a word says.
+#[tactic(auto, unfolding(crate::specs::Forms::budget_of))]
+fn budget_of(text: &str) -> Option<u64>
+    ensures { result ≡ budget_of text.now }
+{
+    let number = numeral(text)?;
+    if number <= MOST_LEMMAS {
+        Some(number)
+    } else {
+        None
+    }
+}
+
+/// The number of lemmas at the front of the words.
+pub fn budget<'a>(words: &'a [Text]) -> Result<(u64, &'a [Text]), Refusal>
+    ensures { MatchResult result (λ v. (w : Word) × (words.now ≡ w ∷ v.1.now) × (budget_of w ≡ Some v.0)) (MissesWith Budget words.now) }
+{
+    match words.split_first() {
+        None => Err(Refusal::Left(0)),
+        Some((word, behind)) => match budget_of(word.as_str()) {
+            Some(budget) => Ok((budget, behind)),
             None => Err(Refusal::Left(words.len())),
         },
     }

@@ -14,8 +14,8 @@ pub struct Limit {
 /// What the options that were read say, each list in their order.
 #[derive(Debug, Drop)]
 pub struct Asked {
-    /// Whether `--no-command` stands.
-    pub no_command: bool,
+    /// The command of `--command`, or that `--no-command` stands.
+    pub command: Option<Option<Text>>,
     /// Whether `--version` stands.
     pub version: bool,
     /// The limits of `--version` and `--version-for`.
@@ -34,4 +34,8 @@ pub struct Asked {
     pub uses: List<Text>,
     /// The stabilities of `--rate`.
     pub overrides: List<Override>,
+    /// The number of lemmas of `--search`.
+    pub search: Option<u64>,
+    /// Whether `--proof` stands.
+    pub proof: bool,
 }

@@ -1,7 +1,9 @@
 /// An option of the commands that load feeds. But for `--version-for`, `--lang`, `--use` and `--rate` each stands at most once,
-/// and no pair of an address and an id stands twice behind `--rate`.
+/// `--command` doesn't stand with `--no-command`, and no pair of an address and an id stands twice behind `--rate`.
 #[derive(Clone, Copy, Debug, PartialEq, Eq)]
 pub enum Kind {
+    /// `--command NAME`: the command of the program that is wanted; `run` where neither this nor the next is said.
+    Command,
     /// `--no-command`: no command of the program is needed.
     NoCommand,
     /// `--version RANGE`: versions wanted of the program.
@@ -22,4 +24,8 @@ pub enum Kind {
     Use,
     /// `--rate URI ID STABILITY`: a stability that replaces the feed's for one implementation.
     Rate,
+    /// `--search N`: how many lemmas a search may learn, at most 4,000,000,000; 100,000 where it isn't said.
+    Search,
+    /// `--proof`, of `select` alone: what proves the choice is wanted in place of it.
+    Proof,
 }

@@ -7,11 +7,12 @@ mod arguments;
 mod asked;
 mod kind;
 pub mod laws;
+mod loader;
+mod loading;
 mod options;
 mod reader;
 mod refusal;
 mod request;
-mod select;
 mod store;
 #[cfg(test)]
 mod tests;

@@ -1,11 +1,11 @@
 //! The options of the commands that load feeds.
 
-ghost use Rattle.std.specs.Prelude.{◌≡◌, ◌≢◌, ℕ, List, [], ◌∷◌, Some, MatchOption, MatchResult};
+ghost use Rattle.std.specs.Prelude.{◌≡◌, ◌≢◌, ℕ, true, List, [], ◌∷◌, Some, MatchOption, MatchResult};
 ghost use Rattle.zi_words.specs.declared.kind.Kind.TheVariants as kind;
 ghost use Rattle.zi_words.specs.declared.kind.Kind.{Kind as AKind};
 ghost use Rattle.zi_words.specs.Forms.{Word};
-ghost use Rattle.zi_words.specs.Options.{name_of, nothing};
-ghost use Rattle.zi_words.specs.Words.{AsksSelect};
+ghost use Rattle.zi_words.specs.Options.{name_of, has_option, nothing};
+ghost use Rattle.zi_words.specs.Words.{AsksLoading};
 ghost use Rattle.zi_words.specs.Refused.{Refused};
 ghost use Rattle.zi_words.specs.Taken.{Sets, Takes, BreaksRate, has, NoOption, Gathers};
 
@@ -13,6 +13,7 @@ use crate::arguments;
 use crate::arguments::{address, name, range, stability};
 use crate::asked::{Asked, Limit};
 use crate::kind::Kind;
+use crate::loader::Loader;
 use crate::refusal::Refusal;
 use std::alloc::Global;
 use std::collections::BTreeSet;
@@ -24,6 +25,7 @@ fn kind_of(word: &str) -> Option<Kind>
     ensures { MatchOption result ((k : AKind) → word.now ≢ name_of k) (λ k. word.now ≡ name_of k) }
 {
     match word {
+        "--command" => Some(Kind::Command),
         "--no-command" => Some(Kind::NoCommand),
         "--version" => Some(Kind::Version),
         "--version-for" => Some(Kind::VersionFor),
@@ -34,17 +36,23 @@ fn kind_of(word: &str) -> Option<Kind>
         "--network" => Some(Kind::Network),
         "--use" => Some(Kind::Use),
         "--rate" => Some(Kind::Rate),
+        "--search" => Some(Kind::Search),
+        "--proof" => Some(Kind::Proof),
         _ => None,
     }
 }
 
-// The option at the front of the words, and the words behind its name.
-fn first_option<'a>(words: &'a [Text]) -> Option<(Kind, &'a [Text])>
-    ensures { MatchOption result (NoOption words.now) (λ v. words.now ≡ name_of v.0 ∷ v.1.now) }
+// The option of the command at the front of the words, and the words behind its name.
+fn first_option<'a>(loader: Loader, words: &'a [Text]) -> Option<(Kind, &'a [Text])>
+    ensures { MatchOption result (NoOption loader words.now) (λ v. (words.now ≡ name_of v.0 ∷ v.1.now) × (has_option loader v.0 ≡ true)) }
 {
     let (word, behind) = words.split_first()?;
     let kind = kind_of(word.as_str())?;
-    Some((kind, behind))
+    if loader.has(kind) {
+        Some((kind, behind))
+    } else {
+        None
+    }
 }
 
 impl Asked {
@@ -53,7 +61,7 @@ impl Asked {
         ensures { result ≡ nothing }
     {
         Asked {
-            no_command: false,
+            command: None,
             version: false,
             limits: List::new(alloc),
             os: None,
@@ -63,6 +71,8 @@ impl Asked {
             network: None,
             uses: List::new(alloc),
             overrides: List::new(alloc),
+            search: None,
+            proof: false,
         }
     }
 
@@ -71,15 +81,27 @@ impl Asked {
         ensures { result ≡ has kind self.now }
     {
         match kind {
-            Kind::NoCommand => self.no_command,
+            Kind::Command | Kind::NoCommand => self.command.is_some(),
             Kind::Version => self.version,
             Kind::Os => self.os.is_some(),
             Kind::Cpu => self.cpu.is_some(),
             Kind::Level => self.level.is_some(),
             Kind::Network => self.network.is_some(),
+            Kind::Search => self.search.is_some(),
+            Kind::Proof => self.proof,
             Kind::VersionFor | Kind::Lang | Kind::Use | Kind::Rate => false,
         }
     }
+}
+
+// `--command NAME`.
+fn command<'a>(alloc: Global, asked: &mut Asked, words: &'a [Text]) -> Result<&'a [Text], Refusal>
+    ensures { Sets kind.Command asked.old words.now result asked.new }
+{
+    let (command, behind) = name(words)?;
+    let command = command.copy(alloc)?;
+    asked.command = Some(Some(command));
+    Ok(behind)
 }
 
 // `--version RANGE`.
@@ -175,6 +197,15 @@ fn network<'a>(asked: &mut Asked, words: &'a [Text]) -> Result<&'a [Text], Refus
     Ok(behind)
 }
 
+// `--search N`.
+fn search<'a>(asked: &mut Asked, words: &'a [Text]) -> Result<&'a [Text], Refusal>
+    ensures { Sets kind.Search asked.old words.now result asked.new }
+{
+    let (budget, behind) = arguments::budget(words)?;
+    asked.search = Some(budget);
+    Ok(behind)
+}
+
 // `--rate URI ID STABILITY`, where no pair stands twice.
 fn rate<'a>(
     alloc: Global,
@@ -216,8 +247,9 @@ fn option<'a>(
     ensures { Takes kind asked.old pairs.old words.now result asked.new pairs.new }
 {
     match kind {
+        Kind::Command => command(alloc, asked, words),
         Kind::NoCommand => {
-            asked.no_command = true;
+            asked.command = Some(None);
             Ok(words)
         }
         Kind::Version => version(alloc, asked, words),
@@ -229,17 +261,26 @@ fn option<'a>(
         Kind::Network => network(asked, words),
         Kind::Use => wanted_use(alloc, asked, words),
         Kind::Rate => rate(alloc, asked, pairs, words),
+        Kind::Search => search(asked, words),
+        Kind::Proof => {
+            asked.proof = true;
+            Ok(words)
+        }
     }
 }
 
-/// What the options at the front of the words say, and the words behind them.
-pub fn options<'a>(alloc: Global, words: &'a [Text]) -> Result<(Asked, &'a [Text]), Refusal>
-    ensures { MatchResult result (λ v. Gathers words.now v.0 v.1.now) (Refused AsksSelect words.now) }
+/// What the options of a command at the front of the words say, and the words behind them.
+pub fn options<'a>(
+    alloc: Global,
+    loader: Loader,
+    words: &'a [Text],
+) -> Result<(Asked, &'a [Text]), Refusal>
+    ensures { MatchResult result (λ v. Gathers loader words.now v.0 v.1.now) (Refused (AsksLoading loader) words.now) }
 {
     let mut asked = Asked::new(alloc);
     let mut pairs = BTreeSet::new(alloc);
     let mut left = words;
-    while let Some((kind, behind)) = first_option(left) {
+    while let Some((kind, behind)) = first_option(loader, left) {
         if asked.has(kind) {
             return Err(Refusal::Left(left.len()));
         }

@@ -4,9 +4,10 @@ ghost use Rattle.std.specs.Prelude.{MatchResult};
 ghost use Rattle.zi_words.specs.Words.{Right, FaultMeans};
 ghost use Rattle.zi_words.specs.Refused.{Refused};
 
+use crate::loader::Loader;
+use crate::loading::loading;
 use crate::refusal::Refusal;
 use crate::request::{Request, WordsFault};
-use crate::select::select;
 use crate::store::{ended, manifest, store};
 use std::alloc::Global;
 use zi_text::Text;
@@ -19,7 +20,8 @@ fn request(alloc: Global, words: &[Text]) -> Result<Request, Refusal>
         return Err(Refusal::Left(0));
     };
     match word.as_str() {
-        "select" => select(alloc, behind),
+        "select" => loading(alloc, Loader::Select, behind),
+        "refute" => loading(alloc, Loader::Refute, behind),
         "manifest" => manifest(alloc, behind),
         "store" => store(alloc, behind),
         "--help" => ended(Request::Help, behind),
@@ -31,10 +33,9 @@ fn request(alloc: Global, words: &[Text]) -> Result<Request, Refusal>
 impl Request {
     /// What the words of a command line ask for, the program's own name left out.
     ///
-    /// Right words are `select [options] ROOT`, `manifest ALG NAME`, `store add NAME FILE..`, `store verify NAME`,
-    /// `store list`, and `--help` or `--version` alone. The options and what each sets are in `Kind`; they come before ROOT,
-    /// `--` may end them, and `--no-command` must be one of them. A word that looks like an option is a value where a value
-    /// stands.
+    /// Right words are `select [options] ROOT`, `refute [options] ROOT PROOF`, `manifest ALG NAME`, `store add NAME FILE..`,
+    /// `store verify NAME`, `store list`, and `--help` or `--version` alone. The options and what each sets are in `Kind`; they
+    /// come before ROOT, and `--` may end them. A word that looks like an option is a value where a value stands.
     ///
     /// `Usage` is answered exactly where no request is right for the words. Its index counts from 0: it is the number of
     /// words in their longest front that is also a front of some right list of words. `Memory` is answered where memory was

@@ -19,13 +19,13 @@ pub struct Wanted {
 pub struct Ask {
     /// The address of the program's interface.
     pub root: Text,
-    /// The command of it that is wanted, if any.
+    /// The command of it that is wanted, if any: `run` where the words don't say.
     pub command: Option<Text>,
     /// Versions that are wanted, in the order of the words.
     pub limits: List<Wanted>,
     /// The platform, the languages and the like; the lists stand in the order of the words.
     pub policy: Policy,
-    /// The greatest number of lemmas that a search may learn: 100,000. No word sets it yet.
+    /// How many lemmas a search may learn: at most 4,000,000,000, and 100,000 where the words don't say.
     pub search: u64,
 }
 
@@ -34,6 +34,8 @@ pub struct Ask {
 pub enum Request {
     /// `select`: the selections of a program, or with `proof` the proof that they are the best.
     Select { ask: Ask, proof: bool },
+    /// `refute`: whether the proof of this name shows that no choice is valid.
+    Refute { ask: Ask, proof: Text },
     /// `manifest`: the manifest and the digest of a tree in the store, under its name there.
     Manifest { algorithm: Algorithm, name: Text },
     /// `store add`: these files as a tree of the store with this digest.

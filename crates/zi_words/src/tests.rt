@@ -69,11 +69,11 @@ fn asked(alloc: Global, ask: &Ask) -> Result<String, Fail> {
     let uses = joined(alloc, p.uses.as_slice())?;
     let wanted = limits(alloc, ask.limits.as_slice())?;
     let rated = ratings(alloc, p.overrides.as_slice())?;
-    let mut shown = format!(in alloc;
-        "{} {} [{wanted}] ",
-        ask.root.as_str(),
-        ask.command.is_some()
-    )?;
+    let command = match &ask.command {
+        Some(command) => command.as_str(),
+        None => "-",
+    };
+    let mut shown = format!(in alloc; "{} {command} [{wanted}] ", ask.root.as_str())?;
     let of_policy = format!(in alloc;
         "{} {} [{langs}] {:?} {:?}",
         p.os.as_str(),
@@ -90,7 +90,17 @@ fn asked(alloc: Global, ask: &Ask) -> Result<String, Fail> {
 /// What a request asks for.
 fn shown(alloc: Global, request: &Request) -> Result<String, Fail> {
     match request {
-        Request::Select { ask, proof: _ } => asked(alloc, ask),
+        Request::Select { ask, proof } => {
+            let mut all = asked(alloc, ask)?;
+            if *proof {
+                all.push_str(" proof")?;
+            }
+            Ok(all)
+        }
+        Request::Refute { ask, proof } => {
+            let all = asked(alloc, ask)?;
+            Ok(format!(in alloc; "refute {} {}", proof.as_str(), all.as_str())?)
+        }
         Request::Manifest { algorithm, name } => {
             Ok(format!(in alloc; "manifest {algorithm:?} {}", name.as_str())?)
         }
@@ -136,9 +146,9 @@ select -> 1
  -> 0
 Select --no-command /a -> 0
 _ -> 0
-select /a -> 1
-select -- -> 1
-select -- /a -> 1
+select a -> 1
+select -- -> 2
+select -- /a /b -> 3
 select --no-command -> 2
 select --no-command -- -> 3
 select --no-command -- -- -> 3
@@ -153,9 +163,18 @@ select --no-command HTTP://a -> 2
 select --no-command /a\tb -> 2
 select --no-command /a\u{FFFE} -> 2
 select --no-command /a\u{1} -> 2
-select --proof --no-command /a -> 1
-select --command x /a -> 1
+select --proof --proof /a -> 2
+select --command _ /a -> 2
+select --command x --no-command /a -> 3
 select --no-command --command x /a -> 2
+select --command x --command x /a -> 3
+refute -> 1
+refute /a -> 2
+refute a -> 1
+refute /a b c -> 3
+refute -- /a -> 3
+refute --proof /a b -> 1
+refute --os -> 2
 select --no-command --os=x /a -> 2
 select --versions 1 --no-command /a -> 1";
 
@@ -191,9 +210,12 @@ select --rate /b _ best -> 4
 select --rate /b a buggy --rate /b a buggy --no-command /a -> 7
 select --rate /b a buggy --rate /b -> 7
 select --rate /b a buggy --rate /b b x -> 8
-select --search 5 --no-command /a -> 1
-select --no-command --search 5 /a -> 2
-select --no-command --os a --search -> 4";
+select --search +5 /a -> 2
+select --search _ /a -> 2
+select --search 4000000001 /a -> 2
+select --search 18446744073709551621 /a -> 2
+select --search 5 --search 5 /a -> 3
+select --no-command --os a --search -> 5";
 
 #[test]
 fn options_have_their_index(rt: HostRuntime) -> Result<(), Fail> {
@@ -202,14 +224,18 @@ fn options_have_their_index(rt: HostRuntime) -> Result<(), Fail> {
 }
 
 const ASKS: &str = "\
-select --no-command /a -> /a false [] Linux x86_64 [en] Stable Full [] [] 100000
-select --no-command -- http:// -> http:// false [] Linux x86_64 [en] Stable Full [] [] 100000
-select --no-command https://é/\u{FFFD}\u{7F} -> https://é/\u{FFFD}\u{7F} false [] Linux x86_64 [en] Stable Full [] [] 100000
-select --os --cpu --cpu ppc64 --level developer --network off --no-command / -> / false [] --cpu ppc64 [en] Developer Off [] [] 100000
-select --lang fr --use b --lang en_GB --no-command --use a --lang fr /a -> /a false [] Linux x86_64 [fr,en_GB,fr] Stable Full [b,a] [] 100000
-select --level testing --network minimal --no-command /a -> /a false [] Linux x86_64 [en] Testing Minimal [] [] 100000
-select --version-for /b 2.. --version 1 --version-for /b .. --no-command /a -> /a false [/b false true;/a true false;/b true true;] Linux x86_64 [en] Stable Full [] [] 100000
-select --rate /b x buggy --no-command --rate /b _ preferred /a -> /a false [] Linux x86_64 [en] Stable Full [] [/b x Buggy;/b  Preferred;] 100000";
+select /a -> /a run [] Linux x86_64 [en] Stable Full [] [] 100000
+select --command --proof --proof --search 04000000000 /a -> /a --proof [] Linux x86_64 [en] Stable Full [] [] 4000000000 proof
+refute --no-command --search 0 -- /a --proof -> refute --proof /a - [] Linux x86_64 [en] Stable Full [] [] 0
+refute /a _ -> refute  /a run [] Linux x86_64 [en] Stable Full [] [] 100000
+select --no-command /a -> /a - [] Linux x86_64 [en] Stable Full [] [] 100000
+select --no-command -- http:// -> http:// - [] Linux x86_64 [en] Stable Full [] [] 100000
+select --no-command https://é/\u{FFFD}\u{7F} -> https://é/\u{FFFD}\u{7F} - [] Linux x86_64 [en] Stable Full [] [] 100000
+select --os --cpu --cpu ppc64 --level developer --network off --no-command / -> / - [] --cpu ppc64 [en] Developer Off [] [] 100000
+select --lang fr --use b --lang en_GB --no-command --use a --lang fr /a -> /a - [] Linux x86_64 [fr,en_GB,fr] Stable Full [b,a] [] 100000
+select --level testing --network minimal --no-command /a -> /a - [] Linux x86_64 [en] Testing Minimal [] [] 100000
+select --version-for /b 2.. --version 1 --version-for /b .. --no-command /a -> /a - [/b false true;/a true false;/b true true;] Linux x86_64 [en] Stable Full [] [] 100000
+select --rate /b x buggy --no-command --rate /b _ preferred /a -> /a - [] Linux x86_64 [en] Stable Full [] [/b x Buggy;/b  Preferred;] 100000";
 
 #[test]
 fn what_is_asked_stands(rt: HostRuntime) -> Result<(), Fail> {
@@ -218,6 +244,7 @@ fn what_is_asked_stands(rt: HostRuntime) -> Result<(), Fail> {
 }
 
 const COMMANDS: &str = "\
+Refute /a b -> 0
 --help -> help
 --help --help -> 1
 --version -> version

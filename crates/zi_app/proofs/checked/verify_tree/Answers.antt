@@ -1,7 +1,7 @@
 use Rattle.std.proofs.Common.{inl, inr, refl, ◌∙◌}
 use Rattle.zi_store.specs.Keeping.{is_reading}
 use Rattle.zi_store.proofs.KeepingLemmas.{keeps_none}
-use Rattle.zi_app.proofs.StoreLemmas.{failed, not_failed, answered}
+use Rattle.zi_world.proofs.CallLemmas.{failed, not_failed, answered}
 use Rattle.zi_app.proofs.checked.verify_tree.Goals as goal
 
 pub returns-in_default : goal.returns-in_default

@@ -1,5 +1,6 @@
 use Rattle.std.proofs.Common.{inl, inr, refl}
-use Rattle.zi_app.proofs.StoreLemmas.{failed, not_failed, answered, tree_at, missing_at, large_at}
+use Rattle.zi_world.proofs.CallLemmas.{failed, not_failed, answered}
+use Rattle.zi_app.proofs.StoreLemmas.{tree_at, missing_at, large_at}
 use Rattle.zi_app.proofs.manifests.manifest.Goals as goal
 
 pub returns-in-Ok-Read : goal.returns-in-Ok-Read

@@ -1,5 +1,5 @@
 use Rattle.std.proofs.Common.{refl, inl, inr}
-use Rattle.zi_app.proofs.StoreLemmas.{failed, not_failed, answered}
+use Rattle.zi_world.proofs.CallLemmas.{failed, not_failed, answered}
 use Rattle.zi_app.proofs.names.list.Goals as goal
 
 pub returns-in-Ok : goal.returns-in-Ok

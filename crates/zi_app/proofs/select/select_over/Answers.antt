@@ -1,5 +1,5 @@
 use Rattle.std.proofs.Common.{refl}
-use Rattle.zi_app.proofs.AskingLemmas.{asks_stay, feeds_same}
+use Rattle.zi_world.proofs.AskingLemmas.{asks_stay, feeds_same}
 use Rattle.zi_app.proofs.SelectLemmas.{selected, refused_load, no_task}
 use Rattle.zi_app.proofs.select.select_over.Goals as goal
 

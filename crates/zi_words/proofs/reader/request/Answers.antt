@@ -1,5 +1,6 @@
 use Rattle.std.proofs.Common.{sym, ◌∙◌}
-use Rattle.zi_words.proofs.RightLemmas.{right_none, right_unknown, right_select, right_manifest, right_store, right_help, right_version}
+use Rattle.zi_words.specs.declared.loader.Loader.TheVariants.{Select, Refute}
+use Rattle.zi_words.proofs.RightLemmas.{right_none, right_unknown, right_loading, right_manifest, right_store, right_help, right_version}
 use Rattle.zi_words.proofs.reader.request.Goals as goal
 
 pub returns-in_default : goal.returns-in_default
@@ -7,7 +8,12 @@ returns-in_default c = right_none c.args.words.now c.in_default.ensures.cases
 
 pub returns-in-select : goal.returns-in-select
 returns-in-select c =
-    right_select c.args.words.now c.in-Some.behind.now c.in-Some.word.now c.select.result c.in-Some.ensures.cases.0 (sym c.as_str.ensures ∙ c.in-select.is) c.select.ensures
+    right_loading Select c.args.words.now c.in-Some.behind.now c.in-Some.word.now c.loading.result c.in-Some.ensures.cases.0 (sym c.as_str.ensures ∙ c.in-select.is) c.loading.ensures
+
+pub returns-in-refute : goal.returns-in-refute
+returns-in-refute c =
+    right_loading Refute c.args.words.now c.in-Some.behind.now c.in-Some.word.now c.loading-in-refute.result c.in-Some.ensures.cases.0 (sym c.as_str.ensures ∙ c.in-refute.is)
+    c.loading-in-refute.ensures
 
 pub returns-in-manifest : goal.returns-in-manifest
 returns-in-manifest c =
@@ -29,5 +35,5 @@ pub returns-in_default-as_str : goal.returns-in_default-as_str
 returns-in_default-as_str c =
     let is = c.as_str.ensures in
     right_unknown c.args.words.now c.in-Some.behind.now c.in-Some.word.now c.in-Some.ensures.cases.0 (λ e. c.in_default-as_str.not-select (is ∙ e))
-    (λ e. c.in_default-as_str.not-manifest (is ∙ e)) (λ e. c.in_default-as_str.not-store (is ∙ e)) (λ e. c.in_default-as_str.not-text (is ∙ e))
+    (λ e. c.in_default-as_str.not-refute (is ∙ e)) (λ e. c.in_default-as_str.not-manifest (is ∙ e)) (λ e. c.in_default-as_str.not-store (is ∙ e)) (λ e. c.in_default-as_str.not-text (is ∙ e))
     (λ e. c.in_default-as_str.not-text-2 (is ∙ e))

@@ -1,0 +1,223 @@
+-- The check of a proof, and what it means for the words that asked for it.
+use Rattle.std.proofs.Common.{◌≡◌, ◌≢◌, ℕ, inl, inr, ◌⊎◌, List, [], refl, sym, subst, ◌∙◌}
+use Rattle.zi_digest.specs.declared.DigestName.{DigestName}
+use Rattle.zi_outside.specs.Views.{Feeding, Sinking, holding}
+use Rattle.zi_outside.proofs.AskingLemmas.{holding_asked}
+use Rattle.zi_words.specs.declared.request.Ask.{Ask}
+use Rattle.zi_universe.specs.declared.types.Interface.{Interface}
+use Rattle.zi_universe.specs.declared.types.Requirement.{Requirement}
+use Rattle.zi_universe.specs.declared.fault.LoadFault.{LoadFault}
+use Rattle.zi_universe.specs.declared.fault.LoadFault.TheVariants as load
+use Rattle.zi_choice.specs.Valid.{NoneIsValid}
+use Rattle.zi_build.specs.declared.building.BuildFault.{BuildFault}
+use Rattle.zi_build.specs.declared.building.BuildFault.TheVariants as build
+use Rattle.zi_build.specs.Answers.{FaultMeans}
+use Rattle.zi_proof.specs.declared.proof.Certificate.{Certificate}
+use Rattle.zi_certificate.specs.Certificates.{Refutes}
+use Rattle.zi_outcome.specs.declared.outcome.Outcome.{Outcome}
+use Rattle.zi_outcome.specs.declared.outcome.Outcome.TheVariants.{Done, Usage, FeedRead, NoRootFeed, BadFeed, FeedTooLong, TooManyFeeds, TooManyInterfaces, TooManyCandidates, TooLarge, NoSolution, Spent, NoFile, BadProof, Rejected, Overlap, Mismatch, MissingTree, DamagedTree, BadName, TreeTooLarge, StoreFault, Crowded, Unwritable, SinkFault, Memory, Unbuilt}
+use Rattle.zi_outcome.specs.Refused.{outcome_of}
+use Rattle.zi_outcome.specs.Writing.{Prints}
+use Rattle.zi_world.specs.Asking.{FeedsStay}
+use Rattle.zi_world.proofs.AskingLemmas.{asks_stay, unasked_stay}
+use Rattle.zi_choosing.specs.Wanted.{requirement_of}
+use Rattle.zi_choosing.specs.Loaded.{Lent, IsLoaded, IsRefused, AreFew, build_outcome}
+use Rattle.zi_choosing.specs.Refute.{yes_line, Loads, Gets, Reads, IsRight, RefutesOver}
+use Rattle.zi_choosing.specs.RefuteParts.{IsNone, ChecksRead, IsUnreadable, ChecksText, IsNoFile, ChecksFile}
+
+-- it has a block
+pub has_block : (req : Requirement) (u : List Interface) (c : Certificate) (out : Sinking) → c.blocks ≢ [] → ChecksRead req u c out out Rejected
+has_block req u c out h = inr (inl h, refl)
+
+-- it refutes
+pub says_yes : (req : Requirement) (u : List Interface) (c : Certificate) (old new : Sinking) (outcome : Outcome) → c.blocks ≡ [] → AreFew u req → Refutes u req c.proof
+    → NoneIsValid u req → Prints yes_line old new outcome → ChecksRead req u c old new outcome
+says_yes req u c old new outcome h few refutes none w =
+    inl (record { plain = h; few = few; refutes = refutes; none = none }, w)
+
+-- it doesn't
+pub says_no : (req : Requirement) (u : List Interface) (c : Certificate) (out : Sinking) → c.blocks ≡ [] → AreFew u req → ¬ Refutes u req c.proof
+    → ChecksRead req u c out out Rejected
+says_no req u c out h few refused = inr (inr (h, few, refused), refl)
+
+-- there was no formula
+pub no_formula : (req : Requirement) (u : List Interface) (c : Certificate) (fault : BuildFault) (out : Sinking) (outcome : Outcome) → c.blocks ≡ [] → FaultMeans u req fault
+    → outcome ≡ build_outcome fault → ChecksRead req u c out out outcome
+no_formula req u c (build.TooLarge limit) out outcome h means e = subst (λ x. ChecksRead req u c out out x) (sym e) (inr ((h, means), refl))
+no_formula req u c build.Memory out outcome h means e = subst (λ x. ChecksRead req u c out out x) (sym e) (inr (tt, refl))
+
+-- Behind the loading.
+module _ (ask : Ask) (name : List ℕ) (stored : List DigestName) (before after : Lent) (there : Loads stored ask before.feeds) where
+  yes_as : (c : Certificate) (outcome : Outcome) → Reads name there.feeds after.feeds c → IsRight there.universe (requirement_of ask) c → Prints yes_line before.out after.out outcome
+      → RefutesOver ask name stored before after outcome
+  yes_as c outcome reads right (inl (w, e)) =
+      subst (λ x. RefutesOver ask name stored before after x) (sym e) (record { there = there; certificate = c; reads = reads; is = right }, w)
+  yes_as c outcome reads right (inr (inl (w, e))) =
+      subst (λ x. RefutesOver ask name stored before after x) (sym e) (record { there = there; certificate = c; reads = reads; is = right }, w)
+  yes_as c outcome reads right (inr (inr (w, e))) =
+      subst (λ x. RefutesOver ask name stored before after x) (sym e) (inr (inr (inr (record { there = there; certificate = c; reads = reads; is = right }, w))))
+
+  none_as : (c : Certificate) (outcome : Outcome) → Reads name there.feeds after.feeds c → IsNone (requirement_of ask) there.universe c outcome → after.out ≡ before.out
+      → RefutesOver ask name stored before after outcome
+  none_as c Done reads why w = absurd why
+  none_as c (Usage index) reads why w = absurd why
+  none_as c (FeedRead uri) reads why w = absurd why
+  none_as c NoRootFeed reads why w = absurd why
+  none_as c (BadFeed uri fault) reads why w = absurd why
+  none_as c (FeedTooLong uri limit) reads why w = absurd why
+  none_as c (TooManyFeeds limit) reads why w = absurd why
+  none_as c (TooManyInterfaces limit) reads why w = absurd why
+  none_as c (TooManyCandidates limit) reads why w = absurd why
+  none_as c (TooLarge limit) reads why w = (record { there = there; certificate = c; reads = reads; is = why }, w)
+  none_as c (NoSolution proof) reads why w = absurd why
+  none_as c (Spent proof count) reads why w = absurd why
+  none_as c (NoFile absent) reads why w = absurd why
+  none_as c (BadProof line) reads why w = absurd why
+  none_as c Rejected reads why w = (record { there = there; certificate = c; reads = reads; is = why }, w)
+  none_as c (Overlap path) reads why w = absurd why
+  none_as c (Mismatch wanted found) reads why w = absurd why
+  none_as c (MissingTree missing) reads why w = absurd why
+  none_as c (DamagedTree damaged found) reads why w = absurd why
+  none_as c (BadName path) reads why w = absurd why
+  none_as c (TreeTooLarge what limit) reads why w = absurd why
+  none_as c (StoreFault top) reads why w = absurd why
+  none_as c (Crowded tried) reads why w = absurd why
+  none_as c (Unwritable place) reads why w = absurd why
+  none_as c SinkFault reads why w = absurd why
+  none_as c Memory reads why w = inr (inr (inl ((there, inr reads.got.asked), w)))
+  none_as c Unbuilt reads why w = absurd why
+
+  bad_as : (bytes : List ℕ) (outcome : Outcome) → Gets name there.feeds after.feeds bytes → IsUnreadable bytes outcome → after.out ≡ before.out
+      → RefutesOver ask name stored before after outcome
+  bad_as bytes Done got why w = absurd why
+  bad_as bytes (Usage index) got why w = absurd why
+  bad_as bytes (FeedRead uri) got why w = absurd why
+  bad_as bytes NoRootFeed got why w = absurd why
+  bad_as bytes (BadFeed uri fault) got why w = absurd why
+  bad_as bytes (FeedTooLong uri limit) got why w = absurd why
+  bad_as bytes (TooManyFeeds limit) got why w = absurd why
+  bad_as bytes (TooManyInterfaces limit) got why w = absurd why
+  bad_as bytes (TooManyCandidates limit) got why w = absurd why
+  bad_as bytes (TooLarge limit) got why w = absurd why
+  bad_as bytes (NoSolution proof) got why w = absurd why
+  bad_as bytes (Spent proof count) got why w = absurd why
+  bad_as bytes (NoFile absent) got why w = absurd why
+  bad_as bytes (BadProof line) got why w = ((there, record { bytes = bytes; got = got; bad = why }), w)
+  bad_as bytes Rejected got why w = absurd why
+  bad_as bytes (Overlap path) got why w = absurd why
+  bad_as bytes (Mismatch wanted found) got why w = absurd why
+  bad_as bytes (MissingTree missing) got why w = absurd why
+  bad_as bytes (DamagedTree damaged found) got why w = absurd why
+  bad_as bytes (BadName path) got why w = absurd why
+  bad_as bytes (TreeTooLarge what limit) got why w = absurd why
+  bad_as bytes (StoreFault top) got why w = absurd why
+  bad_as bytes (Crowded tried) got why w = absurd why
+  bad_as bytes (Unwritable place) got why w = absurd why
+  bad_as bytes SinkFault got why w = absurd why
+  bad_as bytes Memory got why w = inr (inr (inl ((there, inr got.asked), w)))
+  bad_as bytes Unbuilt got why w = absurd why
+
+  no_file_as : (outcome : Outcome) → IsNoFile name there.feeds after.feeds outcome → after.out ≡ before.out → RefutesOver ask name stored before after outcome
+  no_file_as Done why w = absurd why
+  no_file_as (Usage index) why w = absurd why
+  no_file_as (FeedRead uri) why w = inr (why.0, (there, why.1), w)
+  no_file_as NoRootFeed why w = absurd why
+  no_file_as (BadFeed uri fault) why w = absurd why
+  no_file_as (FeedTooLong uri limit) why w = inr (why.0, (there, why.1), w)
+  no_file_as (TooManyFeeds limit) why w = absurd why
+  no_file_as (TooManyInterfaces limit) why w = absurd why
+  no_file_as (TooManyCandidates limit) why w = absurd why
+  no_file_as (TooLarge limit) why w = absurd why
+  no_file_as (NoSolution proof) why w = absurd why
+  no_file_as (Spent proof count) why w = absurd why
+  no_file_as (NoFile absent) why w = (why.0, (there, why.1), w)
+  no_file_as (BadProof line) why w = absurd why
+  no_file_as Rejected why w = absurd why
+  no_file_as (Overlap path) why w = absurd why
+  no_file_as (Mismatch wanted found) why w = absurd why
+  no_file_as (MissingTree missing) why w = absurd why
+  no_file_as (DamagedTree damaged found) why w = absurd why
+  no_file_as (BadName path) why w = absurd why
+  no_file_as (TreeTooLarge what limit) why w = absurd why
+  no_file_as (StoreFault top) why w = absurd why
+  no_file_as (Crowded tried) why w = absurd why
+  no_file_as (Unwritable place) why w = absurd why
+  no_file_as SinkFault why w = absurd why
+  no_file_as Memory why w = inr (inr (inl ((there, inl why), w)))
+  no_file_as Unbuilt why w = absurd why
+
+  pub file_as : (outcome : Outcome) → ChecksFile (requirement_of ask) there.universe name (record { feeds = there.feeds; out = before.out }) after outcome
+      → RefutesOver ask name stored before after outcome
+  file_as outcome (inl (bytes, got, inl (c, text, inl (right, w)))) = yes_as c outcome (record { bytes = bytes; got = got; text = text }) right w
+  file_as outcome (inl (bytes, got, inl (c, text, inr (why, w)))) = none_as c outcome (record { bytes = bytes; got = got; text = text }) why w
+  file_as outcome (inl (bytes, got, inr (why, w))) = bad_as bytes outcome got why w
+  file_as outcome (inr (why, w)) = no_file_as outcome why w
+
+-- what a loading that was refused comes to
+pub refused_over : (ask : Ask) (name : List ℕ) (stored : List DigestName) (before after : Lent) (e : LoadFault) (outcome : Outcome) → IsRefused stored ask before.feeds after.feeds e
+    → after.out ≡ before.out → outcome ≡ outcome_of e → RefutesOver ask name stored before after outcome
+refused_over ask name stored before after e outcome r w is = subst (λ x. RefutesOver ask name stored before after x) (sym is) (by e r)
+  where
+    by : (e : LoadFault) → IsRefused stored ask before.feeds after.feeds e → RefutesOver ask name stored before after (outcome_of e)
+    by (load.FeedRead uri) r = inl (r, w)
+    by load.NoRootFeed r = (r, w)
+    by (load.BadFeed uri fault) r = (r, w)
+    by (load.FeedTooLong uri limit) r = inl (r, w)
+    by (load.TooManyFeeds limit) r = (r, w)
+    by (load.TooManyInterfaces limit) r = (r, w)
+    by (load.TooManyCandidates limit) r = (r, w)
+    by load.Memory r = inr (inl (r, w))
+
+-- there was no memory for the task
+pub no_task : (ask : Ask) (name : List ℕ) (stored : List DigestName) (lent : Lent) → RefutesOver ask name stored lent lent Memory
+no_task ask name stored lent = inl refl
+
+-- the check of the universe that was loaded
+pub refuted : (ask : Ask) (name : List ℕ) (stored : List DigestName) (req : Requirement) (before after : Lent) (mid : Feeding) (u : List Interface) (outcome : Outcome) → req ≡ requirement_of ask
+    → IsLoaded stored ask before.feeds mid u → ChecksFile req u name (record { feeds = mid; out = before.out }) after outcome → RefutesOver ask name stored before after outcome
+refuted ask name stored req before after mid u outcome at_req loaded checks =
+    file_as ask name stored before after (record { universe = u; feeds = mid; loaded = loaded }) outcome
+    (subst (λ r. ChecksFile r u name (record { feeds = mid; out = before.out }) after outcome) at_req checks)
+
+-- The feeds hold what they held.
+no_file_stays : (name : List ℕ) (before after : Feeding) (outcome : Outcome) → IsNoFile name before after outcome → FeedsStay before after
+no_file_stays name before after Done why = absurd why
+no_file_stays name before after (Usage index) why = absurd why
+no_file_stays name before after (FeedRead uri) why = asks_stay _ before after why.1.0
+no_file_stays name before after NoRootFeed why = absurd why
+no_file_stays name before after (BadFeed uri fault) why = absurd why
+no_file_stays name before after (FeedTooLong uri limit) why = asks_stay _ before after why.1.0.asked
+no_file_stays name before after (TooManyFeeds limit) why = absurd why
+no_file_stays name before after (TooManyInterfaces limit) why = absurd why
+no_file_stays name before after (TooManyCandidates limit) why = absurd why
+no_file_stays name before after (TooLarge limit) why = absurd why
+no_file_stays name before after (NoSolution proof) why = absurd why
+no_file_stays name before after (Spent proof count) why = absurd why
+no_file_stays name before after (NoFile absent) why = asks_stay _ before after why.1.0.asked
+no_file_stays name before after (BadProof line) why = absurd why
+no_file_stays name before after Rejected why = absurd why
+no_file_stays name before after (Overlap path) why = absurd why
+no_file_stays name before after (Mismatch wanted found) why = absurd why
+no_file_stays name before after (MissingTree missing) why = absurd why
+no_file_stays name before after (DamagedTree damaged found) why = absurd why
+no_file_stays name before after (BadName path) why = absurd why
+no_file_stays name before after (TreeTooLarge what limit) why = absurd why
+no_file_stays name before after (StoreFault top) why = absurd why
+no_file_stays name before after (Crowded tried) why = absurd why
+no_file_stays name before after (Unwritable place) why = absurd why
+no_file_stays name before after SinkFault why = absurd why
+no_file_stays name before after Memory why = unasked_stay before after why
+no_file_stays name before after Unbuilt why = absurd why
+
+file_stays : (req : Requirement) (u : List Interface) (name : List ℕ) (before after : Lent) (outcome : Outcome) → ChecksFile req u name before after outcome → FeedsStay before.feeds after.feeds
+file_stays req u name before after outcome (inl (bytes, got, checks)) = asks_stay _ before.feeds after.feeds got.asked.asked
+file_stays req u name before after outcome (inr (why, w)) = no_file_stays name before.feeds after.feeds outcome why
+
+stay_then : (before mid after : Feeding) → FeedsStay before mid → FeedsStay mid after → FeedsStay before after
+stay_then before mid after a b = record { holds = b.holds ∙ a.holds; plan = b.plan ∙ a.plan }
+
+pub stays_over : (req : Requirement) (u : List Interface) (name : List ℕ) (before : Feeding) (lent after : Lent) (outcome : Outcome) → FeedsStay before lent.feeds
+    → ChecksFile req u name lent after outcome → FeedsStay before after.feeds
+stays_over req u name before lent after outcome s checks = stay_then before lent.feeds after.feeds s (file_stays req u name lent after outcome checks)
+
+pub ruleset checking = (has_block, says_yes, says_no, no_formula)

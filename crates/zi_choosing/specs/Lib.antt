@@ -1,0 +1,4 @@
+pub mod Wanted
+pub mod Loaded
+pub mod Refute
+pub mod RefuteParts

@@ -1,0 +1,135 @@
+-- `refute`: whether a proof shows that no choice is valid.
+use Rattle.std.specs.Prelude.{◌≡◌, ◌≢◌, ℕ, ◌<◌, ◌≤◌, ◌⊎◌, List, [], ◌∷◌, length, codes, None, Some, IfSome, IsSomeAnd}
+use Rattle.zi_digest.specs.declared.DigestName.{DigestName}
+use Rattle.zi_outside.specs.Count.{Rose}
+use Rattle.zi_outside.specs.Views.{Feeding, holding}
+use Rattle.zi_outside.specs.Outside.{Asks, Writes, WritesFront}
+use Rattle.zi_words.specs.declared.request.Ask.{Ask}
+use Rattle.zi_universe.specs.declared.types.Interface.{Interface}
+use Rattle.zi_universe.specs.declared.types.Requirement.{Requirement}
+use Rattle.zi_universe.specs.declared.fault.LoadFault.TheVariants as load
+use Rattle.zi_choice.specs.Valid.{NoneIsValid}
+use Rattle.zi_proof.specs.declared.proof.Certificate.{Certificate}
+use Rattle.zi_proof.specs.declared.fault.ProofFault.TheVariants.{Bad}
+use Rattle.zi_proof.specs.ProofText.{IsProofText, FaultMeans}
+use Rattle.zi_certificate.specs.Certificates.{Refutes}
+use Rattle.zi_outcome.specs.declared.outcome.Outcome.{Outcome}
+use Rattle.zi_outcome.specs.declared.outcome.Outcome.TheVariants.{Done, FeedRead, NoRootFeed, BadFeed, FeedTooLong, TooManyFeeds, TooManyInterfaces, TooManyCandidates, TooLarge, NoFile, BadProof, Rejected, SinkFault, Memory}
+use Rattle.zi_outcome.specs.Writing.{StopsShort}
+use Rattle.zi_world.specs.World.{World}
+use Rattle.zi_choosing.specs.Wanted.{requirement_of}
+use Rattle.zi_choosing.specs.Loaded.{Lent, IsLoaded, Refused, AreFew, AreMany, DoesOver}
+
+-- so many bytes a proof may have: 64 MiB
+abbrev pub proof_limit : ℕ
+proof_limit = 67108864
+
+-- what is written where the proof refutes
+abbrev pub yes_line : List ℕ
+yes_line = codes "yes\n"
+
+-- The universe that the words ask for is loaded, and then the feeds are as they are seen here.
+pub record Loads (stored : List DigestName) (ask : Ask) (before : Feeding) : Type 0 where
+  pub universe : List Interface
+  pub feeds : Feeding
+  pub loaded : IsLoaded stored ask before feeds universe
+
+-- a file was asked for, and no call failed
+pub record AsksFor (name : List ℕ) (before after : Feeding) : Type 0 where
+  pub asked : Asks (name ∷ []) before after
+  pub calm : after.faults ≡ before.faults
+
+-- the file has these bytes, no more than the limit
+pub record Gets (name : List ℕ) (before after : Feeding) (bytes : List ℕ) : Type 0 where
+  pub asked : AsksFor name before after
+  pub small : length bytes ≤ proof_limit
+  pub held : IfSome (holding before) (λ holds. holds name ≡ Some bytes)
+
+-- there is no such file
+abbrev pub IsAbsent : List ℕ → Feeding → Feeding → Type 0
+IsAbsent name before after = AsksFor name before after × IfSome (holding before) (λ holds. holds name ≡ None)
+
+-- it has more bytes than the limit
+abbrev pub IsTooLong : List ℕ → Feeding → Feeding → ℕ → Type 0
+IsTooLong name before after limit =
+    AsksFor name before after × (limit ≡ proof_limit) × IfSome (holding before) (λ holds. IsSomeAnd (holds name) (λ bytes. proof_limit < length bytes))
+
+-- the feeds failed at it
+abbrev pub IsUnread : List ℕ → Feeding → Feeding → Type 0
+IsUnread name before after = Asks (name ∷ []) before after × Rose before.faults after.faults
+
+-- what is read in the file is this
+pub record Reads (name : List ℕ) (before after : Feeding) (c : Certificate) : Type 0 where
+  pub bytes : List ℕ
+  pub got : Gets name before after bytes
+  pub text : IsProofText bytes c
+
+-- what is read in the file is no proof: it stops being one at this line
+pub record IsBad (name : List ℕ) (before after : Feeding) (line : ℕ) : Type 0 where
+  pub bytes : List ℕ
+  pub got : Gets name before after bytes
+  pub bad : FaultMeans bytes (Bad line)
+
+-- What is read has no block, and its lemmas refute: so no choice is valid.
+pub record IsRight (universe : List Interface) (req : Requirement) (c : Certificate) : Type 0 where
+  pub plain : c.blocks ≡ []
+  pub few : AreFew universe req
+  pub refutes : Refutes universe req c.proof
+  pub none : NoneIsValid universe req
+
+-- it has a block, or its lemmas don't refute
+abbrev pub IsWrong : List Interface → Requirement → Certificate → Type 0
+IsWrong universe req c = (c.blocks ≢ []) ⊎ ((c.blocks ≡ []) × AreFew universe req × ¬ Refutes universe req c.proof)
+
+-- the constraints on a choice have more literals than this
+abbrev pub IsTooLarge : List Interface → Requirement → Certificate → ℕ → Type 0
+IsTooLarge universe req c limit = (c.blocks ≡ []) × AreMany universe req limit
+
+-- the proof is read behind the loading, and this is so of it
+pub record IsChecked (stored : List DigestName) (ask : Ask) (name : List ℕ) (before after : Feeding) (Is : List Interface → Requirement → Certificate → Type 0) : Type 0 where
+  pub there : Loads stored ask before
+  pub certificate : Certificate
+  pub reads : Reads name there.feeds after certificate
+  pub is : Is there.universe (requirement_of ask) certificate
+
+-- behind the loading this is so of the file
+abbrev pub Then : List DigestName → Ask → Feeding → (Feeding → Type 0) → Type 0
+Then stored ask before Is = (there : Loads stored ask before) × Is there.feeds
+
+-- over a store with these names
+abbrev pub RefutesOver : Ask → List ℕ → List DigestName → Lent → Lent → Outcome → Type 0
+-- the proof refutes, and that was written
+RefutesOver ask name stored before after Done =
+    IsChecked stored ask name before.feeds after.feeds IsRight × Writes before.out yes_line after.out
+RefutesOver ask name stored before after (FeedRead uri) =
+    Refused stored ask before after (load.FeedRead uri)
+    ⊎ ((uri ≡ name) × Then stored ask before.feeds (λ feeds. IsUnread name feeds after.feeds) × (after.out ≡ before.out))
+RefutesOver ask name stored before after NoRootFeed = Refused stored ask before after load.NoRootFeed
+RefutesOver ask name stored before after (BadFeed uri fault) = Refused stored ask before after (load.BadFeed uri fault)
+RefutesOver ask name stored before after (FeedTooLong uri limit) =
+    Refused stored ask before after (load.FeedTooLong uri limit)
+    ⊎ ((uri ≡ name) × Then stored ask before.feeds (λ feeds. IsTooLong name feeds after.feeds limit) × (after.out ≡ before.out))
+RefutesOver ask name stored before after (TooManyFeeds limit) = Refused stored ask before after (load.TooManyFeeds limit)
+RefutesOver ask name stored before after (TooManyInterfaces limit) = Refused stored ask before after (load.TooManyInterfaces limit)
+RefutesOver ask name stored before after (TooManyCandidates limit) = Refused stored ask before after (load.TooManyCandidates limit)
+RefutesOver ask name stored before after (NoFile absent) =
+    (absent ≡ name) × Then stored ask before.feeds (λ feeds. IsAbsent name feeds after.feeds) × (after.out ≡ before.out)
+RefutesOver ask name stored before after (BadProof line) =
+    Then stored ask before.feeds (λ feeds. IsBad name feeds after.feeds line) × (after.out ≡ before.out)
+RefutesOver ask name stored before after Rejected = IsChecked stored ask name before.feeds after.feeds IsWrong × (after.out ≡ before.out)
+RefutesOver ask name stored before after (TooLarge limit) =
+    IsChecked stored ask name before.feeds after.feeds (λ universe req c. IsTooLarge universe req c limit) × (after.out ≡ before.out)
+-- the output failed in the line
+RefutesOver ask name stored before after SinkFault =
+    IsChecked stored ask name before.feeds after.feeds IsRight × WritesFront before.out yes_line after.out
+-- memory was refused before the loading, in it, behind it, or in the line
+RefutesOver ask name stored before after Memory =
+    (after ≡ before)
+    ⊎ (Refused stored ask before after load.Memory
+    ⊎ ((Then stored ask before.feeds (λ feeds. (after.feeds ≡ feeds) ⊎ AsksFor name feeds after.feeds) × (after.out ≡ before.out))
+    ⊎ (IsChecked stored ask name before.feeds after.feeds IsRight × StopsShort before.out yes_line after.out)))
+RefutesOver ask name stored before after other = ⊥
+
+-- The universe that the words ask for is loaded, and the proof of this name is checked.
+abbrev pub ChecksNone : Ask → List ℕ → World → World → Outcome → Type 0
+ChecksNone ask name before after outcome = DoesOver (RefutesOver ask name) before after outcome

@@ -1,0 +1,91 @@
+-- The number of lemmas that is asked for is never past the greatest.
+use Rattle.std.proofs.Common.{◌≡◌, ℕ, ◌≤◌, Bool, true, false, List, [], ◌∷◌, Option, Some, None, refl, sym, subst, arith, inl, inr}
+use Rattle.std.specs.Prelude.{fold, nat_le, if◌then◌else◌, unwrap_or}
+use Rattle.std.proofs.lemmas.Bool.Decides.{nat_tests}
+use Rattle.zi_text.specs.Numeral.{numeral}
+use Rattle.zi_words.specs.declared.kind.Kind.{Kind}
+use Rattle.zi_words.specs.declared.kind.Kind.TheVariants as kind
+use Rattle.zi_words.specs.declared.loader.Loader.{Loader}
+use Rattle.zi_words.specs.declared.loader.Loader.TheVariants as loader
+use Rattle.zi_words.specs.declared.asked.Asked.{Asked}
+use Rattle.zi_words.specs.declared.request.Ask.{Ask}
+use Rattle.zi_words.specs.declared.request.Request.{Request}
+use Rattle.zi_words.specs.declared.request.Request.TheVariants as request
+use Rattle.zi_words.specs.Forms.{Word, most_lemmas, up_to, budget_of}
+use Rattle.zi_words.specs.Options.{Item, first, set, nothing, gathered, ask_of}
+use Rattle.zi_words.specs.Store.{AsksStore}
+use Rattle.zi_words.specs.Words.{request_of, Right}
+
+-- a number that may be missing isn't past the greatest
+abbrev Fits : Option ℕ → Type 0
+Fits None = Unit {0}
+Fits (Some n) = n ≤ most_lemmas
+
+up_to_fits : (o : Option ℕ) → Fits (up_to most_lemmas o)
+up_to_fits None = tt
+up_to_fits (Some n) = by (nat_le n most_lemmas) refl
+  where
+    by : (b : Bool) → nat_le n most_lemmas ≡ b → Fits (if b then Some n else None)
+    by true e = let h : n ≤ most_lemmas = grind (arith, nat_tests) in h
+    by false e = tt
+
+budget_fits : (w : Word) → Fits (budget_of w)
+unfolding budget_of
+budget_fits w = up_to_fits (numeral w)
+
+set_fits : (k : Kind) (args : List Word) (a : Asked) → Fits a.search → Fits (set k args a).search
+set_fits kind.Command args a h = h
+set_fits kind.NoCommand args a h = h
+set_fits kind.Version args a h = h
+set_fits kind.VersionFor args a h = h
+set_fits kind.Os args a h = h
+set_fits kind.Cpu args a h = h
+set_fits kind.Lang args a h = h
+set_fits kind.Level args a h = h
+set_fits kind.Network args a h = h
+set_fits kind.Use args a h = h
+set_fits kind.Rate args a h = h
+set_fits kind.Search args a h = budget_fits (first args)
+set_fits kind.Proof args a h = h
+
+all_fit : (is : List Item) (a : Asked) → Fits a.search → Fits (fold (λ (b : Asked) (i : Item). set i.kind i.arguments b) a is).search
+all_fit [] a h = h
+all_fit (i ∷ is) a h = all_fit is (set i.kind i.arguments a) (set_fits i.kind i.arguments a h)
+
+gathered_fits : (is : List Item) → Fits (gathered is).search
+unfolding gathered
+gathered_fits is = all_fit is nothing tt
+
+or_fits : (o : Option ℕ) → Fits o → unwrap_or o 100000 ≤ most_lemmas
+or_fits None h = omega arith
+or_fits (Some n) h = h
+
+ask_fits : (root : Word) (a : Asked) → Fits a.search → (ask_of root a).search ≤ most_lemmas
+unfolding ask_of
+ask_fits root a h = or_fits a.search h
+
+-- the number of lemmas of a request isn't past the greatest
+abbrev pub IsWithin : Request → Type 0
+IsWithin (request.Select ask proof) = ask.search ≤ most_lemmas
+IsWithin (request.Refute ask proof) = ask.search ≤ most_lemmas
+IsWithin other = Unit {0}
+
+of_loader : (l : Loader) (ask : Ask) (proof : Bool) (named : List Word) → ask.search ≤ most_lemmas → IsWithin (request_of l ask proof named)
+of_loader loader.Select ask proof named h = h
+of_loader loader.Refute ask proof named h = h
+
+pub is_within : (ws : List Word) (r : Request) → Right ws r → IsWithin r
+is_within [] r h = absurd h
+is_within (w ∷ ws) r (inl (l, e, a)) =
+    let P : Request → Type 0 = λ v. IsWithin v in
+    subst P (sym a.asked) (of_loader l (ask_of a.root (gathered a.options)) (gathered a.options).proof a.named (ask_fits a.root (gathered a.options) (gathered_fits a.options)))
+is_within (w ∷ ws) r (inr (inl (inl (e, (algorithm, name, f, n, is))))) = let P : Request → Type 0 = λ v. IsWithin v in subst P (sym is) tt
+is_within (w ∷ ws) r (inr (inl (inr (e, h)))) = in_store ws h
+  where
+    in_store : (us : List Word) → AsksStore us r → IsWithin r
+    in_store [] s = absurd s
+    in_store (u ∷ us) (inl (f, (name, files, g, d, n, is))) = let P : Request → Type 0 = λ v. IsWithin v in subst P (sym is) tt
+    in_store (u ∷ us) (inr (inl (f, (name, g, d, is)))) = let P : Request → Type 0 = λ v. IsWithin v in subst P (sym is) tt
+    in_store (u ∷ us) (inr (inr (f, g, is))) = let P : Request → Type 0 = λ v. IsWithin v in subst P (sym is) tt
+is_within (w ∷ ws) r (inr (inr (n, inl (e, is)))) = let P : Request → Type 0 = λ v. IsWithin v in subst P (sym is) tt
+is_within (w ∷ ws) r (inr (inr (n, inr (e, is)))) = let P : Request → Type 0 = λ v. IsWithin v in subst P (sym is) tt

@@ -1,0 +1,25 @@
+-- A shelf that nothing was done to, and one that was only read.
+use Rattle.std.proofs.Common.{◌≡◌, ◌≤◌, ◌∙◌, sym, refl, subst, Bool, Some, Option, IsSome, arith}
+use Rattle.zi_shelf.specs.Shelving.{Shelving, Stays}
+use Rattle.zi_shelf.specs.declared.call.CallKind.{CallKind}
+use Rattle.zi_store.specs.Keeping.{Keeps}
+use Rattle.zi_world.specs.Shelves.{Untouched, Lasts}
+use Rattle.zi_world.specs.World.{World, NothingDone}
+
+stays_same : (shelf : Shelving) → Stays shelf shelf
+stays_same shelf = record { honest = λ h. h; sure = λ s. s; in_memory = λ m. m; root = refl; plan = refl }
+
+pub untouched : (shelf : Shelving) → Untouched shelf shelf
+untouched shelf = record { told = refl; faults = refl; stays = stays_same shelf }
+
+pub nothing_done : (world : World) → NothingDone world world
+nothing_done world = record { feeds = refl; shelf = untouched world.shelf; out = refl }
+
+pub some_is : {X : Type 0} (o : Option X) (x : X) → o ≡ Some x → IsSome o
+some_is o x e = subst (λ p. IsSome p) (sym e) refl
+
+pub untouched_lasts : (before after : Shelving) → Untouched before after → Lasts before after
+untouched_lasts before after u = record { tells = λ s h e. some_is after.told s (u.told ∙ e); later = omega (arith, u.faults); stays = u.stays }
+
+pub keeps_lasts : (kinds : CallKind → Bool) (before after : Shelving) → Keeps kinds before after → Lasts before after
+keeps_lasts kinds before after k = record { tells = λ s h e. let m = k.holds s h e in some_is after.told m.0 m.1; later = k.later; stays = k.stays }

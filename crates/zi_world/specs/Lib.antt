@@ -1,0 +1,4 @@
+pub mod Shelves
+pub mod Asking
+pub mod World
+pub mod StoreRead
