@@ -1,4 +1,4 @@
-//! Rows of choices: walks, constraints, searches and selections documents of small universes, each with the answer that was worked
+//! Rows of choices: walks, constraints, searches, answers and selections documents of small universes, each with the answer that was worked
 //! out by hand from the rules. It has tests alone; `rows` has the form in which they are written, and each topic a module.
 #![tactic(auto)]
 
@@ -10,3 +10,5 @@ mod deciding;
 mod rows;
 #[cfg(test)]
 mod selections;
+#[cfg(test)]
+mod solving;

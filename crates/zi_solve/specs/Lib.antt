@@ -1,0 +1,4 @@
+pub mod Answers
+pub mod Laws
+pub mod Replays
+pub mod Making
