@@ -64,12 +64,12 @@ def imports(folder, count):
     return os.path.join(folder, "f0.xml")
 
 
-# The shapes, with the sizes that are tried, the status that is wanted (95: all is loaded, and the choice isn't built yet) and
+# The shapes, with the sizes that are tried, the status that is wanted and
 # whether 0install does the same work: it follows the imports of an interface's own feed, and not those of imported ones.
 SHAPES = (
     ("candidates of one interface, over nine feeds", candidates, (8192, 16384, 32768, 65536), 0, True),
-    ("interfaces in a chain", chain, (512, 1024, 2048, 4096), 95, True),
-    ("interfaces around the root", star, (512, 1024, 2048, 4096), 95, True),
+    ("interfaces in a chain", chain, (512, 1024, 2048, 4096), 0, True),
+    ("interfaces around the root", star, (512, 1024, 2048, 4096), 0, True),
     ("feeds in a chain", imports, (1024, 2048, 4096, 8192), 0, False),
 )
 

@@ -41,11 +41,11 @@ def needing(count):
     return f'<group local-path="here">\n{needs}{"".join(tag(n) for n in range(count))}</group>\n'
 
 
-# the shapes, with the sizes that are tried and the status that is wanted (95: the feed is read, and not built yet)
+# the shapes, with the sizes that are tried and the status that is wanted (73: what is needed isn't there, so nothing fits)
 SHAPES = (
     ("flat", flat, (1000, 4000, 16000, 40000), 0),
     ("in groups of ten", grouped, (1000, 4000, 16000, 40000), 0),
-    ("in one group with 100 dependencies", needing, (1000, 4000, 16000, 40000), 95),
+    ("in one group with 100 dependencies", needing, (1000, 4000, 16000, 40000), 73),
 )
 
 

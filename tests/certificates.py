@@ -108,6 +108,11 @@ def changed(text, chance):
     return proofs.written(parts[: len(lemmas)], parts[len(lemmas) :])
 
 
+def checks_choices():
+    """Whether the program knows the words by which the certificate of a choice is checked."""
+    return b"\nzi check " in run("--help")[1]
+
+
 def judged_here(words, root, choice, text, folder):
     """Whether the program accepts a text: `check` with the document that it selects itself, or `refute`; None where it doesn't know `check` yet."""
     proof = os.path.join(folder, "proof")
@@ -133,6 +138,8 @@ def wrong_of(asked, options, choice, folder):
         return f"status {status}"
     if not judge(universe, asked, choice, text):
         return f"not accepted: {text}"
+    if choice is not None and not checks_choices():
+        return None
     for other in filter(None, [text, *(changed(text, chance) for _ in range(3))]):
         here = judged_here(words, asked.root, choice, other, folder)
         if here not in (None, judge(universe, asked, choice, other)):

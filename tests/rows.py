@@ -5,6 +5,7 @@ The program is crates/zi/out/zi, and the reader of documents crates/doc_speed/ou
 status is then 1.
 """
 import os
+import re
 import shutil
 import subprocess
 import sys
@@ -137,33 +138,218 @@ def bad_feeds(folder):
     expect(run(SELECT + [root], folder, feeds=folder), 67, b"", f"zi: bad feed {root}: feed 10 at 0\n".encode())
 
 
-UNBUILT = (95, b"", b"zi: not built yet\n")
+def finds_none(folder, words, feeds=None):
+    """Nothing fits together: what is written proves that."""
+    status, out, err = run(["select"] + words, folder, feeds=feeds)
+    if status != 73 or err != b"zi: no solution\n" or not out.startswith(b"zi-proof 1\n"):
+        raise Wrong(f"{words}: {status}, {out!r}, {err!r}, not a refutation")
+    proof = write(folder, "found", out)
+    expect(run(["refute"] + words + [proof], folder, feeds=feeds), 0, b"yes\n", b"")
 
 
-def feeds_that_are_not_heeded_yet(folder):
-    local = 'id="b" version="1" local-path="b"'
+CHOSEN = re.compile(r'<selection interface="([^"]*)" id="([^"]*)"')
+
+
+def chosen(folder, words, feeds=None):
+    """The ids of what is selected, by the last part of the interface."""
+    status, out, err = run(["select"] + words, folder, feeds=feeds)
+    if status != 0 or err:
+        raise Wrong(f"{words}: {status}, {out!r}, {err!r}")
+    return {interface.rsplit("/", 1)[1].removesuffix(".xml"): id_ for interface, id_ in CHOSEN.findall(out.decode())}
+
+
+def selects(folder, words, **wanted):
+    got = chosen(folder, words)
+    if got != wanted:
+        raise Wrong(f"{words}: {got}, not {wanted}")
+
+
+def needing(id_, version, *parts, attributes=""):
+    return f'<implementation id="{id_}" version="{version}" local-path="{id_}"{attributes}>{"".join(parts)}</implementation>'
+
+
+def requires(interface, attributes="", versions=None):
+    inside = f'<version {versions}/>' if versions else ""
+    return f'<requires interface="{interface}.xml" {attributes}>{inside}</requires>'
+
+
+def restricts(interface, versions):
+    return f'<restricts interface="{interface}.xml" version="{versions}"/>'
+
+
+def feeds_of(folder, **feeds):
+    """Writes feeds, and gives the path of the first."""
+    paths = [write(folder, f"{name}.xml", feed(*parts)) for name, parts in feeds.items()]
+    return paths[0]
+
+
+def nothing_that_fits(folder):
     rows = [
         f'<interface xmlns="{NS}"/>',
         feed('<implementation id="b" version="1"/>'),
-        feed(f'<implementation {local} stability="buggy"/>'),
-        feed(f'<implementation {local}><requires interface="/b.xml"/></implementation>', impl("a", "2")),
-        feed(f'<implementation {local}><requires interface="/b.xml" importance="recommended"/></implementation>'),
-        feed(f'<implementation {local}><restricts interface="/b.xml"/></implementation>'),
-        feed('<group><requires interface="/b.xml"/>' + impl("a", "1") + "</group>"),
+        feed(f'<implementation id="b" version="1" local-path="b" stability="buggy"/>'),
+        feed(needing("b", "1", requires("lib"))),
+        feed("<group>" + requires("lib") + impl("a", "1") + "</group>"),
+        feed(needing("b", "1", requires("f", "version='2..'"))),
     ]
     for text in rows:
-        root = write(folder, "f.xml", text)
-        expect(run(SELECT + [root], folder), *UNBUILT)
-    # what isn't active, or isn't a candidate, doesn't count
+        finds_none(folder, ["--no-command", write(folder, "f.xml", text)])
+    # a command that no implementation has
+    finds_none(folder, [write(folder, "f.xml", feed(impl("a", "1")))])
+    finds_none(folder, ["--command", "test", write(folder, "f.xml", feed('<group main="x">' + impl("a", "1") + "</group>"))])
+    # of an empty feed exactly this is the proof
+    root = write(folder, "f.xml", f'<interface xmlns="{NS}"/>')
+    expect(run(["select", root], folder), 73, NONE_AT_ALL, b"zi: no solution\n")
+    expect(run(["select", "--proof", root], folder), 73, NONE_AT_ALL, b"zi: no solution\n")
+
+
+def what_need_not_be_there(folder):
+    """What isn't active or isn't a candidate isn't looked at, and a recommended interface may be missing."""
     rows = [
-        feed('<implementation id="a" version="1" local-path="a"><requires interface="b.xml" os="Windows"/></implementation>'),
-        feed('<implementation id="a" version="1" local-path="a"><requires interface="b.xml" use="testing"/></implementation>'),
-        feed(impl("a", "1"), '<implementation id="b" version="2"><requires interface="b.xml"/></implementation>'),
-        feed('<implementation id="a" version="1" local-path="a"><command name="run"><requires interface="b.xml"/></command></implementation>'),
+        (needing("a", "1", requires("b", "os='Windows'")), "a"),
+        (needing("a", "1", requires("b", "use='testing'")), "a"),
+        (impl("a", "1") + '<implementation id="b" version="2"><requires interface="b.xml"/></implementation>', "a"),
+        (needing("a", "1", '<command name="run"><requires interface="b.xml"/></command>'), "a"),
+        (needing("b", "2", requires("b")) + impl("a", "1"), "a"),
+        (needing("b", "1", requires("b", "importance='recommended'")), "b"),
+        (needing("b", "1", restricts("b", "5..")), "b"),
     ]
-    for text in rows:
-        root = write(folder, "f.xml", text)
-        expect(run(SELECT + [root], folder), 0, selections(root, "a", "1"), b"")
+    for text, id_ in rows:
+        root = write(folder, "f.xml", feed(text))
+        expect(run(SELECT + [root], folder), 0, selections(root, id_, "1"), b"")
+
+
+def dependencies_with_their_document(folder):
+    group = '<group stability="stable" version="2">' + requires("lib") + '<group version-modifier="-rc1"><implementation id="x" local-path="x" stability="developer"/></group></group>'
+    root = feeds_of(folder, app=[group], lib=[impl("l", "1")])
+    lib = os.path.join(folder, "lib.xml")
+    wanted = (
+        '<?xml version="1.0" encoding="utf-8"?>\n'
+        f'<selections xmlns="{NS}" interface="{root}">\n'
+        f'  <selection interface="{root}" id="x" version="2-rc1" local-path="{folder}/x" stability="developer">\n'
+        f'    <requires interface="{lib}"/>\n'
+        "  </selection>\n"
+        f'  <selection interface="{lib}" id="l" version="1" local-path="{folder}/l" stability="testing"/>\n'
+        "</selections>\n"
+    )
+    expect(run(SELECT + [root], folder), 0, wanted.encode(), b"")
+
+
+def the_command_that_is_wanted(folder):
+    kept = os.path.join(folder, "feeds")
+    os.mkdir(kept)
+    write(kept, "http%3A%2F%2Fexample.com%2Fhello.xml", SIGNED)
+    root = "http://example.com/hello.xml"
+    name = "sha1new=da39a3ee5e6b4b0d3255bfef95601890afd80709"
+    wanted = (
+        '<?xml version="1.0" encoding="utf-8"?>\n'
+        f'<selections xmlns="{NS}" interface="{root}" command="run">\n'
+        f'  <selection interface="{root}" id="{name}" version="1" stability="testing">\n'
+        f'    <manifest-digest {name.replace("=", chr(61) + chr(34))}"/>\n'
+        '    <command name="run" path="bin/hello"/>\n'
+        "  </selection>\n"
+        "</selections>\n"
+    )
+    expect(run(["select", root], folder), 0, wanted.encode(), b"")
+    expect(run(["select", "--command", "run", root], folder), 0, wanted.encode(), b"")
+    # a runner is chosen too, with the command that it names
+    root = feeds_of(
+        folder,
+        app=[needing("a", "1", '<command name="run" path="x"><runner interface="sh.xml" command="go"/></command>')],
+        sh=[needing("s", "2"), needing("t", "1", '<command name="go" path="sh"/>')],
+    )
+    selects(folder, [root], app="a", sh="t")
+    selects(folder, ["--no-command", root], app="a")
+
+
+def the_best_that_fits(folder):
+    root = feeds_of(folder, root=[needing("r", "2", requires("lib", "version='..!2'"))], lib=[impl("n", "2"), impl("o", "1.9")])
+    selects(folder, SELECT[1:] + [root], root="r", lib="o")
+    # the first place where two choices differ decides, not the sum of all
+    root = feeds_of(
+        folder,
+        root=[needing("r", "1", requires("a"), requires("b"))],
+        a=[needing("a3", "3", restricts("b", "1")), impl("a2", "2")],
+        b=[impl(f"b{n}", str(n)) for n in range(9, 0, -1)],
+    )
+    selects(folder, SELECT[1:] + [root], root="r", a="a3", b="b1")
+    # an implementation whose dependency no version meets is passed over
+    root = feeds_of(folder, r=[needing("a", "2", requires("l", versions="not-before='3'")), impl("b", "1")], l=[impl("c", "2")])
+    selects(folder, SELECT[1:] + [root], r="b")
+    # in a ring each is asked for once
+    root = feeds_of(
+        folder,
+        a=[needing("a", "1", requires("b"))],
+        b=[needing("b", "1", requires("c"))],
+        c=[needing("c2", "2", requires("a"), restricts("c", "..!2")), needing("c1", "1", requires("a"))],
+    )
+    selects(folder, SELECT[1:] + [root], a="a", b="b", c="c1")
+    # programs of 64 and of 32 bits aren't mixed
+    root = feeds_of(
+        folder,
+        root=[needing("n", "2", requires("lib"), attributes=' arch="Linux-x86_64"'), needing("o", "1", requires("lib"), attributes=' arch="Linux-i686"')],
+        lib=[needing("l", "1", attributes=' arch="Linux-i586"')],
+    )
+    selects(folder, SELECT[1:] + [root], root="o", lib="l")
+
+
+def what_is_recommended(folder):
+    r = [impl("r2", "2"), impl("r1", "1")]
+    wanted = "importance='recommended'"
+    root = feeds_of(folder, root=[needing("a", "1", requires("r", wanted), requires("e"))], e=[needing("e", "1", requires("r", "version='1'"))], r=r)
+    selects(folder, SELECT[1:] + [root], root="a", e="e", r="r1")
+    root = feeds_of(folder, root=[needing("a", "1", requires("r", wanted))], r=r)
+    selects(folder, SELECT[1:] + [root], root="a", r="r2")
+    root = feeds_of(folder, root=[needing("a", "1", requires("r", wanted + " version='5..'"))], r=r)
+    selects(folder, SELECT[1:] + [root], root="a")
+
+
+def certificates(folder):
+    """With `--proof` the blocks are written by which what goes before is passed over, and nothing else."""
+    root = feeds_of(folder, r=[needing("a", "2", requires("l", "version='3..'")), impl("b", "1")], l=[impl("c", "2")])
+    expect(run(SELECT + [root], folder), 0, selections(root, "b", "1"), b"")
+    expect(run(SELECT + ["--proof", root], folder), 0, b"zi-proof 1\nb 1 1 3 0\ne\n", b"")
+    # it shows a choice to be the best, and that none is valid it doesn't
+    proof = write(folder, "proof", b"zi-proof 1\nb 1 1 3 0\ne\n")
+    expect(run(["refute", "--no-command", root, proof], folder), *REJECTED)
+    root = feeds_of(folder, one=[impl("a", "1")])
+    expect(run(SELECT + ["--proof", root], folder), 0, b"zi-proof 1\ne\n", b"")
+
+
+def three_that_differ():
+    """Three interfaces that must be of different versions."""
+
+    def differs(version, *others):
+        return "".join(restricts(other, f"!{version}") for other in others)
+
+    def three(id_, *others):
+        return [needing(f"{id_}3", "3", differs("3", *others)), needing(f"{id_}2", "2", differs("2", *others)), impl(f"{id_}1", "1")]
+
+    return {"p": three("p", "q", "r"), "q": three("q", "r"), "r": three("r")}
+
+
+def searches(folder):
+    """A choice that only a search finds, and a search that may learn too little."""
+    needs = requires("a") + requires("p") + requires("q") + requires("r")
+    root = feeds_of(
+        folder,
+        root=[needing("root", "1", needs)],
+        a=[needing("a2", "2", *(restricts(name, "2..") for name in "pqr")), impl("a1", "1")],
+        **three_that_differ(),
+    )
+    selects(folder, SELECT[1:] + [root], root="root", a="a1", p="p3", q="q2", r="r1")
+    expect(run(SELECT + ["--search", "0", root], folder), 74, b"", b"zi: search spent after 0 lemmas\n")
+    # where nothing has to be learned no lemma is needed
+    selects(folder, SELECT[1:] + ["--search", "0", os.path.join(folder, "r.xml")], r="r3")
+    # without the last versions nothing fits, and the lemmas of that search refute
+    for name in "pqr":
+        path = os.path.join(folder, f"{name}.xml")
+        with open(path, encoding="utf-8") as file:
+            text = file.read()
+        write(folder, f"{name}.xml", text.replace(impl(f"{name}1", "1"), ""))
+    finds_none(folder, ["--no-command", root])
+    proof = write(folder, "proof", NONE_AT_ALL)
+    expect(run(["refute", "--no-command", root, proof], folder), *REJECTED)
 
 
 def imports(folder):
@@ -188,7 +374,7 @@ def imports(folder):
 
 def dependencies_are_loaded_first(folder):
     root = write(folder, "root.xml", feed('<implementation id="a" version="1" local-path="a"><requires interface="lib.xml"/></implementation>'))
-    expect(run(SELECT + [root], folder), *UNBUILT)
+    finds_none(folder, ["--no-command", root])
     lib = write(folder, "lib.xml", "<interface/>")
     expect(run(SELECT + [root], folder), 67, b"", f"zi: bad feed {lib}: feed 1 at 0\n".encode())
 
@@ -266,7 +452,7 @@ def limits(folder):
         asked = "".join(f"<requires interface='{n}.xml'/>" for n in range(count))
         return write(folder, "asks.xml", f"{START}<implementation id='a' version='1' local-path='a'>{asked}</implementation>{END}")
 
-    expect(run(SELECT + [asking(4095)], folder), *UNBUILT)
+    finds_none(folder, ["--no-command", asking(4095)])
     expect(run(SELECT + [asking(4096)], folder), 70, b"", b"zi: more than 4096 interfaces\n")
 
     def importing(count):
@@ -373,7 +559,7 @@ def options(folder):
     picks(folder, versions, ["--version-for", os.path.join(folder, "picks.xml"), "..!3"], "b")
     picks(folder, versions, ["--version-for", "/other.xml", "..!3"], "d")
     root = write(folder, "picks.xml", versions)
-    expect(run(SELECT + ["--version", "5..", root], folder), *UNBUILT)
+    finds_none(folder, ["--no-command", "--version", "5..", root])
 
     def on(id_, version, arch):
         return f'<implementation id="{id_}" version="{version}" local-path="{id_}" arch="{arch}"/>'
@@ -416,7 +602,7 @@ def options(folder):
     used = feed('<implementation id="a" version="1" local-path="a"><requires interface="b.xml" use="testing"/></implementation>')
     root = write(folder, "use.xml", used)
     expect(run(SELECT + ["--use", "other", root], folder), 0, selections(root, "a", "1"), b"")
-    expect(run(SELECT + ["--use", "other", "--use", "testing", root], folder), *UNBUILT)
+    finds_none(folder, ["--no-command", "--use", "other", "--use", "testing", root])
 
     root = write(folder, "--dash.xml", feed(impl("a", "1")))
     expect(run(SELECT + ["--", root], folder), 0, selections(root, "a", "1"), b"")
@@ -485,7 +671,7 @@ TOO_LARGE = (72, b"", b"zi: more than 8000000 literals\n")
 
 
 def too_many_literals(folder):
-    """As many literals as there may be, and one more, before it is looked at whether the program can choose, and after all is loaded."""
+    """As many literals as there may be, and one more, after all is loaded."""
 
     def versions(name, count, inside="", more=""):
         ids = "".join(f"<implementation id='i{n}'/>" for n in range(count))
@@ -496,7 +682,7 @@ def too_many_literals(folder):
     lib = versions("lib.xml", 3000)
     expect(run(SELECT + [root], folder), *TOO_LARGE)
     versions("lib.xml", 2000)
-    expect(run(SELECT + [root], folder), *UNBUILT)
+    selects(folder, SELECT[1:] + [root], root="i999", lib="i999")
     write(folder, "lib.xml", "<interface/>")
     expect(run(SELECT + [root], folder), 67, b"", f"zi: bad feed {lib}: feed 1 at 0\n".encode())
     # R that ask for one of L have 3 R + L + R L literals, and each that asks for what nobody offers has one more
@@ -508,7 +694,7 @@ def too_many_literals(folder):
         return versions("root.xml", 2826 - count, '<requires interface="lib.xml"/>', more)
 
     spare = 8000000 - (3 * 2826 + 2826 + 2826 * 2826)
-    expect(run(SELECT + [asking(spare)], folder), *UNBUILT)
+    selects(folder, SELECT[1:] + [asking(spare)], root="i999", lib="i999")
     expect(run(SELECT + [asking(spare + 1)], folder), *TOO_LARGE)
     # commands have their constraints too, wanted or not
     command = '<command name="run"><requires interface="lib.xml"/></command>'
@@ -528,7 +714,7 @@ def web_addresses(folder):
     write(kept, "http%3A%2F%2Fexample.com%2Fhello.xml", feed(f'<feed src="{local}"/>', '<feed src="https://example.com/a-b_c.1?x=~%20"/>'))
     # in a feed of the web a path is joined to its address
     joined = "http://example.com" + local
-    expect(run(SELECT + [root], folder), *UNBUILT)
+    finds_none(folder, ["--no-command", root])
     write(kept, "http%3A%2F%2Fexample.com" + local.replace("/", "%2F"), "<bad/>")
     expect(run(SELECT + [root], folder), 67, b"", f"zi: bad feed {joined}: feed 1 at 0\n".encode())
     os.rename(kept, os.path.join(folder, "elsewhere"))
@@ -581,7 +767,14 @@ ROWS = [
     one_version_and_ties,
     the_examples,
     bad_feeds,
-    feeds_that_are_not_heeded_yet,
+    nothing_that_fits,
+    what_need_not_be_there,
+    dependencies_with_their_document,
+    the_command_that_is_wanted,
+    the_best_that_fits,
+    what_is_recommended,
+    certificates,
+    searches,
     imports,
     dependencies_are_loaded_first,
     whole_feeds,

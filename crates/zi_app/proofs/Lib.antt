@@ -1,4 +1,3 @@
-pub mod SelectLemmas
 pub mod StoreLemmas
 pub mod GatheringLemmas
 pub mod AddingLemmas

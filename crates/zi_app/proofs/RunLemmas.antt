@@ -8,12 +8,13 @@ use Rattle.zi_words.specs.declared.request.Ask.{Ask}
 use Rattle.zi_outside.specs.Views.{Sinking}
 use Rattle.zi_words.specs.declared.request.Request.{Request}
 use Rattle.zi_words.specs.declared.request.Request.TheVariants as request
-use Rattle.zi_words.specs.Words.{request_of, Right, AreRight, FaultMeans}
+use Rattle.zi_words.specs.Words.{request_of, Loads, Right, AreRight, FaultMeans}
 use Rattle.zi_words.specs.declared.request.WordsFault.{WordsFault}
 use Rattle.zi_words.specs.declared.request.WordsFault.TheVariants as fault
 use Rattle.zi_words.specs.Forms.{Word}
 use Rattle.zi_words.specs.Options.{ask_of, gathered}
 use Rattle.zi_words.specs.Store.{AsksStore}
+use Rattle.zi_words.proofs.SearchLaws.{IsWithin, is_within}
 use Rattle.zi_app.specs.declared.checked.Checked.{Checked}
 use Rattle.zi_app.specs.declared.checked.Checked.TheVariants as checked
 use Rattle.zi_digest.specs.declared.DigestName.{DigestName}
@@ -24,7 +25,6 @@ use Rattle.zi_outcome.specs.Writing.{PrintsThen, Prints}
 use Rattle.zi_app.specs.Showing.{ShowsText}
 use Rattle.zi_app.specs.ManifestCommand.{Shows}
 use Rattle.zi_app.specs.StoreVerify.{TellsCheck}
-use Rattle.zi_app.specs.Select.{wants_more, SelectsFor}
 use Rattle.zi_app.specs.Answers.{Does, Works, Runs}
 use Rattle.zi_app.specs.Words.{IsInForm, words_outcome}
 use Rattle.zi_world.specs.Asking.{FeedsStay}
@@ -34,10 +34,11 @@ use Rattle.zi_outcome.specs.Line.{Tells}
 use Rattle.zi_store.specs.Keeping.{is_names, is_reading}
 use Rattle.zi_world.proofs.ShelvesLemmas.{untouched, nothing_done, untouched_lasts, keeps_lasts}
 
--- right words ask for files with names
-loads_form : (l : Loader) (ask : Ask) (proof : Bool) (named : List Word) → IsInForm (request_of l ask proof named)
-loads_form loader.Select ask proof named = tt
-loads_form loader.Refute ask proof named = tt
+-- right words ask for files with names, and for no more lemmas than there may be
+abbrev IsLoading : Request → Type 0
+IsLoading (request.Select ask proof) = Unit {0}
+IsLoading (request.Refute ask proof) = Unit {0}
+IsLoading other = ⊥
 
 store_form : (ws : List (List ℕ)) (r : Request) → AsksStore ws r → IsInForm r
 store_form [] r s = absurd s
@@ -45,10 +46,27 @@ store_form (w ∷ ws) r (inl (e, (name, files, are, digest, right, asked))) = su
 store_form (w ∷ ws) r (inr (inl (e, (name, are, digest, asked)))) = subst IsInForm (sym asked) tt
 store_form (w ∷ ws) r (inr (inr (e, are, asked))) = subst IsInForm (sym asked) tt
 
+-- of a command that loads feeds
+loads_form : (ws : List (List ℕ)) (r : Request) (w : List ℕ) → Loads w ws r → IsLoading r
+loads_form ws r w (l, e, asks) = subst IsLoading (sym asks.asked) (of_loader l (ask_of asks.root (gathered asks.options)) (gathered asks.options).proof asks.named)
+  where
+    of_loader : (l : Loader) (ask : Ask) (proof : Bool) (named : List Word) → IsLoading (request_of l ask proof named)
+    of_loader loader.Select ask proof named = tt
+    of_loader loader.Refute ask proof named = tt
+
+within_form : (r : Request) → IsWithin r → IsLoading r → IsInForm r
+within_form (request.Select ask proof) h l = h
+within_form (request.Refute ask proof) h l = tt
+within_form (request.Manifest algorithm name) h l = tt
+within_form (request.Add name files) h l = absurd l
+within_form (request.Verify name) h l = tt
+within_form request.Names h l = tt
+within_form request.Help h l = tt
+within_form request.Version h l = tt
+
 pub in_form : (words : List (List ℕ)) (r : Request) → Right words r → IsInForm r
 in_form [] r right = absurd right
-in_form (w ∷ ws) r (inl (l, e, asks)) =
-    subst IsInForm (sym asks.asked) (loads_form l (ask_of asks.root (gathered asks.options)) (gathered asks.options).proof asks.named)
+in_form (w ∷ ws) r (inl loads) = within_form r (is_within (w ∷ ws) r (inl loads)) (loads_form ws r w loads)
 in_form (w ∷ ws) r (inr (inl (inl (e, (a, name, are, right, asked))))) = subst IsInForm (sym asked) tt
 in_form (w ∷ ws) r (inr (inl (inr (e, s)))) = store_form ws r s
 in_form (w ∷ ws) r (inr (inr (are, inl (e, asked)))) = subst IsInForm (sym asked) tt
@@ -70,12 +88,8 @@ no_check name checked.Missing old new index (e, w) = (cc e)
 no_check name (checked.BadName path) old new index (e, w) = (cc e)
 no_check name (checked.TooLarge what limit) old new index (e, w) = (cc e)
 
-no_select : (more : Bool) (ask : Ask) (before after : World) (index : ℕ) → SelectsFor more ask before after (Usage index) → ⊥
-no_select true ask before after index (e, n) = (cc e)
-no_select false ask before after index d = elim d.answer [ inl f ↦ f.0 | inr s ↦ s.1.2 ]
-
 never_usage : (asked : Request) (before after : World) (index : ℕ) → Does asked before after (Usage index) → ⊥
-never_usage (request.Select ask proof) before after index d = no_select (wants_more ask proof) ask before after index d
+never_usage (request.Select ask proof) before after index d = elim d.answer [ inl f ↦ f.0 | inr s ↦ s.1.2 ]
 never_usage (request.Refute ask proof) before after index d = elim d.answer [ inl f ↦ f.0 | inr s ↦ s.1.2 ]
 never_usage (request.Manifest algorithm name) before after index d = elim d.answer [
   | inl f ↦ f
@@ -115,16 +129,8 @@ shows text shown world out outcome e p = record { feeds = refl; shelf = untouche
 pub ruleset answering = (nothing_done)
 
 -- Feeds and shelf can be used on.
-select_lasts : (more : Bool) (ask : Ask) (before after : World) (outcome : Outcome) → SelectsFor more ask before after outcome → Lasts before.shelf after.shelf
-select_lasts true ask before after outcome (e, n) = untouched_lasts before.shelf after.shelf n.shelf
-select_lasts false ask before after outcome d = keeps_lasts is_names before.shelf after.shelf d.shelf
-
-select_stays : (more : Bool) (ask : Ask) (before after : World) (outcome : Outcome) → SelectsFor more ask before after outcome → FeedsStay before.feeds after.feeds
-select_stays true ask before after outcome (e, n) = unasked_stay before.feeds after.feeds n.feeds
-select_stays false ask before after outcome d = d.feeds
-
 does_last : (asked : Request) (before after : World) (outcome : Outcome) → Does asked before after outcome → Lasts before.shelf after.shelf
-does_last (request.Select ask proof) before after outcome d = select_lasts (wants_more ask proof) ask before after outcome d
+does_last (request.Select ask proof) before after outcome d = keeps_lasts is_names before.shelf after.shelf d.shelf
 does_last (request.Refute ask proof) before after outcome d = keeps_lasts is_names before.shelf after.shelf d.shelf
 does_last (request.Manifest algorithm name) before after outcome d = keeps_lasts is_reading before.shelf after.shelf d.shelf
 does_last (request.Add name files) before after outcome d = d.shelf
@@ -134,7 +140,7 @@ does_last request.Help before after outcome d = untouched_lasts before.shelf aft
 does_last request.Version before after outcome d = untouched_lasts before.shelf after.shelf d.shelf
 
 does_stay : (asked : Request) (before after : World) (outcome : Outcome) → Does asked before after outcome → FeedsStay before.feeds after.feeds
-does_stay (request.Select ask proof) before after outcome d = select_stays (wants_more ask proof) ask before after outcome d
+does_stay (request.Select ask proof) before after outcome d = d.feeds
 does_stay (request.Refute ask proof) before after outcome d = d.feeds
 does_stay (request.Manifest algorithm name) before after outcome d = unasked_stay before.feeds after.feeds d.feeds
 does_stay (request.Add name files) before after outcome d = d.feeds

@@ -13,7 +13,7 @@ use Rattle.zi_world.specs.Shelves.{Lasts}
 use Rattle.zi_world.specs.World.{World, NothingDone}
 use Rattle.zi_outcome.specs.Line.{Tells}
 use Rattle.zi_choosing.specs.Refute.{ChecksNone}
-use Rattle.zi_app.specs.Select.{wants_more, SelectsFor}
+use Rattle.zi_choosing.specs.Select.{Selects}
 use Rattle.zi_app.specs.ManifestCommand.{Manifests}
 use Rattle.zi_app.specs.StoreList.{Lists}
 use Rattle.zi_app.specs.StoreVerify.{VerifiesTree}
@@ -22,7 +22,7 @@ use Rattle.zi_app.specs.Showing.{ShowsText}
 
 -- What a request asks for is done, to this outcome.
 abbrev pub Does : Request → World → World → Outcome → Type 0
-Does (request.Select ask proof) before after outcome = SelectsFor (wants_more ask proof) ask before after outcome
+Does (request.Select ask proof) before after outcome = Selects ask proof before after outcome
 Does (request.Refute ask proof) before after outcome = ChecksNone ask proof before after outcome
 Does (request.Manifest algorithm name) before after outcome = Manifests algorithm name before after outcome
 Does (request.Add name files) before after outcome = Adds name files before after outcome

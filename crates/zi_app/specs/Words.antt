@@ -1,5 +1,5 @@
 -- What the words are that are handed on, and those that aren't read.
-use Rattle.std.specs.Prelude.{◌≡◌, ℕ, true, List}
+use Rattle.std.specs.Prelude.{◌≡◌, ℕ, ◌≤◌, true, List}
 use Rattle.std.specs.List.{list_all}
 use Rattle.zi_text.specs.Front.{StopsAt}
 use Rattle.zi_outside.specs.Views.{Sinking}
@@ -8,13 +8,15 @@ use Rattle.zi_words.specs.declared.request.Request.TheVariants as request
 use Rattle.zi_words.specs.declared.request.WordsFault.{WordsFault}
 use Rattle.zi_words.specs.declared.request.WordsFault.TheVariants as fault
 use Rattle.zi_words.specs.Words.{AreRight}
+use Rattle.zi_words.specs.Forms.{most_lemmas}
 use Rattle.zi_words.specs.Store.{is_file}
 use Rattle.zi_outcome.specs.declared.outcome.Outcome.{Outcome}
 use Rattle.zi_outcome.specs.declared.outcome.Outcome.TheVariants.{Usage, Memory}
 use Rattle.zi_outcome.specs.Line.{Tells}
 
--- each file goes into a tree under a name
+-- the search may be let learn so many lemmas, and each file goes into a tree under a name
 abbrev pub IsInForm : Request → Type 0
+IsInForm (request.Select ask proof) = ask.search ≤ most_lemmas
 IsInForm (request.Add name files) = list_all is_file files ≡ true
 IsInForm other = Unit {0}
 

@@ -1,14 +1,16 @@
 //! What the program says of itself.
 
 /// The answer to `--help`: each command and option that is built, with what stands where it isn't said.
-pub const HELP: &str = "zi reads Zero Install feeds and selects the implementations of a program.
+pub const HELP: &str =
+    "zi reads Zero Install feeds and selects the implementations of a program and of what it
+needs.
 
 For example: zi select --no-command /home/me/hello.xml
 
 zi select [options] ROOT
     Writes the selections document of the program whose interface has the address ROOT:
-    a web address, or a path that begins with /. For now it chooses only with --no-command,
-    without --proof, and where no implementation that fits needs another interface.
+    a web address, or a path that begins with /. It selects the best implementations that
+    fit together. Where none do it writes a proof of that, and the status is 73.
 zi refute [options] ROOT PROOF
     Writes yes where the file PROOF proves that no implementations fit together for ROOT.
 zi manifest ALGORITHM NAME
@@ -49,7 +51,8 @@ Options of select and refute, before ROOT:
                                 preferred (default: the feed's). Once for each implementation.
     --search N                  How many lemmas a search may learn, at most 4000000000
                                 (default: 100000).
-    --proof                     Of select alone: not built yet.
+    --proof                     Of select alone: writes a certificate, by which every other
+                                choice is worse, in place of the document.
     --                          Ends the options.
 
 Feeds of web addresses are files in the folder that ZI_FEEDS names (default: feeds), each
@@ -67,6 +70,8 @@ Status, and the line on standard error behind \"zi: \":
     70  more than N interfaces
     71  more than N candidates
     72  more than N literals         of constraints on what may be chosen
+    73  no solution                   no implementations fit together
+    74  search spent after N lemmas   a greater --search may find an answer
     75  no file NAME
     77  bad proof at line N           lines count from 1
     78  rejected                      the proof doesn't prove it
@@ -80,7 +85,6 @@ Status, and the line on standard error behind \"zi: \":
     91  N temporary names taken
     93  cannot write
     94  out of memory
-    95  not built yet
     96  cannot write element N
 
 Kinds of faults of documents:

@@ -12,7 +12,6 @@ pub mod laws;
 mod manifests;
 mod names;
 mod running;
-mod select;
 
 pub use files::feed_file;
 pub use help::{HELP, VERSION};

@@ -9,9 +9,8 @@ use crate::checked::verify_tree;
 use crate::help::{HELP, VERSION};
 use crate::manifests::manifest;
 use crate::names::list;
-use crate::select::select;
 use std::alloc::Global;
-use zi_choosing::refute;
+use zi_choosing::{refute, select};
 use zi_outcome::{Outcome, put_text, tell};
 use zi_outside::{Feeds, Sink, SinkFault, Vars};
 use zi_shelf::Shelf;
@@ -20,9 +19,10 @@ use zi_words::{Request, WordsFault};
 
 /// Does all that the program does: reads the words, does what they ask for, and writes the line of how that ended.
 ///
-/// `select` finds out which digests are stored, loads the universe that its words ask for, and writes the document of the root's
-/// first candidate; `refute` loads it too, and says whether a proof shows that nothing fits; `manifest`, `store verify` and `store list` read the store and write what they say of it, and `store add` puts
-/// files there as a tree; `--help` and `--version` write their texts. Proofs aren't built: `Unbuilt`.
+/// `select` finds out which digests are stored, loads the universe that its words ask for, and writes the document of the best
+/// choice, a certificate of it, or a proof that there is none; `refute` loads it too, and says whether a proof shows that there
+/// is none; `manifest`, `store verify` and `store list` read the store and write what they say of it, and `store add` puts
+/// files there as a tree; `--help` and `--version` write their texts.
 pub fn run<F: Feeds, K: Shelf, O: Sink, E: Sink>(
     alloc: Global,
     words: &[Text],

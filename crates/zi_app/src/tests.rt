@@ -145,12 +145,6 @@ fn refused(
 fn refusals_have_their_lines(rt: HostRuntime) -> Result<(), Fail> {
     let plain = "<implementation id='a' version='1' local-path='a'/>";
     let rows = [
-        ("", 95, "zi: not built yet\n"),
-        (
-            "<implementation id='a' version='1' local-path='a'><requires interface='b.xml'/></implementation>",
-            95,
-            "zi: not built yet\n",
-        ),
         (
             "<feed/>",
             67,
@@ -167,6 +161,20 @@ fn refusals_have_their_lines(rt: HostRuntime) -> Result<(), Fail> {
     }
     let read = "zi: cannot read /feeds/hello.xml\n";
     refused(&rt, rt.alloc(), plain, [1].as_slice(), 65, read)
+}
+
+#[test]
+fn a_proof_is_written_where_nothing_fits(rt: HostRuntime) -> Result<(), Fail> {
+    let mut feeds = fed(rt.alloc(), "", [].as_slice())?;
+    let words = ["select", ROOT];
+    let (code, out, err) = called(rt.alloc(), words.as_slice(), &mut feeds, [].as_slice())?;
+    assert_eq!(rt; code, 73);
+    assert_eq!(rt;
+        out.bytes().as_slice(),
+        b"zi-proof 1\nl 0 1 0\ne\n".as_slice()
+    );
+    assert_eq!(rt; err.bytes().as_slice(), b"zi: no solution\n".as_slice());
+    Ok(())
 }
 
 #[test]

@@ -15,7 +15,7 @@ use Rattle.zi_build.specs.Answers.{FaultMeans}
 use Rattle.zi_proof.specs.declared.proof.Certificate.{Certificate}
 use Rattle.zi_certificate.specs.Certificates.{Refutes}
 use Rattle.zi_outcome.specs.declared.outcome.Outcome.{Outcome}
-use Rattle.zi_outcome.specs.declared.outcome.Outcome.TheVariants.{Done, Usage, FeedRead, NoRootFeed, BadFeed, FeedTooLong, TooManyFeeds, TooManyInterfaces, TooManyCandidates, TooLarge, NoSolution, Spent, NoFile, BadProof, Rejected, Overlap, Mismatch, MissingTree, DamagedTree, BadName, TreeTooLarge, StoreFault, Crowded, Unwritable, SinkFault, Memory, Unbuilt}
+use Rattle.zi_outcome.specs.declared.outcome.Outcome.TheVariants.{Done, Usage, FeedRead, NoRootFeed, BadFeed, FeedTooLong, TooManyFeeds, TooManyInterfaces, TooManyCandidates, TooLarge, NoSolution, Spent, NoFile, BadProof, Rejected, Overlap, Mismatch, MissingTree, DamagedTree, BadName, TreeTooLarge, StoreFault, Crowded, Unwritable, SinkFault, Memory}
 use Rattle.zi_outcome.specs.Refused.{outcome_of}
 use Rattle.zi_outcome.specs.Writing.{Prints}
 use Rattle.zi_world.specs.Asking.{FeedsStay}
@@ -85,7 +85,6 @@ module _ (ask : Ask) (name : List ℕ) (stored : List DigestName) (before after 
   none_as c (Unwritable place) reads why w = absurd why
   none_as c SinkFault reads why w = absurd why
   none_as c Memory reads why w = inr (inr (inl ((there, inr reads.got.asked), w)))
-  none_as c Unbuilt reads why w = absurd why
 
   bad_as : (bytes : List ℕ) (outcome : Outcome) → Gets name there.feeds after.feeds bytes → IsUnreadable bytes outcome → after.out ≡ before.out
       → RefutesOver ask name stored before after outcome
@@ -115,7 +114,6 @@ module _ (ask : Ask) (name : List ℕ) (stored : List DigestName) (before after 
   bad_as bytes (Unwritable place) got why w = absurd why
   bad_as bytes SinkFault got why w = absurd why
   bad_as bytes Memory got why w = inr (inr (inl ((there, inr got.asked), w)))
-  bad_as bytes Unbuilt got why w = absurd why
 
   no_file_as : (outcome : Outcome) → IsNoFile name there.feeds after.feeds outcome → after.out ≡ before.out → RefutesOver ask name stored before after outcome
   no_file_as Done why w = absurd why
@@ -144,7 +142,6 @@ module _ (ask : Ask) (name : List ℕ) (stored : List DigestName) (before after 
   no_file_as (Unwritable place) why w = absurd why
   no_file_as SinkFault why w = absurd why
   no_file_as Memory why w = inr (inr (inl ((there, inl why), w)))
-  no_file_as Unbuilt why w = absurd why
 
   pub file_as : (outcome : Outcome) → ChecksFile (requirement_of ask) there.universe name (record { feeds = there.feeds; out = before.out }) after outcome
       → RefutesOver ask name stored before after outcome
@@ -207,7 +204,6 @@ no_file_stays name before after (Crowded tried) why = absurd why
 no_file_stays name before after (Unwritable place) why = absurd why
 no_file_stays name before after SinkFault why = absurd why
 no_file_stays name before after Memory why = unasked_stay before after why
-no_file_stays name before after Unbuilt why = absurd why
 
 file_stays : (req : Requirement) (u : List Interface) (name : List ℕ) (before after : Lent) (outcome : Outcome) → ChecksFile req u name before after outcome → FeedsStay before.feeds after.feeds
 file_stays req u name before after outcome (inl (bytes, got, checks)) = asks_stay _ before.feeds after.feeds got.asked.asked

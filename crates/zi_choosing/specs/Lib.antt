@@ -2,3 +2,5 @@ pub mod Wanted
 pub mod Loaded
 pub mod Refute
 pub mod RefuteParts
+pub mod Select
+pub mod SelectParts

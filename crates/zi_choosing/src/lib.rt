@@ -1,10 +1,12 @@
-//! The commands that load a universe. `refute` says whether a proof shows that no choice is valid.
+//! The commands that load a universe: `select` finds the best choice from it, or a proof that there is none, and `refute` says
+//! whether a proof shows that there is none.
 //! Each command is one function over the objects outside, whose clause says what each outcome means and what became of them.
 #![tactic(auto)]
 
 mod formula;
 mod refuting;
+mod selecting;
 mod wanted;
 
 pub use refuting::refute;
-pub use wanted::{Job, into_job};
+pub use selecting::select;

@@ -5,7 +5,7 @@ use Rattle.zi_outside.specs.Views.{Sinking}
 use Rattle.zi_outside.specs.Outside.{Writes, WritesFront}
 use Rattle.zi_outcome.specs.Writing.{StopsShort}
 use Rattle.zi_outcome.specs.declared.outcome.Outcome.{Outcome}
-use Rattle.zi_outcome.specs.declared.outcome.Outcome.TheVariants.{Done, Usage, FeedRead, NoRootFeed, BadFeed, FeedTooLong, TooManyFeeds, TooManyInterfaces, TooManyCandidates, TooLarge, NoSolution, Spent, NoFile, BadProof, Rejected, Overlap, Mismatch, MissingTree, DamagedTree, BadName, TreeTooLarge, StoreFault, Crowded, Unwritable, SinkFault, Memory, Unbuilt}
+use Rattle.zi_outcome.specs.declared.outcome.Outcome.TheVariants.{Done, Usage, FeedRead, NoRootFeed, BadFeed, FeedTooLong, TooManyFeeds, TooManyInterfaces, TooManyCandidates, TooLarge, NoSolution, Spent, NoFile, BadProof, Rejected, Overlap, Mismatch, MissingTree, DamagedTree, BadName, TreeTooLarge, StoreFault, Crowded, Unwritable, SinkFault, Memory}
 use Rattle.zi_universe.specs.declared.fault.BadFeed.{BadFeed as Fault}
 use Rattle.zi_universe.specs.declared.fault.BadFeed.TheVariants as bad
 use Rattle.zi_tree.specs.declared.change.TreeLimit.{TreeLimit}
@@ -51,7 +51,6 @@ text_of (Crowded tried) = decimal tried ++ codes " temporary names taken"
 text_of (Unwritable place) = codes "cannot write element " ++ decimal place
 text_of SinkFault = codes "cannot write"
 text_of Memory = codes "out of memory"
-text_of Unbuilt = codes "not built yet"
 
 abbrev pub line_of : Outcome → List ℕ
 line_of Done = []
@@ -84,7 +83,6 @@ code_of (Crowded tried) = 91
 code_of (Unwritable place) = 96
 code_of SinkFault = 93
 code_of Memory = 94
-code_of Unbuilt = 95
 
 -- The line of how the work ended is told: whole, and that is the outcome; or err fails at a front of it, and that is the outcome
 -- all the same; or memory is refused at a front of it, and the outcome is Memory.

@@ -252,6 +252,5 @@ pub fn tell<E: Sink>(outcome: &Outcome, err: &mut E) -> Result<(), SinkFault>
         }
         Outcome::SinkFault => put_piece(b"zi: cannot write\n", err),
         Outcome::Memory => put_piece(b"zi: out of memory\n", err),
-        Outcome::Unbuilt => put_piece(b"zi: not built yet\n", err),
     }
 }

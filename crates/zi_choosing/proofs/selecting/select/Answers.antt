@@ -1,7 +1,7 @@
 use Rattle.std.proofs.Common.{inl, inr, refl}
 use Rattle.zi_world.proofs.CallLemmas.{failed, not_failed, answered}
 use Rattle.zi_world.proofs.AskingLemmas.{feeds_same}
-use Rattle.zi_app.proofs.select.select_plain.Goals as goal
+use Rattle.zi_choosing.proofs.selecting.select.Goals as goal
 
 pub returns-in-Ok : goal.returns-in-Ok
 returns-in-Ok g c = record {

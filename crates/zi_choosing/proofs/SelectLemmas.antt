@@ -1,0 +1,220 @@
+-- The choice, and what it means for the words that asked for it.
+use Rattle.std.proofs.Common.{◌≡◌, ◌≢◌, ℕ, inl, inr, ◌⊎◌, Bool, true, false, List, [], refl, sym, ap, subst, ◌∙◌}
+use Rattle.zi_digest.specs.declared.DigestName.{DigestName}
+use Rattle.zi_outside.specs.Views.{Feeding, Sinking}
+use Rattle.zi_words.specs.declared.request.Ask.{Ask}
+use Rattle.zi_universe.specs.declared.types.Interface.{Interface}
+use Rattle.zi_universe.specs.declared.types.Requirement.{Requirement}
+use Rattle.zi_universe.specs.declared.fault.LoadFault.{LoadFault}
+use Rattle.zi_universe.specs.declared.fault.LoadFault.TheVariants as load
+use Rattle.zi_choice.specs.Choice.{Choice}
+use Rattle.zi_choice.specs.Best.{IsBest}
+use Rattle.zi_build.specs.declared.building.BuildFault.{BuildFault}
+use Rattle.zi_build.specs.declared.building.BuildFault.TheVariants as build
+use Rattle.zi_build.specs.Answers.{FaultMeans}
+use Rattle.zi_proof.specs.declared.proof.Proof.{Proof}
+use Rattle.zi_proof.specs.declared.proof.Certificate.{Certificate}
+use Rattle.zi_proof.specs.ProofText.{certificate_text}
+use Rattle.zi_certificate.specs.Certificates.{Excludes}
+use Rattle.zi_sels.specs.declared.types.Selections.{Selections}
+use Rattle.zi_sels.specs.Chosen.{AreSelected}
+use Rattle.zi_sels.specs.Written.{document}
+use Rattle.zi_outcome.specs.declared.outcome.Outcome.{Outcome}
+use Rattle.zi_outcome.specs.declared.outcome.Outcome.TheVariants.{Done, Usage, FeedRead, NoRootFeed, BadFeed, FeedTooLong, TooManyFeeds, TooManyInterfaces, TooManyCandidates, TooLarge, NoSolution, Spent, NoFile, BadProof, Rejected, Overlap, Mismatch, MissingTree, DamagedTree, BadName, TreeTooLarge, StoreFault, Crowded, Unwritable, SinkFault, Memory}
+use Rattle.zi_outcome.specs.Refused.{outcome_of}
+use Rattle.zi_outcome.specs.Writing.{Prints, PrintsThen}
+use Rattle.zi_outcome.proofs.WritingLemmas.{nothing_put}
+use Rattle.zi_choosing.specs.Wanted.{requirement_of}
+use Rattle.zi_choosing.specs.Loaded.{Lent, IsLoaded, IsRefused, AreFew, build_outcome}
+use Rattle.zi_choosing.specs.Select.{IsThere, IsShown, IsAmiss, refutation_text, Chooses, HasNone, SelectsOver}
+use Rattle.zi_choosing.specs.SelectParts.{PrintsDocument, IsUnshown, PrintsChoice, PrintsRefutation, Search, ChoosesNothing, ChoosesBest, ChoosesNone, ChoosesFrom}
+
+-- the document was printed, or it can't be written, or there was no memory for it
+pub document_printed : (sels : Selections) (text : List ℕ) (old new : Sinking) (outcome : Outcome) → text ≡ document sels → Prints text old new outcome → PrintsDocument sels old new outcome
+document_printed sels text old new outcome e w = inl (subst (λ t. Prints t old new outcome) e w)
+
+pub document_unmade : (sels : Selections) (out : Sinking) → PrintsDocument sels out out Memory
+document_unmade sels out = inl (inr (inr (nothing_put out (document sels) out refl, refl)))
+
+pub document_amiss : (sels : Selections) (place : ℕ) (out : Sinking) → IsAmiss sels place → PrintsDocument sels out out (Unwritable place)
+document_amiss sels place out amiss = inr (place, refl, amiss, refl)
+
+pub ruleset printing = (document_printed, document_unmade, document_amiss)
+
+-- a certificate was printed, or there was no memory for it
+pub text_printed : (wanted text : List ℕ) (old new : Sinking) (outcome : Outcome) → text ≡ wanted → Prints text old new outcome → Prints wanted old new outcome
+text_printed wanted text old new outcome e w = subst (λ t. Prints t old new outcome) e w
+
+pub text_unmade : (wanted : List ℕ) (out : Sinking) → Prints wanted out out Memory
+text_unmade wanted out = inr (inr (nothing_put out wanted out refl, refl))
+
+pub ruleset certifying = (text_printed, text_unmade)
+
+-- what was selected was printed
+pub selected_printed : (u : List Interface) (req : Requirement) (choice : Choice) (sels : Selections) (old new : Sinking) (outcome : Outcome) → AreSelected u req choice sels
+    → PrintsDocument sels old new outcome → PrintsChoice false u req choice old new outcome
+selected_printed u req choice sels old new outcome selected (inl w) = inl (document sels, (sels, selected, refl), w)
+selected_printed u req choice sels old new outcome selected (inr (place, e, amiss, w)) =
+    subst (λ x. PrintsChoice false u req choice old new x) (sym e) (inr ((refl, (sels, selected, amiss)), w))
+
+-- there was no memory for the selections
+pub unselected : (u : List Interface) (req : Requirement) (choice : Choice) (out : Sinking) → PrintsChoice false u req choice out out Memory
+unselected u req choice out = inr (tt, refl)
+
+pub ruleset selecting = (selected_printed, unselected)
+
+-- a certificate was printed for the choice
+pub certificate_shown : (proof : Bool) (u : List Interface) (req : Requirement) (choice : Choice) (c : Certificate) (old new : Sinking) (outcome : Outcome) → proof ≡ true
+    → Excludes u req choice c → Prints (certificate_text c) old new outcome → PrintsChoice proof u req choice old new outcome
+certificate_shown proof u req choice c old new outcome e excludes w =
+    subst (λ b. PrintsChoice b u req choice old new outcome) (sym e) (inl (certificate_text c, (c, excludes, refl), w))
+
+pub selected_shown : (proof : Bool) (u : List Interface) (req : Requirement) (choice : Choice) (old new : Sinking) (outcome : Outcome) → proof ≡ false
+    → PrintsChoice false u req choice old new outcome → PrintsChoice proof u req choice old new outcome
+selected_shown proof u req choice old new outcome e w = subst (λ b. PrintsChoice b u req choice old new outcome) (sym e) w
+
+pub ruleset showing = (certificate_shown, selected_shown)
+
+-- a refutation was printed whole
+pub refutation_printed : (p : Proof) (old new : Sinking) (outcome : Outcome) → outcome ≡ Done → Prints (refutation_text p) old new outcome → PrintsRefutation p old new (NoSolution p)
+refutation_printed p old new outcome done (inl (w, e)) = inl (w, refl)
+refutation_printed p old new outcome done (inr (inl (w, e))) = let f : Done ≡ SinkFault = sym done ∙ e in absurd cc
+refutation_printed p old new outcome done (inr (inr (w, e))) = let f : Done ≡ Memory = sym done ∙ e in absurd cc
+
+-- or it wasn't
+pub refutation_stopped : (p : Proof) (old new : Sinking) (outcome : Outcome) → outcome ≢ Done → Prints (refutation_text p) old new outcome → PrintsRefutation p old new outcome
+refutation_stopped p old new outcome other (inl (w, e)) = absurd (other e)
+refutation_stopped p old new outcome other (inr h) = inr h
+
+-- there was no formula
+pub no_formula : (s : Search) (u : List Interface) (fault : BuildFault) (out : Sinking) (outcome : Outcome) → FaultMeans u s.req fault → outcome ≡ build_outcome fault
+    → ChoosesFrom s u out out outcome
+no_formula s u (build.TooLarge limit) out outcome means e = subst (λ x. ChoosesFrom s u out out x) (sym e) (inr (inr (means, refl)))
+no_formula s u build.Memory out outcome means e = subst (λ x. ChoosesFrom s u out out x) (sym e) (inr (inr (tt, refl)))
+
+-- Behind the loading.
+abbrev search_of : Ask → Bool → Search
+search_of ask proof = record { req = requirement_of ask; budget = ask.search; proof = proof }
+
+module _ (ask : Ask) (proof : Bool) (stored : List DigestName) (before after : Lent) where
+  chosen_as : (text : List ℕ) (outcome : Outcome) → Chooses stored ask proof before.feeds after.feeds text → Prints text before.out after.out outcome
+      → SelectsOver ask proof stored before after outcome
+  chosen_as text outcome chooses (inl (w, e)) = subst (λ x. SelectsOver ask proof stored before after x) (sym e) (text, chooses, w)
+  chosen_as text outcome chooses (inr (inl (w, e))) = subst (λ x. SelectsOver ask proof stored before after x) (sym e) (inl (text, chooses, w))
+  chosen_as text outcome chooses (inr (inr (w, e))) =
+      subst (λ x. SelectsOver ask proof stored before after x) (sym e) (inr (inr (inr (inl (text, chooses, w)))))
+
+  unshown_as : (u : List Interface) (choice : Choice) (outcome : Outcome) → IsLoaded stored ask before.feeds after.feeds u → AreFew u (requirement_of ask)
+      → IsBest u (requirement_of ask) choice → IsUnshown proof u (requirement_of ask) choice outcome → after.out ≡ before.out
+      → SelectsOver ask proof stored before after outcome
+  unshown_as u choice Done loaded few best why w = absurd why
+  unshown_as u choice (Usage index) loaded few best why w = absurd why
+  unshown_as u choice (FeedRead uri) loaded few best why w = absurd why
+  unshown_as u choice NoRootFeed loaded few best why w = absurd why
+  unshown_as u choice (BadFeed uri fault) loaded few best why w = absurd why
+  unshown_as u choice (FeedTooLong uri limit) loaded few best why w = absurd why
+  unshown_as u choice (TooManyFeeds limit) loaded few best why w = absurd why
+  unshown_as u choice (TooManyInterfaces limit) loaded few best why w = absurd why
+  unshown_as u choice (TooManyCandidates limit) loaded few best why w = absurd why
+  unshown_as u choice (TooLarge limit) loaded few best why w = absurd why
+  unshown_as u choice (NoSolution p) loaded few best why w = absurd why
+  unshown_as u choice (Spent p count) loaded few best why w = absurd why
+  unshown_as u choice (NoFile absent) loaded few best why w = absurd why
+  unshown_as u choice (BadProof line) loaded few best why w = absurd why
+  unshown_as u choice Rejected loaded few best why w = absurd why
+  unshown_as u choice (Overlap path) loaded few best why w = absurd why
+  unshown_as u choice (Mismatch wanted found) loaded few best why w = absurd why
+  unshown_as u choice (MissingTree missing) loaded few best why w = absurd why
+  unshown_as u choice (DamagedTree damaged found) loaded few best why w = absurd why
+  unshown_as u choice (BadName path) loaded few best why w = absurd why
+  unshown_as u choice (TreeTooLarge what limit) loaded few best why w = absurd why
+  unshown_as u choice (StoreFault top) loaded few best why w = absurd why
+  unshown_as u choice (Crowded tried) loaded few best why w = absurd why
+  unshown_as u choice (Unwritable place) loaded few best why w = (why.0, record { there = record { universe = u; loaded = loaded; few = few }; choice = choice; best = best; sels = why.1.0; selected = why.1.1; amiss = why.1.2 }, w)
+  unshown_as u choice SinkFault loaded few best why w = absurd why
+  unshown_as u choice Memory loaded few best why w = inr (inr (inl ((u, loaded, tt), w)))
+
+  best_as : (u : List Interface) (outcome : Outcome) → IsLoaded stored ask before.feeds after.feeds u → ChoosesBest (search_of ask proof) u before.out after.out outcome
+      → SelectsOver ask proof stored before after outcome
+  best_as u outcome loaded b = by b.printed
+    where
+      by : PrintsChoice proof u (requirement_of ask) b.choice before.out after.out outcome → SelectsOver ask proof stored before after outcome
+      by (inl (text, shown, w)) =
+          chosen_as text outcome (record { there = record { universe = u; loaded = loaded; few = b.few }; choice = b.choice; best = b.best; shown = shown }) w
+      by (inr (why, w)) = unshown_as u b.choice outcome loaded b.few b.best why w
+
+  none_as : (u : List Interface) (outcome : Outcome) → IsLoaded stored ask before.feeds after.feeds u → ChoosesNone (search_of ask proof) u before.out after.out outcome
+      → SelectsOver ask proof stored before after outcome
+  none_as u outcome loaded n = by n.printed
+    where
+      has : HasNone stored ask before.feeds after.feeds n.refutation
+      has = record { there = record { universe = u; loaded = loaded; few = n.few }; refutes = n.refutes; none = n.none }
+
+      by : PrintsRefutation n.refutation before.out after.out outcome → SelectsOver ask proof stored before after outcome
+      by (inl (w, e)) = subst (λ x. SelectsOver ask proof stored before after x) (sym e) (has, w)
+      by (inr (inl (w, e))) = subst (λ x. SelectsOver ask proof stored before after x) (sym e) (inr (n.refutation, has, w))
+      by (inr (inr (w, e))) = subst (λ x. SelectsOver ask proof stored before after x) (sym e) (inr (inr (inr (inr (n.refutation, has, w)))))
+
+  nothing_as : (u : List Interface) (outcome : Outcome) → IsLoaded stored ask before.feeds after.feeds u → ChoosesNothing (search_of ask proof) u outcome
+      → after.out ≡ before.out → SelectsOver ask proof stored before after outcome
+  nothing_as u Done loaded why w = absurd why
+  nothing_as u (Usage index) loaded why w = absurd why
+  nothing_as u (FeedRead uri) loaded why w = absurd why
+  nothing_as u NoRootFeed loaded why w = absurd why
+  nothing_as u (BadFeed uri fault) loaded why w = absurd why
+  nothing_as u (FeedTooLong uri limit) loaded why w = absurd why
+  nothing_as u (TooManyFeeds limit) loaded why w = absurd why
+  nothing_as u (TooManyInterfaces limit) loaded why w = absurd why
+  nothing_as u (TooManyCandidates limit) loaded why w = absurd why
+  nothing_as u (TooLarge limit) loaded why w = ((u, loaded, why), w)
+  nothing_as u (NoSolution p) loaded why w = absurd why
+  nothing_as u (Spent p count) loaded why w = (record { there = record { universe = u; loaded = loaded; few = why.0 }; count_is = why.1; spent = why.2 }, w)
+  nothing_as u (NoFile absent) loaded why w = absurd why
+  nothing_as u (BadProof line) loaded why w = absurd why
+  nothing_as u Rejected loaded why w = absurd why
+  nothing_as u (Overlap path) loaded why w = absurd why
+  nothing_as u (Mismatch wanted found) loaded why w = absurd why
+  nothing_as u (MissingTree missing) loaded why w = absurd why
+  nothing_as u (DamagedTree damaged found) loaded why w = absurd why
+  nothing_as u (BadName path) loaded why w = absurd why
+  nothing_as u (TreeTooLarge what limit) loaded why w = absurd why
+  nothing_as u (StoreFault top) loaded why w = absurd why
+  nothing_as u (Crowded tried) loaded why w = absurd why
+  nothing_as u (Unwritable place) loaded why w = absurd why
+  nothing_as u SinkFault loaded why w = absurd why
+  nothing_as u Memory loaded why w = inr (inr (inl ((u, loaded, tt), w)))
+
+  pub chosen_over : (u : List Interface) (outcome : Outcome) → IsLoaded stored ask before.feeds after.feeds u
+      → ChoosesFrom (search_of ask proof) u before.out after.out outcome → SelectsOver ask proof stored before after outcome
+  chosen_over u outcome loaded (inl b) = best_as u outcome loaded b
+  chosen_over u outcome loaded (inr (inl n)) = none_as u outcome loaded n
+  chosen_over u outcome loaded (inr (inr (why, w))) = nothing_as u outcome loaded why w
+
+  -- what a loading that was refused comes to
+  pub refused_over : (e : LoadFault) (outcome : Outcome) → IsRefused stored ask before.feeds after.feeds e → after.out ≡ before.out → outcome ≡ outcome_of e
+      → SelectsOver ask proof stored before after outcome
+  refused_over e outcome r w is = subst (λ x. SelectsOver ask proof stored before after x) (sym is) (by e r)
+    where
+      by : (e : LoadFault) → IsRefused stored ask before.feeds after.feeds e → SelectsOver ask proof stored before after (outcome_of e)
+      by (load.FeedRead uri) r = (r, w)
+      by load.NoRootFeed r = (r, w)
+      by (load.BadFeed uri fault) r = (r, w)
+      by (load.FeedTooLong uri limit) r = (r, w)
+      by (load.TooManyFeeds limit) r = (r, w)
+      by (load.TooManyInterfaces limit) r = (r, w)
+      by (load.TooManyCandidates limit) r = (r, w)
+      by load.Memory r = inr (inl (r, w))
+
+-- there was no memory for the task
+pub no_task : (ask : Ask) (proof : Bool) (stored : List DigestName) (lent : Lent) → SelectsOver ask proof stored lent lent Memory
+no_task ask proof stored lent = inl refl
+
+-- the choice from the universe that was loaded
+pub selected : (ask : Ask) (proof : Bool) (stored : List DigestName) (req : Requirement) (budget : ℕ) (before after : Lent) (u : List Interface) (outcome : Outcome) → req ≡ requirement_of ask
+    → budget ≡ ask.search → IsLoaded stored ask before.feeds after.feeds u
+    → ChoosesFrom (record { req = req; budget = budget; proof = proof }) u before.out after.out outcome → SelectsOver ask proof stored before after outcome
+selected ask proof stored req budget before after u outcome at_req at_budget loaded chooses =
+    let S : Requirement → ℕ → Search = λ r n. record { req = r; budget = n; proof = proof } in
+    chosen_over ask proof stored before after u outcome loaded
+    (subst (λ n. ChoosesFrom (S (requirement_of ask) n) u before.out after.out outcome) at_budget
+    (subst (λ r. ChoosesFrom (S r budget) u before.out after.out outcome) at_req chooses))

@@ -1,0 +1,37 @@
+use Rattle.std.proofs.Common.{refl}
+use Rattle.zi_world.proofs.AskingLemmas.{asks_stay, feeds_same}
+use Rattle.zi_choosing.proofs.LoadedLemmas.{loaded_as, refused_as}
+use Rattle.zi_choosing.proofs.SelectLemmas.{selected, refused_over, no_task}
+use Rattle.zi_choosing.proofs.selecting.select_over.Goals as goal
+
+pub returns-in_default : goal.returns-in_default
+returns-in_default g c = record {
+  over = no_task c.args.ask c.args.proof c.args.stored.now (record { feeds = g.F.Feeds.seen c.args.feeds.now; out = g.O.Sink.seen c.args.out.now });
+  feeds = feeds_same (g.F.Feeds.seen c.args.feeds.now);
+}
+
+pub returns-in-Ok-load : goal.returns-in-Ok-load
+returns-in-Ok-load g c =
+    let old = g.F.Feeds.seen c.args.feeds.now in
+    let mid = g.F.Feeds.seen c.load.new.feeds in
+    record {
+      over =
+          selected c.args.ask c.args.proof c.args.stored.now c.in-Ok.job.req c.args.ask.search (record { feeds = old; out = g.O.Sink.seen c.args.out.now }) (record { feeds = mid; out = g.O.Sink.seen c.choose.new.out })
+          c.in-Ok-load.universe c.choose.result c.in-Ok.ensures.req refl
+          (loaded_as c.args.stored.now c.args.ask c.in-Ok.job.req c.in-Ok.job.policy old mid c.in-Ok-load.universe c.in-Ok.ensures.req c.in-Ok.ensures.policy c.in-Ok-load.ensures.loads)
+          c.choose.ensures;
+      feeds = asks_stay _ old mid c.in-Ok-load.ensures.loads.asked.asks;
+    }
+
+pub returns : goal.returns
+returns g c =
+    let old = g.F.Feeds.seen c.args.feeds.now in
+    let mid = g.F.Feeds.seen c.load.new.feeds in
+    let out = g.O.Sink.seen c.args.out.now in
+    record {
+      over =
+          refused_over c.args.ask c.args.proof c.args.stored.now (record { feeds = old; out = out }) (record { feeds = mid; out = out }) c.in-Err.fault c.refused.result
+          (refused_as c.args.stored.now c.args.ask c.in-Ok.job.req c.in-Ok.job.policy old mid c.in-Err.fault c.in-Ok.ensures.req c.in-Ok.ensures.policy c.in-Err.ensures.refuses)
+          refl c.refused.ensures;
+      feeds = asks_stay _ old mid c.in-Err.ensures.refuses.asks;
+    }

@@ -1,0 +1,73 @@
+-- Parts of the work of `select`.
+use Rattle.std.specs.Prelude.{◌≡◌, ℕ, ◌⊎◌, Bool, false, List}
+use Rattle.zi_outside.specs.Views.{Sinking}
+use Rattle.zi_universe.specs.declared.types.Requirement.{Requirement}
+use Rattle.zi_universe.specs.declared.types.Interface.{Interface}
+use Rattle.zi_choice.specs.Choice.{Choice}
+use Rattle.zi_choice.specs.Valid.{NoneIsValid}
+use Rattle.zi_choice.specs.Best.{IsBest}
+use Rattle.zi_proof.specs.declared.proof.Proof.{Proof}
+use Rattle.zi_certificate.specs.Certificates.{Refutes}
+use Rattle.zi_solve.specs.Answers.{IsSpent}
+use Rattle.zi_sels.specs.declared.types.Selections.{Selections}
+use Rattle.zi_sels.specs.Chosen.{AreSelected}
+use Rattle.zi_sels.specs.Written.{document}
+use Rattle.zi_outcome.specs.declared.outcome.Outcome.{Outcome}
+use Rattle.zi_outcome.specs.declared.outcome.Outcome.TheVariants.{TooLarge, NoSolution, Spent, Unwritable, Memory}
+use Rattle.zi_outcome.specs.Writing.{PrintsThen, Prints}
+use Rattle.zi_choosing.specs.Loaded.{AreFew, AreMany}
+use Rattle.zi_choosing.specs.Select.{IsShown, IsAmiss, refutation_text}
+
+-- the document is printed, or it can't be written
+abbrev pub PrintsDocument : Selections → Sinking → Sinking → Outcome → Type 0
+PrintsDocument sels old new outcome =
+    Prints (document sels) old new outcome ⊎ ((place : ℕ) × (outcome ≡ Unwritable place) × IsAmiss sels place × (new ≡ old))
+
+-- nothing is printed of a choice, and this is why
+abbrev pub IsUnshown : Bool → List Interface → Requirement → Choice → Outcome → Type 0
+IsUnshown proof universe req choice (Unwritable place) = (proof ≡ false) × ((sels : Selections) × AreSelected universe req choice sels × IsAmiss sels place)
+IsUnshown proof universe req choice Memory = Unit {0}
+IsUnshown proof universe req choice other = ⊥
+
+-- what shows a choice is printed
+abbrev pub PrintsChoice : Bool → List Interface → Requirement → Choice → Sinking → Sinking → Outcome → Type 0
+PrintsChoice proof universe req choice old new outcome =
+    ((text : List ℕ) × IsShown proof universe req choice text × Prints text old new outcome)
+    ⊎ (IsUnshown proof universe req choice outcome × (new ≡ old))
+
+-- a refutation is printed
+abbrev pub PrintsRefutation : Proof → Sinking → Sinking → Outcome → Type 0
+PrintsRefutation p old new outcome = PrintsThen (refutation_text p) (NoSolution p) old new outcome
+
+-- what a search is for, how many lemmas it may learn, and whether a proof is wanted
+pub record Search : Type 0 where
+  pub req : Requirement
+  pub budget : ℕ
+  pub proof : Bool
+
+-- nothing is printed, and this is why
+abbrev pub ChoosesNothing : Search → List Interface → Outcome → Type 0
+ChoosesNothing s universe (TooLarge limit) = AreMany universe s.req limit
+ChoosesNothing s universe (Spent p count) = AreFew universe s.req × (count ≡ s.budget) × IsSpent universe s.req s.budget p
+ChoosesNothing s universe Memory = Unit {0}
+ChoosesNothing s universe other = ⊥
+
+-- the best choice is printed
+pub record ChoosesBest (s : Search) (universe : List Interface) (old new : Sinking) (outcome : Outcome) : Type 0 where
+  pub few : AreFew universe s.req
+  pub choice : Choice
+  pub best : IsBest universe s.req choice
+  pub printed : PrintsChoice s.proof universe s.req choice old new outcome
+
+-- there is none, and the refutation is printed
+pub record ChoosesNone (s : Search) (universe : List Interface) (old new : Sinking) (outcome : Outcome) : Type 0 where
+  pub few : AreFew universe s.req
+  pub refutation : Proof
+  pub refutes : Refutes universe s.req refutation
+  pub none : NoneIsValid universe s.req
+  pub printed : PrintsRefutation refutation old new outcome
+
+-- what the choice from a universe says
+abbrev pub ChoosesFrom : Search → List Interface → Sinking → Sinking → Outcome → Type 0
+ChoosesFrom s universe old new outcome =
+    ChoosesBest s universe old new outcome ⊎ (ChoosesNone s universe old new outcome ⊎ (ChoosesNothing s universe outcome × (new ≡ old)))

@@ -1,0 +1,189 @@
+//! The work of `select`.
+ghost use Rattle.std.specs.Prelude.{◌≡◌, ◌≤◌, false};
+ghost use Rattle.zi_universe.specs.Whole.{BeginsWith};
+ghost use Rattle.zi_proof.specs.ProofText.{certificate_text};
+ghost use Rattle.zi_certificate.specs.Certificates.{Excludes};
+ghost use Rattle.zi_outcome.specs.declared.outcome.Outcome.TheVariants.{Spent};
+ghost use Rattle.zi_outcome.specs.Writing.{Prints};
+ghost use Rattle.zi_world.specs.Asking.{FeedsStay};
+ghost use Rattle.zi_choosing.specs.Select.{SelectsOver, Selects};
+ghost use Rattle.zi_choosing.specs.SelectParts.{PrintsDocument, PrintsChoice, PrintsRefutation, ChoosesFrom};
+
+use crate::formula::without_formula;
+use crate::wanted::into_job;
+use std::alloc::Global;
+use zi_choice::Choice;
+use zi_digest::DigestName;
+use zi_docout::WriteFault;
+use zi_outcome::{Outcome, put_text, refused};
+use zi_outside::{Feeds, Sink};
+use zi_proof::{Certificate, Proof};
+use zi_sels::{Selections, from_choice};
+use zi_shelf::{Shelf, ShelfFault};
+use zi_solve::{Answer, solve};
+use zi_store::stored_names;
+use zi_text::{List, Memory, Text};
+use zi_universe::{Requirement, Universe, load};
+use zi_words::Ask;
+
+// Writes the document of what is selected.
+#[tactic(auto, using(crate::proofs::SelectLemmas::printing))]
+fn put_document<O: Sink>(alloc: Global, sels: &Selections, out: &mut O) -> Outcome
+    ensures { PrintsDocument sels.now (O.seen out.old) (O.seen out.new) result }
+{
+    let mut text = Vec::new(alloc);
+    match zi_sels::write(alloc, sels, &mut text) {
+        Ok(()) => put_text(text.as_slice(), out),
+        Err(WriteFault::Unwritable { place }) => Outcome::Unwritable { place },
+        Err(WriteFault::Memory) => Outcome::Memory,
+    }
+}
+
+// Writes the text of a certificate.
+#[tactic(auto, using(crate::proofs::SelectLemmas::certifying))]
+fn put_certificate<O: Sink>(alloc: Global, certificate: &Certificate, out: &mut O) -> Outcome
+    ensures { Prints (certificate_text certificate.now) (O.seen out.old) (O.seen out.new) result }
+{
+    let mut lines = Vec::new(alloc);
+    match zi_proof::write(certificate, &mut lines) {
+        Ok(()) => put_text(lines.as_slice(), out),
+        Err(Memory) => Outcome::Memory,
+    }
+}
+
+// Writes what a choice selects.
+fn put_selected<O: Sink>(
+    alloc: Global,
+    req: &Requirement,
+    universe: &Universe,
+    choice: &Choice,
+    out: &mut O,
+) -> Outcome
+    ensures { PrintsChoice false universe.now req.now choice.now.picks (O.seen out.old) (O.seen out.new) result }
+{
+    match from_choice(alloc, universe, req, choice) {
+        Ok(sels) => put_document(alloc, &sels, out),
+        Err(Memory) => Outcome::Memory,
+    }
+}
+
+// Writes what shows a choice: what it selects, or its certificate.
+fn put_choice<O: Sink>(
+    alloc: Global,
+    req: &Requirement,
+    universe: &Universe,
+    proof: bool,
+    choice: &Choice,
+    certificate: &Certificate,
+    out: &mut O,
+) -> Outcome
+    requires { Excludes universe.now req.now choice.now.picks certificate.now }
+    ensures { PrintsChoice proof universe.now req.now choice.now.picks (O.seen out.old) (O.seen out.new) result }
+{
+    if proof {
+        put_certificate(alloc, certificate, out)
+    } else {
+        put_selected(alloc, req, universe, choice, out)
+    }
+}
+
+// Writes the text of a refutation, and answers that there is no solution.
+fn put_refutation<O: Sink>(alloc: Global, proof: Proof, out: &mut O) -> Outcome
+    ensures { PrintsRefutation proof (O.seen out.old) (O.seen out.new) result }
+{
+    let certificate = Certificate {
+        proof,
+        blocks: List::new(alloc),
+    };
+    match put_certificate(alloc, &certificate, out) {
+        Outcome::Done => {
+            let Certificate { proof, blocks: _ } = certificate;
+            Outcome::NoSolution { proof }
+        }
+        outcome => outcome,
+    }
+}
+
+// The outcome of a search that learned as many lemmas as it was let.
+fn spent(proof: Proof, count: u64) -> Outcome
+    ensures { result ≡ Spent proof count }
+{
+    Outcome::Spent { proof, count }
+}
+
+// Chooses from a universe, and writes what shows the choice, or that there is none.
+fn choose<O: Sink>(
+    alloc: Global,
+    req: &Requirement,
+    universe: &Universe,
+    budget: u64,
+    proof: bool,
+    out: &mut O,
+) -> Outcome
+    requires rooted { BeginsWith universe.now req.now.interface }
+    requires budget { budget ≤ 4000000000 }
+    ensures { ChoosesFrom (record { req = req.now; budget = budget; proof = proof }) universe.now (O.seen out.old) (O.seen out.new) result }
+{
+    match solve(alloc, universe, req, budget) {
+        Ok(
+            Answer::Best {
+                choice,
+                certificate,
+            },
+        ) => put_choice(alloc, req, universe, proof, &choice, &certificate, out),
+        Ok(Answer::None { proof: refutation }) => put_refutation(alloc, refutation, out),
+        Ok(
+            Answer::Spent {
+                proof: learned,
+                count,
+            },
+        ) => spent(learned, count),
+        Err(fault) => without_formula(fault),
+    }
+}
+
+// Loads what is asked for over a store with these names, and chooses.
+fn select_over<F: Feeds, O: Sink>(
+    alloc: Global,
+    ask: Ask,
+    proof: bool,
+    stored: &[DigestName],
+    feeds: &mut F,
+    out: &mut O,
+) -> Outcome
+    requires { ask.search ≤ 4000000000 }
+    ensures over { SelectsOver ask proof stored.now (record { feeds = F.seen feeds.old; out = O.seen out.old }) (record { feeds = F.seen feeds.new; out = O.seen out.new }) result }
+    ensures feeds { FeedsStay (F.seen feeds.old) (F.seen feeds.new) }
+{
+    let budget = ask.search;
+    let Ok(job) = into_job(alloc, ask) else {
+        return Outcome::Memory;
+    };
+    match load(alloc, &job.req, &job.policy, stored, feeds) {
+        Ok(universe) => choose(alloc, &job.req, &universe, budget, proof, out),
+        Err(fault) => refused(fault),
+    }
+}
+
+/// Finds out which digests are stored, loads what is asked for, and chooses: the document of what the best choice selects is
+/// written, or with `proof` a certificate, by which every other valid choice is worse. Where no choice is valid a refutation is
+/// written, and the outcome is `NoSolution`; where the search learned as many lemmas as it was let, nothing is, and it is `Spent`.
+pub fn select<F: Feeds, K: Shelf, O: Sink>(
+    alloc: Global,
+    ask: Ask,
+    proof: bool,
+    feeds: &mut F,
+    shelf: &mut K,
+    out: &mut O,
+) -> Outcome
+    requires { ask.search ≤ 4000000000 }
+    ensures { Selects ask proof (record { feeds = F.seen feeds.old; shelf = K.seen shelf.old; out = O.seen out.old }) (record { feeds = F.seen feeds.new; shelf = K.seen shelf.new; out = O.seen out.new }) result }
+{
+    match stored_names(alloc, shelf) {
+        Ok(stored) => select_over(alloc, ask, proof, stored.as_slice(), feeds, out),
+        Err(ShelfFault::Failed) => Outcome::StoreFault {
+            name: Text::new(alloc),
+        },
+        Err(ShelfFault::Memory) => Outcome::Memory,
+    }
+}
