@@ -1,15 +1,14 @@
 -- What the outcomes of `store add` follow from.
-use Rattle.std.proofs.Common.{◌≡◌, ◌≢◌, ℕ, ◌<◌, ◌-◌, ◌^◌, inl, inr, List, Option, Some, None, refl, sym, ◌∙◌, ap, subst, length, arith}
+use Rattle.std.proofs.Common.{◌≡◌, ◌≢◌, ℕ, ◌<◌, ◌-◌, ◌^◌, inl, inr, List, Option, Some, None, refl, sym, ◌∙◌, ap, subst, arith}
 use Rattle.zi_digest.specs.declared.DigestName.{DigestName}
 use Rattle.zi_digest.specs.Name.{spelling}
 use Rattle.zi_outside.specs.Count.{Rose}
-use Rattle.zi_outside.specs.Views.{Feeding, Sinking}
+use Rattle.zi_outside.specs.Views.{Feeding}
 use Rattle.zi_tree.specs.Dir.{Dir}
 use Rattle.zi_shelf.specs.Names.{Name}
 use Rattle.zi_shelf.specs.Filling.{Work}
 use Rattle.zi_shelf.specs.Shelved.{Top, Reply, Did, Exists, Failed, Memory as NoRoom}
 use Rattle.zi_shelf.specs.Shelving.{Shelving, IsSure}
-use Rattle.zi_shelf.specs.Told.{Told}
 use Rattle.zi_session.specs.Begun.{IsBegun}
 use Rattle.zi_session.specs.Keeping.{CountFits, KeepsShelf}
 use Rattle.zi_session.specs.Machine.{Phase, Making, Filling, Settling, Renaming, Storing, Removing, Leaving, Ended, Stopped, Stored, Present, Crowded as FullOf, Fault}
@@ -17,7 +16,7 @@ use Rattle.zi_session.specs.Phases.{tmp_name, blamed_name, phase_of, residue_of}
 use Rattle.zi_session.specs.Standing.{Standing, standing}
 use Rattle.zi_session.specs.StoreRules.{IsDigestName}
 use Rattle.zi_session.specs.StoreWorks.{store_works}
-use Rattle.zi_session.specs.Stepping.{IsRun, HasGone, Says, SaysOn, Blames}
+use Rattle.zi_session.specs.Stepping.{IsRun, Says, SaysOn, Blames}
 use Rattle.zi_session.specs.declared.phase.Phase.{Phase as SessionPhase}
 use Rattle.zi_session.specs.declared.phase.Phase.TheVariants.{Makes, Fills, Settles, Renames, Stores, Removes, Leaves, IsStored, IsPresent, IsCrowded, IsUnmade, IsStuck, IsFaulty}
 use Rattle.zi_session.specs.declared.session.Session.{Session}
@@ -31,13 +30,11 @@ use Rattle.zi_words.specs.Forms.{Word}
 use Rattle.zi_app.specs.declared.gathering.GatherFault.{GatherFault}
 use Rattle.zi_app.specs.declared.gathering.GatherFault.TheVariants as gather
 use Rattle.zi_outcome.specs.declared.outcome.Outcome.{Outcome}
-use Rattle.zi_outcome.specs.declared.outcome.Outcome.TheVariants.{Done, BadName, Mismatch, Memory}
-use Rattle.zi_world.specs.Shelves.{Untouched, Lasts, ShelfFailed}
+use Rattle.zi_world.specs.Shelves.{Untouched, Lasts}
 use Rattle.zi_world.specs.World.{World}
-use Rattle.zi_outcome.specs.Writing.{Prints}
 use Rattle.zi_app.specs.Gathering.{Gathers, Refuses}
-use Rattle.zi_app.specs.Adding.{IsToAdd, HasRun, Tries, Costs, AddsNothing, AddsTo, Adds, KeepsStored, beginning, stored_line, present_line}
-use Rattle.zi_app.specs.AddingParts.{files_outcome, IsEnd, Closes, Lent, IsIdle, AddsTree}
+use Rattle.zi_app.specs.Adding.{HasRun, Tries, Costs, AddsNothing, AddsTo, Adds, KeepsStored, beginning}
+use Rattle.zi_app.specs.AddingParts.{files_outcome, IsEnd, Closes, Lent, AddsTree}
 use Rattle.zi_world.specs.Asking.{FeedsStay}
 use Rattle.zi_tree.specs.declared.change.TreeLimit.TheVariants as limit
 use Rattle.zi_world.proofs.AskingLemmas.{asks_stay}

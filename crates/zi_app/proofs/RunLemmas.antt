@@ -1,5 +1,5 @@
 -- The work of the words, and its outcome.
-use Rattle.std.proofs.Common.{◌≡◌, ◌≢◌, inl, inr, ◌⊎◌, List, ℕ, [], ◌∷◌, length, refl, sym, subst, Bool, true, false}
+use Rattle.std.proofs.Common.{◌≡◌, ◌≢◌, inl, inr, List, ℕ, [], ◌∷◌, length, refl, sym, subst, Bool}
 use Rattle.std.proofs.lemmas.List.{append-nil}
 use Rattle.zi_text.specs.Front.{StopsAt, stops_at_end}
 use Rattle.zi_words.specs.declared.loader.Loader.{Loader}
@@ -19,11 +19,10 @@ use Rattle.zi_app.specs.declared.checked.Checked.{Checked}
 use Rattle.zi_app.specs.declared.checked.Checked.TheVariants as checked
 use Rattle.zi_digest.specs.declared.DigestName.{DigestName}
 use Rattle.zi_outcome.specs.declared.outcome.Outcome.{Outcome}
-use Rattle.zi_outcome.specs.declared.outcome.Outcome.TheVariants.{Done, Usage, DamagedTree, Memory}
+use Rattle.zi_outcome.specs.declared.outcome.Outcome.TheVariants.{Done, Usage}
 use Rattle.zi_world.specs.World.{World}
 use Rattle.zi_outcome.specs.Writing.{PrintsThen, Prints}
 use Rattle.zi_app.specs.Showing.{ShowsText}
-use Rattle.zi_app.specs.ManifestCommand.{Shows}
 use Rattle.zi_app.specs.StoreVerify.{TellsCheck}
 use Rattle.zi_app.specs.Answers.{Does, Works, Runs}
 use Rattle.zi_app.specs.Words.{IsInForm, words_outcome}

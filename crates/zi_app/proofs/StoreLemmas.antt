@@ -1,5 +1,5 @@
 -- What the commands that read the store say, put together.
-use Rattle.std.proofs.Common.{◌≡◌, ℕ, inl, inr, Bool, true, false, List, [], ◌∷◌, ◌++◌, length, refl, sym, ap, subst, ◌∙◌, Option, Some, None, Result, Ok, Err, arith}
+use Rattle.std.proofs.Common.{◌≡◌, ℕ, inl, Bool, true, false, List, [], ◌∷◌, ◌++◌, length, refl, sym, ap, subst, ◌∙◌, Option, Some, None, Result, Ok, Err, arith}
 use Rattle.std.specs.Prelude.{ℤ, ◌≤◌, ◌<◌, bytes_eq, MatchOption, IfOk}
 use Rattle.zi_outside.specs.Views.{Sinking}
 use Rattle.zi_tree.specs.Dir.{Dir, Nothing, AFile, ALink, AFolder}
@@ -13,7 +13,6 @@ use Rattle.zi_shelf.specs.Shelved.{Top, Shelved}
 use Rattle.zi_shelf.specs.Shelving.{Shelving}
 use Rattle.zi_shelf.specs.Told.{Told}
 use Rattle.zi_shelf.specs.declared.shelf.ShelfFault.{ShelfFault}
-use Rattle.zi_shelf.specs.declared.shelf.ShelfFault.TheVariants as fault
 use Rattle.zi_shelf.specs.declared.call.CallKind.{CallKind}
 use Rattle.zi_tree.specs.declared.change.TreeLimit.{TreeLimit}
 use Rattle.zi_store.specs.declared.files.FileRead.{FileRead}

@@ -1,5 +1,5 @@
 -- What `store add` does, by its outcome.
-use Rattle.std.specs.Prelude.{◌≡◌, ◌≢◌, ◌≤◌, ℕ, ◌⊎◌, List, [], codes, Option, Some, None}
+use Rattle.std.specs.Prelude.{◌≡◌, ◌≢◌, ◌≤◌, ℕ, ◌⊎◌, List, codes, Option, Some, None}
 use Rattle.zi_digest.specs.declared.DigestName.{DigestName}
 use Rattle.zi_digest.specs.Name.{spelling, algorithm_of}
 use Rattle.zi_outside.specs.Views.{Feeding, Sinking}

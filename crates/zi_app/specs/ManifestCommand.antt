@@ -1,5 +1,5 @@
 -- `manifest`: the manifest of a stored tree as it is read, its digest's name and LF.
-use Rattle.std.specs.Prelude.{◌≡◌, ℕ, ◌⊎◌, List, ◌++◌, Option, Some, None, Ok}
+use Rattle.std.specs.Prelude.{◌≡◌, ℕ, ◌⊎◌, List, ◌++◌, Some, None, Ok}
 use Rattle.zi_tree.specs.Dir.{Dir}
 use Rattle.zi_digest.specs.declared.Algorithm.{Algorithm}
 use Rattle.zi_manifest.specs.Manifest.{as_read, first_bad, manifest, digest_of, HasManifest}

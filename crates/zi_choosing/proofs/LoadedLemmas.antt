@@ -1,5 +1,5 @@
 -- What was loaded is what the words ask for.
-use Rattle.std.proofs.Common.{◌≡◌, List, sym, ap, subst, ◌∙◌}
+use Rattle.std.proofs.Common.{◌≡◌, List, ap, subst, ◌∙◌}
 use Rattle.zi_policy.specs.declared.types.Policy.{Policy}
 use Rattle.zi_digest.specs.declared.DigestName.{DigestName}
 use Rattle.zi_outside.specs.Views.{Feeding}

@@ -1,8 +1,7 @@
 -- The check of a proof, and what it means for the words that asked for it.
-use Rattle.std.proofs.Common.{◌≡◌, ◌≢◌, ℕ, inl, inr, ◌⊎◌, List, [], refl, sym, subst, ◌∙◌}
+use Rattle.std.proofs.Common.{◌≡◌, ◌≢◌, ℕ, inl, inr, List, [], refl, sym, subst, ◌∙◌}
 use Rattle.zi_digest.specs.declared.DigestName.{DigestName}
-use Rattle.zi_outside.specs.Views.{Feeding, Sinking, holding}
-use Rattle.zi_outside.proofs.AskingLemmas.{holding_asked}
+use Rattle.zi_outside.specs.Views.{Feeding, Sinking}
 use Rattle.zi_words.specs.declared.request.Ask.{Ask}
 use Rattle.zi_universe.specs.declared.types.Interface.{Interface}
 use Rattle.zi_universe.specs.declared.types.Requirement.{Requirement}
@@ -23,7 +22,7 @@ use Rattle.zi_world.proofs.AskingLemmas.{asks_stay, unasked_stay}
 use Rattle.zi_choosing.specs.Wanted.{requirement_of}
 use Rattle.zi_choosing.specs.Loaded.{Lent, IsLoaded, IsRefused, AreFew, build_outcome}
 use Rattle.zi_choosing.specs.Refute.{yes_line, Loads, Gets, Reads, IsRight, RefutesOver}
-use Rattle.zi_choosing.specs.RefuteParts.{IsNone, ChecksRead, IsUnreadable, ChecksText, IsNoFile, ChecksFile}
+use Rattle.zi_choosing.specs.RefuteParts.{IsNone, ChecksRead, IsUnreadable, IsNoFile, ChecksFile}
 
 -- it has a block
 pub has_block : (req : Requirement) (u : List Interface) (c : Certificate) (out : Sinking) → c.blocks ≢ [] → ChecksRead req u c out out Rejected

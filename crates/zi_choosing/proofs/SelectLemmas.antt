@@ -1,7 +1,7 @@
 -- The choice, and what it means for the words that asked for it.
-use Rattle.std.proofs.Common.{◌≡◌, ◌≢◌, ℕ, inl, inr, ◌⊎◌, Bool, true, false, List, [], refl, sym, ap, subst, ◌∙◌}
+use Rattle.std.proofs.Common.{◌≡◌, ◌≢◌, ℕ, inl, inr, Bool, true, false, List, refl, sym, subst, ◌∙◌}
 use Rattle.zi_digest.specs.declared.DigestName.{DigestName}
-use Rattle.zi_outside.specs.Views.{Feeding, Sinking}
+use Rattle.zi_outside.specs.Views.{Sinking}
 use Rattle.zi_words.specs.declared.request.Ask.{Ask}
 use Rattle.zi_universe.specs.declared.types.Interface.{Interface}
 use Rattle.zi_universe.specs.declared.types.Requirement.{Requirement}
@@ -22,11 +22,11 @@ use Rattle.zi_sels.specs.Written.{document}
 use Rattle.zi_outcome.specs.declared.outcome.Outcome.{Outcome}
 use Rattle.zi_outcome.specs.declared.outcome.Outcome.TheVariants.{Done, Usage, FeedRead, NoRootFeed, BadFeed, FeedTooLong, TooManyFeeds, TooManyInterfaces, TooManyCandidates, TooLarge, NoSolution, Spent, NoFile, BadProof, Rejected, Overlap, Mismatch, MissingTree, DamagedTree, BadName, TreeTooLarge, StoreFault, Crowded, Unwritable, SinkFault, Memory}
 use Rattle.zi_outcome.specs.Refused.{outcome_of}
-use Rattle.zi_outcome.specs.Writing.{Prints, PrintsThen}
+use Rattle.zi_outcome.specs.Writing.{Prints}
 use Rattle.zi_outcome.proofs.WritingLemmas.{nothing_put}
 use Rattle.zi_choosing.specs.Wanted.{requirement_of}
 use Rattle.zi_choosing.specs.Loaded.{Lent, IsLoaded, IsRefused, AreFew, build_outcome}
-use Rattle.zi_choosing.specs.Select.{IsThere, IsShown, IsAmiss, refutation_text, Chooses, HasNone, SelectsOver}
+use Rattle.zi_choosing.specs.Select.{IsAmiss, refutation_text, Chooses, HasNone, SelectsOver}
 use Rattle.zi_choosing.specs.SelectParts.{PrintsDocument, IsUnshown, PrintsChoice, PrintsRefutation, Search, ChoosesNothing, ChoosesBest, ChoosesNone, ChoosesFrom}
 
 -- the document was printed, or it can't be written, or there was no memory for it

@@ -1,4 +1,4 @@
-use Rattle.std.proofs.Common.{inl, inr, refl, ◌∙◌}
+use Rattle.std.proofs.Common.{inl, inr, refl}
 use Rattle.zi_store.specs.Keeping.{is_reading}
 use Rattle.zi_store.proofs.KeepingLemmas.{keeps_none}
 use Rattle.zi_world.proofs.CallLemmas.{failed, not_failed, answered}
