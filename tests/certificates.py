@@ -114,7 +114,7 @@ def checks_choices():
 
 
 def judged_here(words, root, choice, text, folder):
-    """Whether the program accepts a text: `check` with the document that it selects itself, or `refute`; None where it doesn't know `check` yet."""
+    """Whether the program accepts a text: `check` with the document that it selects itself, or `refute`."""
     proof = os.path.join(folder, "proof")
     with open(proof, "wb") as file:
         file.write(text)
@@ -125,7 +125,7 @@ def judged_here(words, root, choice, text, folder):
         with open(selections, "wb") as file:
             file.write(run("select", *words, root)[1])
         status, _ = run("check", *words, root, selections, proof)
-    return {DONE: True, REJECTED: False, USAGE: None}.get(status, f"status {status}")
+    return {DONE: True, REJECTED: False}.get(status, f"status {status}")
 
 
 def wrong_of(asked, options, choice, folder):
@@ -142,7 +142,7 @@ def wrong_of(asked, options, choice, folder):
         return None
     for other in filter(None, [text, *(changed(text, chance) for _ in range(3))]):
         here = judged_here(words, asked.root, choice, other, folder)
-        if here not in (None, judge(universe, asked, choice, other)):
+        if here != judge(universe, asked, choice, other):
             return f"{here} here, and otherwise by the checker: {other}"
     return None
 
