@@ -694,7 +694,8 @@ def too_many_literals(folder):
         return versions("root.xml", 2826 - count, '<requires interface="lib.xml"/>', more)
 
     spare = 8000000 - (3 * 2826 + 2826 + 2826 * 2826)
-    selects(folder, SELECT[1:] + [asking(spare)], root="i999", lib="i999")
+    # those can't be chosen, so the last id of the other 406 is the first that can
+    selects(folder, SELECT[1:] + [asking(spare)], root="i99", lib="i999")
     expect(run(SELECT + [asking(spare + 1)], folder), *TOO_LARGE)
     # commands have their constraints too, wanted or not
     command = '<command name="run"><requires interface="lib.xml"/></command>'
