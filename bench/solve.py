@@ -29,8 +29,9 @@ def ending(count):
 
 def oldest(count):
     """One program, and another of so many versions, of which it can use the oldest alone: each newer one needs a version of a third that isn't there."""
-    others = "".join(impl(version, requires(2, ' version="5.."')) for version in range(1, count))
-    return [impl(1, requires(1)), impl(0) + others, impl(1)]
+    needs = requires(2, ' version="5.."')
+    others = "".join(f'<implementation id="{n}" version="{n}"/>' for n in range(1, count))
+    return [impl(1, requires(1)), impl(0) + f'<group local-path="here">{needs}{others}</group>', impl(1)]
 
 
 def wide(count):

@@ -74,20 +74,23 @@ class Program:
         said = {"arch": self.random.choice(PLATFORMS)} if self.some(0.4) else {}
         return {**said, "stability": self.random.choice(STABILITIES)} if self.some(0.4) else said
 
-    def implementation(self, least):
+    def implementation(self, least, inherits_run):
         self.count += 1
         version = self.random.choice(["1", "2", "3", "4", "2.1", "3-pre", "3-post1"])
         attributes = {"id": f"i{self.count}", "version": version, "local-path": ".", **self.said()}
-        if self.some(0.1):
+        # 0install lets it replace a command `run` that is inherited
+        if self.some(0.1) and not inherits_run:
             attributes["main"] = "m"
         return tag("implementation", attributes, self.needs(0.4, least) + self.commands(0.5))
 
-    def inside(self, least, depth=0):
+    def inside(self, least, depth=0, inherits_run=False):
         for _ in range(self.random.randint(1, 4 - depth)):
             if depth < 2 and self.some(0.3):
-                yield tag("group", self.said(), self.needs(0.3) + self.commands(0.2) + "".join(self.inside(least, depth + 1)))
+                said, needs, commands = self.said(), self.needs(0.3), self.commands(0.2)
+                has_run = inherits_run or 'command name="run"' in commands
+                yield tag("group", said, needs + commands + "".join(self.inside(least, depth + 1, has_run)))
             else:
-                yield self.implementation(least)
+                yield self.implementation(least, inherits_run)
 
     def write(self, folder):
         """Writes the feeds into a folder. What is asked: the options as words, and for the rules."""
