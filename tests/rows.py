@@ -93,6 +93,11 @@ def the_examples(folder):
     root = write(folder, "groups.xml", open(os.path.join(TOP, "examples", "groups.xml"), "rb").read())
     written = selections(root, "third", "1.3-rc1").replace(b'"third"', b'"third &amp; last"').replace(b"/third", b"/second")
     expect(run(["select", "--no-command", root], folder), 0, written, b"")
+    for name in ("editor", "buffer", "regex"):
+        write(folder, f"{name}.xml", open(os.path.join(TOP, "examples", f"{name}.xml"), "rb").read())
+    root = os.path.join(folder, "editor.xml")
+    selects(folder, ["--no-command", root], editor="editor-1", buffer="buffer-1", regex="regex-1")
+    expect(run(SELECT + ["--version", "2..", root], folder), 73, b"zi-proof 1\nl 0 1 5 3 0\ne\n", b"zi: no solution\n")
 
 
 SELECT = ["select", "--no-command"]
