@@ -5,12 +5,14 @@ Run it after `rt ci` (or `rt run` in crates/search_speed), which builds the prog
 random clauses of three literals, 4.26 for each variable, where about half of the formulas have a model. Pigeons in one hole are a
 group here and a clause for each pair of them for the other solvers, which know no groups; for these a conflict is what a lemma is
 here. The program decides the variables in order and never begins anew, so what it needs says how it learns, not how it guesses.
-All answers are to agree; a run that takes longer than twenty seconds is given up.
+The random formulas are numbered for all of them by how many clauses a variable stands in, the most first: the program takes what order
+it is given. All answers are to agree; a run that takes longer than twenty seconds is given up.
 """
 import sys
 
 sys.path.append(sys.path.pop(0))  # last: select.py beside this file has the name of a module that subprocess needs
 
+import collections
 import itertools
 import pathlib
 import random
@@ -54,10 +56,12 @@ def pigeons(count):
 
 
 def threes(variables, seed):
-    """Random clauses of three literals."""
+    """Random clauses of three literals, in which the first variables stand most often."""
     chance = random.Random(f"{variables} {seed}")
-    drawn = (chance.sample(range(1, variables + 1), 3) for _ in range(round(RATIO * variables)))
-    text = dimacs(variables, [[x * chance.choice((1, -1)) for x in clause] for clause in drawn])
+    drawn = [chance.sample(range(1, variables + 1), 3) for _ in range(round(RATIO * variables))]
+    often = collections.Counter(itertools.chain.from_iterable(drawn))
+    numbers = {x: number for number, (x, _) in enumerate(often.most_common(), 1)}
+    text = dimacs(variables, [[numbers[x] * chance.choice((1, -1)) for x in clause] for clause in drawn])
     return text, text
 
 
