@@ -19,20 +19,26 @@ TOP = os.path.dirname(os.path.dirname(os.path.abspath(__file__)))
 PROGRAM = os.path.join(TOP, "crates", "zi", "out", "zi")
 EMPTY = "sha256new_4OYMIQUY7QOBJGX36TEJS35ZEQT24QPEMSNZGTFESWMRW6CSXBKQ"
 OTHER = "sha256new_" + "A" * 52
+SECONDS = 120
 
 
 class Wrong(Exception):
     pass
 
 
-def begin(words, folder):
-    env = dict(os.environ, ZI_STORE=os.path.join(folder, "store"))
-    return subprocess.Popen([PROGRAM] + words, cwd=folder, env=env, stdout=subprocess.PIPE, stderr=subprocess.PIPE)
+def begin(words, folder, prepare=None, **variables):
+    env = dict(os.environ, ZI_STORE=os.path.join(folder, "store"), **variables)
+    return subprocess.Popen([PROGRAM] + words, cwd=folder, env=env, stdout=subprocess.PIPE, stderr=subprocess.PIPE, preexec_fn=prepare)
 
 
-def run(words, folder):
-    process = begin(words, folder)
-    out, err = process.communicate()
+def run(words, folder, prepare=None, **variables):
+    process = begin(words, folder, prepare, **variables)
+    try:
+        out, err = process.communicate(timeout=SECONDS)
+    except subprocess.TimeoutExpired:
+        process.kill()
+        process.communicate()
+        raise Wrong(f"{words}: no end within {SECONDS} s") from None
     return process.returncode, out, err
 
 
@@ -261,6 +267,56 @@ def killed(folder):
         whole(folder, files)
 
 
+def wherever_it_is_started(folder):
+    """Without programs in PATH, and under a parent that ignores how its children end, more files than are made to last one by one."""
+    files = {f"n{i}": b"y" * i for i in range(200)}
+    words = tree(folder, files)
+
+    def ignore_children():
+        signal.signal(signal.SIGCHLD, signal.SIG_IGN)
+
+    for prepare, variables in ((None, {"PATH": ""}), (ignore_children, {}), (ignore_children, {"PATH": ""})):
+        expect(run(words, folder, prepare, **variables), 0, b"stored\n", b"")
+        whole(folder, files)
+        holds("residues", residues(folder) == [])
+        subprocess.run(["chmod", "-R", "u+w", store(folder)], check=True)
+        shutil.rmtree(store(folder))
+
+
+def pipes_and_devices_are_no_files(folder):
+    pipe = os.path.join(folder, "pipe")
+    os.mkfifo(pipe)
+    for file in (pipe, "/dev/zero", "/dev/tty"):
+        expect(run(["store", "add", OTHER, file], folder), 65, b"", f"zi: cannot read {file}\n".encode())
+        expect(run(["select", file], folder), 65, b"", f"zi: cannot read {file}\n".encode())
+
+
+def failures_are_told(folder):
+    """Where the variable names a file, the path and the system's reason stand there; at `-`, behind the line."""
+    line = b"zi: store fault at \n"
+    told = f"{store(folder)}: Not a directory (os error 20)\n".encode()
+    write(folder, "store", b"")
+    expect(run(["store", "list"], folder), 90, b"", line)
+    expect(run(["store", "list"], folder, ZI_LOG="-"), 90, b"", line + told)
+    expect(run(["store", "list"], folder, ZI_LOG=""), 90, b"", line)
+    log = os.path.join(folder, "log")
+    for times in (1, 2):
+        expect(run(["store", "list"], folder, ZI_LOG=log), 90, b"", line)
+        holds("log", open(log, "rb").read() == told * times)
+    expect(run(["store", "list"], folder, ZI_LOG=folder), 90, b"", line)
+    os.remove(store(folder))
+    expect(run(["store", "list"], folder, ZI_LOG=os.path.join(folder, "none")), 0, b"", b"")
+    holds("no failure, no file", not os.path.exists(os.path.join(folder, "none")))
+    pipe = os.path.join(folder, "pipe")
+    os.mkfifo(pipe)
+    expect(run(["select", pipe], folder, ZI_LOG="-"), 65, b"", f"zi: cannot read {pipe}\n{pipe}: is not a file\n".encode())
+    os.makedirs(os.path.join(store(folder), "t"))
+    os.mkfifo(os.path.join(store(folder), "t", "pipe"))
+    expect(
+        run(["manifest", "sha256", "t"], folder, ZI_LOG="-"), 90, b"", f"zi: store fault at t\n{store(folder)}/t: is not a file, a folder or a link\n".encode()
+    )
+
+
 ROWS = [
     added_listed_verified,
     no_files_are_the_empty_tree,
@@ -272,6 +328,9 @@ ROWS = [
     what_is_stored_counts_in_rank,
     an_empty_folder_under_the_name_is_present,
     taken_temporary_names,
+    wherever_it_is_started,
+    pipes_and_devices_are_no_files,
+    failures_are_told,
     two_at_once,
     killed,
 ]
@@ -281,7 +340,8 @@ def main():
     if not os.path.exists(PROGRAM):
         sys.exit(f"{PROGRAM} isn't built: run `rt ci` first")
     failed = 0
-    for row in ROWS:
+    for number, row in enumerate(ROWS, 1):
+        print(f"{number} of {len(ROWS)}: {row.__name__}", flush=True)
         with tempfile.TemporaryDirectory() as folder:
             try:
                 row(folder)

@@ -66,6 +66,17 @@ pub fn feeds_folder<R: Env + AllocGlobal>(rt: &R) -> Result<Text, Memory> {
     text_or(rt, "ZI_FEEDS", "feeds")
 }
 
+/// Where failures are told: the file that the variable `ZI_LOG` names, or standard error where it is `-`. None where it isn't
+/// set, is empty or no UTF-8.
+pub fn log_name<R: Env + AllocGlobal>(rt: &R) -> Result<Option<Text>, Memory> {
+    let name = text_or(rt, "ZI_LOG", "")?;
+    Ok(if name.as_str().is_empty() {
+        None
+    } else {
+        Some(name)
+    })
+}
+
 // A path in a folder.
 fn joined(alloc: Global, folder: &str, path: &str) -> Result<Text, Memory> {
     let mut whole = String::from_str(alloc, folder)?;

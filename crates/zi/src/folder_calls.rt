@@ -1,7 +1,7 @@
 //! The calls of the system that a shelf in a folder makes, each by paths.
 ghost use Rattle.std.specs.Prelude.{◌≤◌, IfOk, vec_len};
 
-use crate::trouble::Trouble;
+use crate::trouble::{Reason, Trouble};
 use std::fs::{self, File, Permissions};
 use std::io::{self, ErrorKind, Write};
 use std::os::unix::fs::{FileExt, MetadataExt, OpenOptionsExt, PermissionsExt, symlink};
@@ -22,6 +22,17 @@ const EXEC_BITS: u32 = 0o111;
 
 // The most bytes that are read at once.
 const PIECE: usize = 65_536;
+
+// Why a call fails on something else.
+const NO_FILE: Reason = Reason::IsNot("a file");
+
+const NO_FOLDER: Reason = Reason::IsNot("a folder");
+
+// Up to so many files and folders are made to last one by one, which doesn't wait for what others write.
+const FEW: usize = 128;
+
+// Where programs stand, whatever the environment says.
+const USUAL_PLACES: [&str; 2] = ["/usr/bin/", "/bin/"];
 
 // Whether nothing stands under a path.
 fn is_absence(error: &io::Error) -> bool {
@@ -79,14 +90,14 @@ fn kind_of(metadata: &fs::Metadata) -> Result<EntryKind, Trouble> {
     } else if metadata.is_dir() {
         Ok(EntryKind::Folder)
     } else {
-        Err(Trouble::Failed)
+        Err(Trouble::Failed(Reason::IsNot("a file, a folder or a link")))
     }
 }
 
 /// The entries of the folder at a path.
 pub fn list_entries(rt: &HostRuntime, path: &str) -> Result<List<Entry>, Trouble> {
     if !is_folder(rt, path)? {
-        return Err(Trouble::Failed);
+        return Err(Trouble::Failed(NO_FOLDER));
     }
     let mut entries = List::new(rt.alloc());
     for entry in fs::read_dir(rt, path)? {
@@ -104,7 +115,7 @@ pub fn read_piece(rt: &HostRuntime, path: &str, offset: u64, max: u32) -> Result
 {
     let mut bytes = Vec::new(rt.alloc());
     if !fs::symlink_metadata(rt, path)?.is_file() {
-        return Err(Trouble::Failed);
+        return Err(Trouble::Failed(NO_FILE));
     }
     let most = (max as usize).min(PIECE);
     // The system knows no offset past this, and no file is that long.
@@ -127,8 +138,10 @@ pub fn link_target(rt: &HostRuntime, path: &str) -> Result<Text, Trouble> {
 // Holds the shelf's folder against other launchers until it is dropped.
 fn held(rt: &HostRuntime, root: &str) -> Result<File, Trouble> {
     let folder = fs::open(rt, root)?;
-    folder.lock()?;
-    Ok(folder)
+    match folder.lock() {
+        Ok(()) => Ok(folder),
+        Err(error) => Err(Trouble::Failed(Reason::Lock(error))),
+    }
 }
 
 /// Makes a top entry, and the shelf's folder where that is missing.
@@ -151,21 +164,21 @@ pub fn make_folder(rt: &HostRuntime, path: &str) -> Result<(), Trouble> {
 /// Adds bytes to a file, which is made where it isn't there. Part of them may have been written before a failure.
 pub fn append(rt: &HostRuntime, path: &str, bytes: &[u8]) -> Result<(), Trouble> {
     if is_no_file(rt, path)? {
-        return Err(Trouble::Failed);
+        return Err(Trouble::Failed(NO_FILE));
     }
     let mut options = File::options();
     options.append(true).create(true).mode(OPEN_MODE);
     let mut file = options.open(rt, path)?;
     match file.write_all(bytes) {
         Ok(()) => Ok(()),
-        Err(_) => Err(Trouble::Failed),
+        Err(error) => Err(Trouble::Failed(Reason::System(error))),
     }
 }
 
 /// Sets a file's mode and time. A file system that can't keep the time fails.
 pub fn finish_file(rt: &HostRuntime, path: &str, exec: bool, mtime: i64) -> Result<(), Trouble> {
     if is_no_file(rt, path)? {
-        return Err(Trouble::Failed);
+        return Err(Trouble::Failed(NO_FILE));
     }
     let file = fs::open(rt, path)?;
     let mode = if exec { EXEC_MODE } else { FILE_MODE };
@@ -177,27 +190,25 @@ pub fn finish_file(rt: &HostRuntime, path: &str, exec: bool, mtime: i64) -> Resu
     if file.metadata()?.mtime() == mtime {
         Ok(())
     } else {
-        Err(Trouble::Failed)
+        Err(Trouble::Failed(Reason::OtherTime))
     }
 }
 
 // Sets a time from 1970 on.
 fn set_time(file: &File, seconds: u64) -> Result<(), Trouble> {
     let Some(time) = SystemTime::UNIX_EPOCH.checked_add(Duration::from_secs(seconds)) else {
-        return Err(Trouble::Failed);
+        return Err(Trouble::Failed(Reason::OtherTime));
     };
     file.set_modified(time)?;
     Ok(())
 }
 
-// Sets a time before 1970, for which std has no value.
+// Sets a time before 1970, for which std has no value. Whether the file has it is looked at then: where the parent ignores how its
+// children end, nobody learns how the program ended.
 fn touch(rt: &HostRuntime, path: &str, mtime: i64) -> Result<(), Trouble> {
     let time = format!(in rt.alloc(); "@{mtime}")?;
-    let mut command = Command::new(rt.alloc(), "touch")?;
-    for word in ["-m", "-d", time.as_str(), "--", path] {
-        command.arg(word)?;
-    }
-    succeed(rt, command)
+    ends_well(rt, "touch", &["-m", "-d", time.as_str(), "--", path])?;
+    Ok(())
 }
 
 /// Makes a link.
@@ -206,32 +217,75 @@ pub fn make_link(rt: &HostRuntime, target: &str, path: &str) -> Result<(), Troub
     Ok(())
 }
 
-/// Makes all in a top entry last through a crash.
+/// Makes all in a top entry last through a crash: one by one where there are few files and folders, else by the program `sync`,
+/// which waits for the whole file system, and one by one where that isn't there or nobody learns how it ended.
 pub fn settle(rt: &HostRuntime, path: &str) -> Result<(), Trouble> {
-    let mut command = Command::new(rt.alloc(), "sync")?;
-    for word in ["-f", "--", path] {
-        command.arg(word)?;
+    let paths = files_and_folders(rt, path)?;
+    if paths.len() > FEW && ends_well(rt, "sync", &["-f", "--", path])? {
+        return Ok(());
     }
-    succeed(rt, command)
+    for path in paths.as_slice() {
+        fs::open(rt, path.as_str())?.sync_all()?;
+    }
+    Ok(())
 }
 
-// Runs a program that is to end well.
-fn succeed(rt: &HostRuntime, mut command: Command) -> Result<(), Trouble> {
-    command.stdin(Stdio::null());
-    command.stdout(Stdio::null());
-    command.stderr(Stdio::null());
-    if command.status(rt)?.success() {
-        Ok(())
-    } else {
-        Err(Trouble::Failed)
+// The paths of all files and folders of a tree, each folder before what is in it.
+fn files_and_folders(rt: &HostRuntime, top: &str) -> Result<Vec<String>, Trouble> {
+    let mut paths = Vec::new(rt.alloc());
+    paths.push(String::from_str(rt.alloc(), top)?)?;
+    for next in 0..usize::MAX {
+        let Some(path) = paths.get(next) else {
+            break;
+        };
+        let mut inside = inside_of(rt, path.as_str())?;
+        paths.append(&mut inside)?;
     }
+    Ok(paths)
+}
+
+// The paths of the files and folders in a folder; none in a file.
+fn inside_of(rt: &HostRuntime, path: &str) -> Result<Vec<String>, Trouble> {
+    let mut paths = Vec::new(rt.alloc());
+    if !is_folder(rt, path)? {
+        return Ok(paths);
+    }
+    for entry in fs::read_dir(rt, path)? {
+        let entry = entry?;
+        if !entry.file_type()?.is_symlink() {
+            let mut inside = String::from_str(rt.alloc(), path)?;
+            inside.push('/')?;
+            inside.push_str(entry.file_name())?;
+            paths.push(inside)?;
+        }
+    }
+    Ok(paths)
+}
+
+// Runs a program that stands in one of the usual places; whether it is known to have ended well.
+fn ends_well(rt: &HostRuntime, program: &str, words: &[&str]) -> Result<bool, Trouble> {
+    for place in USUAL_PLACES {
+        let mut path = String::from_str(rt.alloc(), place)?;
+        path.push_str(program)?;
+        let mut command = Command::new(rt.alloc(), path.as_str())?;
+        for word in words {
+            command.arg(*word)?;
+        }
+        command.stdin(Stdio::null());
+        command.stdout(Stdio::null());
+        command.stderr(Stdio::null());
+        if let Ok(status) = command.status(rt) {
+            return Ok(status.success());
+        }
+    }
+    Ok(false)
 }
 
 /// Gives a top entry another name, unless something stands there.
 pub fn rename(rt: &HostRuntime, root: &str, from: &str, to: &str) -> Result<Moved, Trouble> {
     let _folder = held(rt, root)?;
     if !is_there(rt, from)? {
-        return Err(Trouble::Failed);
+        return Err(Trouble::Failed(Reason::IsNot("there")));
     }
     if is_there(rt, to)? {
         return Ok(Moved::Exists);
@@ -262,6 +316,6 @@ pub fn sync_folder(rt: &HostRuntime, path: &str) -> Result<(), Trouble> {
 pub fn remove(rt: &HostRuntime, path: &str) -> Result<(), Trouble> {
     match fs::remove_dir_all(rt, path) {
         Ok(()) => Ok(()),
-        Err(_) => Err(Trouble::Failed),
+        Err(error) => Err(Trouble::Failed(Reason::System(error))),
     }
 }

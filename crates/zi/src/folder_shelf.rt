@@ -7,7 +7,8 @@ use crate::folder_calls::{
     append, finish_file, is_folder, is_there, link_target, list_entries, list_names, make_folder,
     make_link, make_top, read_piece, remove, rename, settle, sync_folder,
 };
-use crate::trouble::Trouble;
+use crate::log::Log;
+use crate::trouble::{Reason, Trouble};
 use zi_shelf::{Listed, Moved, Shelf, ShelfFault, TopMade};
 use zi_text::{List, Memory, Text};
 use zi_tree::RelPath;
@@ -21,6 +22,7 @@ pub struct FolderShelf {
     rt: HostRuntime,
     root: Text,
     faults: u64,
+    log: Log,
 }
 
 impl FolderShelf {
@@ -30,7 +32,13 @@ impl FolderShelf {
             rt,
             root,
             faults: 0,
+            log: Log::new(rt.alloc()),
         }
+    }
+
+    /// What failed.
+    pub fn log(&self) -> &Log {
+        &self.log
     }
 
     // The path of a top entry.
@@ -46,7 +54,7 @@ impl FolderShelf {
         let mut path = self.top_path(top)?;
         for part in inside.parts().as_slice() {
             if !is_folder(&self.rt, path.as_str())? {
-                return Err(Trouble::Failed);
+                return Err(Trouble::Failed(Reason::IsNot("inside a folder")));
             }
             path.push('/')?;
             path.push_str(part.as_str())?;
@@ -57,7 +65,7 @@ impl FolderShelf {
     // The path of an entry in a top entry, which isn't the top entry itself.
     fn way_inside(&self, top: &str, inside: &RelPath) -> Result<String, Trouble> {
         if inside.parts().is_empty() {
-            return Err(Trouble::Failed);
+            return Err(Trouble::Failed(Reason::IsNot("inside a tree")));
         }
         self.way_to(top, inside)
     }
@@ -135,8 +143,13 @@ impl FolderShelf {
         remove(&self.rt, path.as_str())
     }
 
-    // Counts a failure.
-    fn answer<T>(&mut self, outcome: Result<T, Trouble>) -> Result<T, ShelfFault>
+    // Counts a failure, and tells it with the path of the folder, of a top entry, or of what stands in one.
+    fn answer<T>(
+        &mut self,
+        top: &[&str],
+        inside: &[Text],
+        outcome: Result<T, Trouble>,
+    ) -> Result<T, ShelfFault>
         ensures cause { HasCause self.old.faults self.new.faults (plain_reply result) }
         ensures same { IfOk result (λ value. (outcome ≡ Ok value) × (self.new.faults ≡ self.old.faults)) }
         ensures root { self.new.root ≡ self.old.root }
@@ -144,8 +157,9 @@ impl FolderShelf {
         match outcome {
             Ok(value) => Ok(value),
             Err(Trouble::Memory) => Err(ShelfFault::Memory),
-            Err(Trouble::Failed) => {
+            Err(Trouble::Failed(reason)) => {
                 self.faults = self.faults.saturating_add(1);
+                self.log.tell(self.root.as_str(), top, inside, reason);
                 Err(ShelfFault::Failed)
             }
         }
@@ -168,13 +182,13 @@ impl Shelf for FolderShelf {
     #[tactic(auto, using(crate::proofs::FolderLemmas::folding))]
     fn names(&mut self) -> Result<List<Text>, ShelfFault> {
         let found = list_names(&self.rt, self.root.as_str());
-        self.answer(found)
+        self.answer(&[], &[], found)
     }
 
     #[tactic(auto, using(crate::proofs::FolderLemmas::folding))]
     fn entries(&mut self, top: &str, path: &RelPath) -> Result<Listed, ShelfFault> {
         let found = self.listed(top, path);
-        self.answer(found)
+        self.answer(&[top], path.parts().as_slice(), found)
     }
 
     #[tactic(auto, using(crate::proofs::FolderLemmas::folding))]
@@ -187,7 +201,7 @@ impl Shelf for FolderShelf {
         into: &mut Vec<u8>,
     ) -> Result<(), ShelfFault> {
         let found = self.piece(top, path, offset, max);
-        let piece = self.answer(found)?;
+        let piece = self.answer(&[top], path.parts().as_slice(), found)?;
         match into.extend_from_slice(piece.as_slice()) {
             Ok(()) => Ok(()),
             Err(_) => Err(ShelfFault::Memory),
@@ -197,25 +211,25 @@ impl Shelf for FolderShelf {
     #[tactic(auto, using(crate::proofs::FolderLemmas::folding))]
     fn target(&mut self, top: &str, path: &RelPath) -> Result<Text, ShelfFault> {
         let found = self.link(top, path);
-        self.answer(found)
+        self.answer(&[top], path.parts().as_slice(), found)
     }
 
     #[tactic(auto, using(crate::proofs::FolderLemmas::folding))]
     fn make_top(&mut self, name: &str) -> Result<TopMade, ShelfFault> {
         let made = self.new_top(name);
-        self.answer(made)
+        self.answer(&[name], &[], made)
     }
 
     #[tactic(auto, using(crate::proofs::FolderLemmas::folding))]
     fn make_folder(&mut self, top: &str, path: &RelPath) -> Result<(), ShelfFault> {
         let made = self.new_folder(top, path);
-        self.answer(made)
+        self.answer(&[top], path.parts().as_slice(), made)
     }
 
     #[tactic(auto, using(crate::proofs::FolderLemmas::folding))]
     fn append(&mut self, top: &str, path: &RelPath, bytes: &[u8]) -> Result<(), ShelfFault> {
         let done = self.more(top, path, bytes);
-        self.answer(done)
+        self.answer(&[top], path.parts().as_slice(), done)
     }
 
     #[tactic(auto, using(crate::proofs::FolderLemmas::folding))]
@@ -227,36 +241,36 @@ impl Shelf for FolderShelf {
         mtime: i64,
     ) -> Result<(), ShelfFault> {
         let done = self.finished(top, path, exec, mtime);
-        self.answer(done)
+        self.answer(&[top], path.parts().as_slice(), done)
     }
 
     #[tactic(auto, using(crate::proofs::FolderLemmas::folding))]
     fn make_link(&mut self, top: &str, path: &RelPath, target: &str) -> Result<(), ShelfFault> {
         let made = self.new_link(top, path, target);
-        self.answer(made)
+        self.answer(&[top], path.parts().as_slice(), made)
     }
 
     #[tactic(auto, using(crate::proofs::FolderLemmas::folding))]
     fn settle(&mut self, top: &str) -> Result<(), ShelfFault> {
         let done = self.settled(top);
-        self.answer(done)
+        self.answer(&[top], &[], done)
     }
 
     #[tactic(auto, using(crate::proofs::FolderLemmas::folding))]
     fn rename(&mut self, from: &str, to: &str) -> Result<Moved, ShelfFault> {
         let done = self.renamed(from, to);
-        self.answer(done)
+        self.answer(&[from], &[], done)
     }
 
     #[tactic(auto, using(crate::proofs::FolderLemmas::folding))]
     fn settle_top(&mut self) -> Result<(), ShelfFault> {
         let done = sync_folder(&self.rt, self.root.as_str());
-        self.answer(done)
+        self.answer(&[], &[], done)
     }
 
     #[tactic(auto, using(crate::proofs::FolderLemmas::folding))]
     fn remove_top(&mut self, name: &str) -> Result<(), ShelfFault> {
         let done = self.removed(name);
-        self.answer(done)
+        self.answer(&[name], &[], done)
     }
 }

@@ -6,15 +6,17 @@ mod arguments;
 mod folder_calls;
 mod folder_feeds;
 mod folder_shelf;
+mod log;
 mod piecewise;
 #[cfg(test)]
 mod shelf_tests;
 mod std_sink;
 mod trouble;
 
-use arguments::{TextWords, feeds_folder, store_folder, words};
+use arguments::{TextWords, feeds_folder, log_name, store_folder, words};
 use folder_feeds::FolderFeeds;
 use folder_shelf::FolderShelf;
+use log::write_log;
 use std::process::ExitCode;
 use std_sink::StdSink;
 use zi_app::{Outcome, refuse, run};
@@ -25,15 +27,16 @@ use zi_text::Memory;
 fn work(rt: &HostRuntime) -> Result<Outcome, Memory> {
     let alloc = rt.alloc();
     let TextWords { texts, whole } = words(rt, alloc)?;
-    let mut err = StdSink::new(rt.stderr());
+    let mut err = StdSink::new(alloc, "standard error", rt.stderr());
     if !whole {
         return Ok(refuse(alloc, texts.as_slice(), &mut err));
     }
+    let log_name = log_name(rt)?;
     let vars = Vars::new(alloc);
     let mut feeds = FolderFeeds::new(rt, feeds_folder(rt)?);
     let mut shelf = FolderShelf::new(*rt, store_folder(rt)?);
-    let mut out = StdSink::new(rt.stdout());
-    Ok(run(
+    let mut out = StdSink::new(alloc, "standard output", rt.stdout());
+    let outcome = run(
         alloc,
         texts.as_slice(),
         &vars,
@@ -41,7 +44,14 @@ fn work(rt: &HostRuntime) -> Result<Outcome, Memory> {
         &mut shelf,
         &mut out,
         &mut err,
-    ))
+    );
+    if let Some(name) = log_name {
+        let _ = write_log(rt, &name, feeds.log().as_bytes());
+        let _ = write_log(rt, &name, shelf.log().as_bytes());
+        let _ = write_log(rt, &name, out.log().as_bytes());
+        let _ = write_log(rt, &name, err.log().as_bytes());
+    }
+    Ok(outcome)
 }
 
 fn main(rt: HostRuntime) -> ExitCode {
@@ -81,7 +91,7 @@ mod tests {
     #[test]
     fn a_stream_takes_what_is_put(rt: HostRuntime) -> Result<(), Fail> {
         let mut bytes = Vec::new(rt.alloc());
-        let mut sink = StdSink::new(&mut bytes);
+        let mut sink = StdSink::new(rt.alloc(), "bytes", &mut bytes);
         assert!(rt; sink.put(b"ab".as_slice()) == Ok(()));
         Ok(())
     }

@@ -3,6 +3,7 @@ ghost use Rattle.std.specs.Prelude.{◌≡◌, ◌≤◌, ℕ, List, None, IfOk,
 ghost use Rattle.zi.specs.Found.{FitsIn};
 ghost use Rattle.zi_outside.specs.Outside.{Finds};
 
+use crate::trouble::{Reason, Trouble};
 use std::alloc::Global;
 use std::io::{self, Read};
 use zi_outside::{FeedsFault, Got};
@@ -18,17 +19,8 @@ pub enum Found {
     TooLong,
 }
 
-/// The fault that an error of the system is.
-pub fn fault_of(error: &io::Error) -> FeedsFault {
-    if error.kind() == io::ErrorKind::OutOfMemory {
-        FeedsFault::Memory
-    } else {
-        FeedsFault::Failed
-    }
-}
-
 /// All that a reader gives, where that is within the limit. At most one piece past the limit is read.
-pub fn read_up_to<R: Read>(alloc: Global, reader: &mut R, limit: u64) -> Result<Found, FeedsFault>
+pub fn read_up_to<R: Read>(alloc: Global, reader: &mut R, limit: u64) -> Result<Found, Trouble>
     ensures { IfOk result (FitsIn limit) }
 {
     let mut bytes = Vec::new(alloc);
@@ -40,18 +32,16 @@ pub fn read_up_to<R: Read>(alloc: Global, reader: &mut R, limit: u64) -> Result<
                 if (bytes.len() as u64).saturating_add(count as u64) > limit {
                     return Ok(Found::TooLong);
                 }
-                if bytes.extend_from_slice(&piece[..count]).is_err() {
-                    return Err(FeedsFault::Memory);
-                }
+                bytes.extend_from_slice(&piece[..count])?;
             }
             Err(error) => {
                 if error.kind() != io::ErrorKind::Interrupted {
-                    return Err(fault_of(&error));
+                    return Err(Trouble::from(error));
                 }
             }
         }
     }
-    Err(FeedsFault::Failed)
+    Err(Trouble::Failed(Reason::IsNot("a file that ends")))
 }
 
 /// Adds what was found to the buffer.

@@ -1,18 +1,33 @@
 //! The standard streams.
+use crate::log::Log;
+use crate::trouble::Reason;
+use std::alloc::Global;
 use std::io::Write;
 use zi_outside::{Sink, SinkFault};
 
 /// A sink over a stream, which doesn't tell what was written.
 #[derive(Drop)]
 pub struct StdSink<W: Write> {
+    name: &'static str,
     writer: W,
     faults: u64,
+    log: Log,
 }
 
 impl<W: Write + Drop> StdSink<W> {
-    /// The sink of a stream, without a fault.
-    pub fn new(writer: W) -> StdSink<W> {
-        StdSink { writer, faults: 0 }
+    /// The sink of a stream of this name, without a fault.
+    pub fn new(alloc: Global, name: &'static str, writer: W) -> StdSink<W> {
+        StdSink {
+            name,
+            writer,
+            faults: 0,
+            log: Log::new(alloc),
+        }
+    }
+
+    /// What failed.
+    pub fn log(&self) -> &Log {
+        &self.log
     }
 }
 
@@ -24,7 +39,8 @@ impl<W: Write + Drop> Sink for StdSink<W> {
     fn put(&mut self, bytes: &[u8]) -> Result<(), SinkFault> {
         match self.writer.write_all(bytes) {
             Ok(()) => Ok(()),
-            Err(_) => {
+            Err(error) => {
+                self.log.tell(self.name, &[], &[], Reason::System(error));
                 self.faults = self.faults.saturating_add(1);
                 Err(SinkFault::Failed)
             }

@@ -1,14 +1,39 @@
 //! What comes of calls of the system.
 
 use std::alloc::{AllocError, AllocFailed};
+use std::fmt::{self, Display, Formatter, Write};
 use std::io::{self, ErrorKind};
 use zi_text::Memory;
 
+/// Why a call failed.
+#[derive(Clone, Copy, Debug)]
+pub enum Reason {
+    /// The system refused it.
+    System(io::Error),
+    /// The system refused a lock.
+    Lock(io::Error),
+    /// What stands there isn't what was asked for: it is not this.
+    IsNot(&'static str),
+    /// A time of change was set, and the file has another.
+    OtherTime,
+}
+
+impl Display for Reason {
+    fn fmt<W: Write>(&self, f: &mut Formatter<W>) -> fmt::Result {
+        match self {
+            Reason::System(error) => write!(f, "{error}"),
+            Reason::Lock(error) => write!(f, "can't be locked: {error}"),
+            Reason::IsNot(kind) => write!(f, "is not {kind}"),
+            Reason::OtherTime => write!(f, "doesn't keep its time of change"),
+        }
+    }
+}
+
 /// Why a call of the system did nothing useful.
-#[derive(Clone, Copy, Debug, PartialEq, Eq)]
+#[derive(Clone, Copy, Debug)]
 pub enum Trouble {
     /// The system refused it, or what was found doesn't fit.
-    Failed,
+    Failed(Reason),
     /// Memory was refused.
     Memory,
 }
@@ -18,7 +43,7 @@ impl From<io::Error> for Trouble {
         if error.kind() == ErrorKind::OutOfMemory {
             Trouble::Memory
         } else {
-            Trouble::Failed
+            Trouble::Failed(Reason::System(error))
         }
     }
 }

@@ -58,6 +58,8 @@ Options of select and refute, before ROOT:
 Feeds of web addresses are files in the folder that ZI_FEEDS names (default: feeds), each
 named by its address with every byte but letters, digits, -, . and _ percent-encoded.
 Trees are stored in the folder that ZI_STORE names (default: store), each under its digest.
+Where ZI_LOG names a file, the path and the system's reason of each failure are added to it,
+or written to standard error where it is -.
 
 Status, and the line on standard error behind \"zi: \":
      0  (no line)                     done
