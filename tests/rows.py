@@ -14,6 +14,7 @@ import tempfile
 TOP = os.path.dirname(os.path.dirname(os.path.abspath(__file__)))
 PROGRAM = os.path.join(TOP, "crates", "zi", "out", "zi")
 READER = os.path.join(TOP, "crates", "doc_speed", "out", "doc_speed")
+SECONDS = 120
 NS = "http://zero-install.sourceforge.net/2004/injector/interface"
 
 
@@ -25,7 +26,10 @@ def run(words, folder, stdout=subprocess.PIPE, feeds=None):
     env = {name: value for name, value in os.environ.items() if name not in ("ZI_FEEDS", "ZI_STORE")}
     if feeds is not None:
         env["ZI_FEEDS"] = feeds
-    done = subprocess.run([PROGRAM] + words, cwd=folder, env=env, stdout=stdout, stderr=subprocess.PIPE)
+    try:
+        done = subprocess.run([PROGRAM] + words, cwd=folder, env=env, stdout=stdout, stderr=subprocess.PIPE, timeout=SECONDS)
+    except subprocess.TimeoutExpired:
+        raise Wrong(f"{words}: no end within {SECONDS} s") from None
     return done.returncode, done.stdout, done.stderr
 
 
@@ -748,7 +752,7 @@ SIGNED = (
 
 def says(text):
     """What the reader of documents says of a text: `ok`, or the kind of its fault and the place."""
-    return subprocess.run([READER], input=text, stdout=subprocess.PIPE, check=True).stdout.decode().strip()
+    return subprocess.run([READER], input=text, stdout=subprocess.PIPE, check=True, timeout=SECONDS).stdout.decode().strip()
 
 
 def documents(folder):
@@ -808,7 +812,8 @@ def main():
             print(f"{os.path.relpath(program, TOP)} isn't there: run the gate first")
             return 1
     failed = 0
-    for row in ROWS:
+    for number, row in enumerate(ROWS, 1):
+        print(f"{number} of {len(ROWS)}: {row.__name__}", flush=True)
         folder = tempfile.mkdtemp(prefix="zi-rows-")
         try:
             row(folder)
