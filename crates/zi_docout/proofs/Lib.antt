@@ -7,3 +7,4 @@ pub mod ToldLemmas
 pub mod BackLaws
 pub mod WalkLemmas
 pub mod TextLemmas
+pub mod AddingLemmas

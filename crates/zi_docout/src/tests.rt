@@ -237,3 +237,23 @@ fn what_is_written_is_read(rt: HostRuntime) -> Result<(), Fail> {
     assert!(rt; kept == root.children);
     Ok(())
 }
+
+// An element that is made attribute by attribute and child by child, to the byte.
+#[test]
+fn an_element_is_made(rt: HostRuntime) -> Result<(), Fail> {
+    let alloc = rt.alloc();
+    let mut attrs = List::new(alloc);
+    crate::put_attr(alloc, &mut attrs, "a", "1")?;
+    crate::put_attr(alloc, &mut attrs, "b", "2")?;
+    let inner = crate::element(alloc, "inner", List::new(alloc), List::new(alloc))?;
+    let mut children = List::new(alloc);
+    crate::put_child(&mut children, inner)?;
+    let outer = crate::element(alloc, "outer", attrs, children)?;
+    let mut into = Vec::new(alloc);
+    assert_eq!(rt; write(alloc, &outer, &mut into), Ok(()));
+    assert_eq!(rt;
+        into.as_slice(),
+        b"<?xml version=\"1.0\" encoding=\"utf-8\"?>\n<outer xmlns=\"http://zero-install.sourceforge.net/2004/injector/interface\" a=\"1\" b=\"2\">\n  <inner/>\n</outer>\n".as_slice()
+    );
+    Ok(())
+}

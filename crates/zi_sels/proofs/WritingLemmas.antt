@@ -1,17 +1,16 @@
--- What is written for a default, an element among nodes, a text, and digests.
-use Rattle.std.proofs.Common.{◌≡◌, ◌≢◌, ℕ, ◌==◌, true, false, List, [], ◌∷◌, ◌++◌, map, length, Ok, Err, refl, sym, ap, ◌∙◌, arith}
-use Rattle.std.specs.Prelude.{Result, OnOk, bytes_eq, codes}
+-- What is written for a default, for no element, a text, and digests.
+use Rattle.std.proofs.Common.{◌≡◌, ◌≢◌, ℕ, ◌==◌, true, false, List, [], ◌∷◌, ◌++◌, map, length, refl, sym, ap, ◌∙◌, arith}
+use Rattle.std.specs.Prelude.{bytes_eq, codes}
 use Rattle.std.specs.List.{position_or_len, after_first}
-use Rattle.zi_elements.specs.declared.element.Element.{Element}
 use Rattle.zi_elements.specs.declared.element.Node.{Node}
 use Rattle.zi_elements.specs.declared.element.Node.TheVariants as nodes
-use Rattle.std.proofs.lemmas.List.{map-append, append-nil}
-use Rattle.zi_forest.specs.Forest.{Elem, element_view, node_view, nodes_view}
+use Rattle.std.proofs.lemmas.List.{append-nil}
+use Rattle.zi_forest.specs.Forest.{Elem, node_view, nodes_view}
 use Rattle.zi_digest.specs.declared.DigestName.{DigestName}
 use Rattle.zi_docout.specs.Amiss.{alone}
-use Rattle.zi_docout.proofs.ForestLemmas.{child_view, words_view, node_alone}
-use Rattle.zi_sels.specs.Written.{attr, attr_unless, elem, text_node, digest_attrs, digests_elems}
-use Rattle.zi_sels.specs.Adding.{Adds}
+use Rattle.zi_docout.proofs.ForestLemmas.{words_view, node_alone}
+use Rattle.zi_docout.specs.Elements.{attr, elem, Adds}
+use Rattle.zi_sels.specs.Written.{attr_unless, text_node, digest_attrs, digests_elems}
 
 -- a value that is the default is left out, and another one is written
 pub unless_same : (default name value : List ℕ) → bytes_eq value default ≡ true → attr_unless default name value ≡ []
@@ -21,16 +20,6 @@ pub unless_other : (default name value : List ℕ) → bytes_eq value default �
 unless_other default name value e = rw e refl
 
 pub ruleset leaving_out = (unless_same, unless_other)
-
--- an element among nodes
-pub child_alone : (e : Element) → node_view (nodes.Child e) ≡ alone (element_view e)
-child_alone e = child_view e
-
-pub pushed : {X E : Type 0} (r : Result X E) (old new : List Node) (e : Element) → OnOk r (new ≡ old ++ nodes.Child e ∷ [])
-    → OnOk r (Adds old new (element_view e ∷ []))
-pushed (Ok u) old new e h =
-    ap (map node_view) h ∙ (map-append node_view old (nodes.Child e ∷ []) ∙ ap (λ v. map node_view old ++ v ∷ []) (child_alone e))
-pushed (Err f) old new e h = h
 
 -- no element adds nothing
 pub nothing_added : (old : List Node) (elems : List Elem) → elems ≡ [] → Adds old old elems

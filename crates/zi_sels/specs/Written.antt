@@ -2,9 +2,9 @@
 use Rattle.std.specs.Prelude.{ℕ, Bool, true, false, List, [], ◌∷◌, ◌++◌, map, filter, bytes_eq, codes, Option, Some, None, option_map, unwrap_or, if◌then◌else◌}
 use Rattle.hex.specs.Hex.{encode_lower}
 use Rattle.zi_elements.specs.declared.element.Attr.{Attr}
-use Rattle.zi_forest.specs.Forest.{Forest, none, words, gathered, Elem}
+use Rattle.zi_forest.specs.Forest.{Forest, none, words, Elem}
 use Rattle.zi_docout.specs.Canonical as canonical
-use Rattle.zi_docout.specs.Amiss.{alone}
+use Rattle.zi_docout.specs.Elements.{attr, elem}
 use Rattle.zi_digest.specs.Name.{algorithm_of, base32}
 use Rattle.zi_digest.specs.declared.Algorithm.{Algorithm}
 use Rattle.zi_digest.specs.declared.Algorithm.TheVariants.{Sha1new, Sha256, Sha256new}
@@ -30,25 +30,13 @@ use Rattle.zi_sels.specs.declared.types.Selections.{Selections}
 
 -- Small words.
 
--- an attribute without a namespace
-abbrev pub attr : List ℕ → List ℕ → Attr
-attr name value = record { space = []; name = name; value = value }
-
--- one that stands only where there is a value
+-- an attribute that stands only where there is a value
 abbrev pub attr_of : List ℕ → Option (List ℕ) → List Attr
 attr_of name value = optional (option_map (attr name) value)
 
 -- one that is left out where it has its default
 abbrev pub attr_unless : List ℕ → List ℕ → List ℕ → List Attr
 attr_unless default name value = if bytes_eq value default then [] else attr name value ∷ []
-
--- elements as nodes
-abbrev pub nodes : List Elem → Forest
-nodes inside = gathered (map alone inside)
-
--- an element of the injector's namespace
-abbrev pub elem : List ℕ → List Attr → List Elem → Elem
-elem name attrs inside = record { space = canonical.injector; name = name; attrs = attrs; inside = nodes inside; place = 0 }
 
 -- a text as nodes; the empty text is none
 abbrev pub text_node : List ℕ → Forest

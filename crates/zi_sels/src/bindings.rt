@@ -1,12 +1,12 @@
 //! Bindings and dependencies as elements.
 ghost use Rattle.std.specs.Prelude.{◌≡◌, ◌∷◌, [], ◌++◌, map, codes, IfOk, OnOk};
 ghost use Rattle.zi_forest.specs.Forest.{element_view};
-ghost use Rattle.zi_sels.specs.Written.{attr, extra_attr, mode_attrs, kind_attrs, binding_elem, dep_elem};
-ghost use Rattle.zi_sels.specs.Adding.{Adds};
+ghost use Rattle.zi_docout.specs.Elements.{Adds};
+ghost use Rattle.zi_sels.specs.Written.{extra_attr, mode_attrs, kind_attrs, binding_elem, dep_elem};
 
-use crate::elements::{element, put, put_child, put_unless, put_where_there};
+use crate::elements::{put_unless, put_where_there};
 use std::alloc::Global;
-use zi_docout::{Attr, Element, Node};
+use zi_docout::{Attr, Element, Node, element, put_attr, put_child};
 use zi_feed::{Binding, Dep, DepKind, Extra, Mode};
 use zi_text::{List, Memory, Text};
 
@@ -15,8 +15,8 @@ fn put_extra(alloc: Global, attrs: &mut List<Attr>, extra: &Extra) -> Result<(),
     ensures { OnOk result (attrs.new ≡ attrs.old ++ extra_attr extra.now ∷ []) }
 {
     match extra {
-        Extra::Insert(path) => put(alloc, attrs, "insert", path.as_str()),
-        Extra::Value(text) => put(alloc, attrs, "value", text.as_str()),
+        Extra::Insert(path) => put_attr(alloc, attrs, "insert", path.as_str()),
+        Extra::Value(text) => put_attr(alloc, attrs, "value", text.as_str()),
     }
 }
 
@@ -26,8 +26,8 @@ fn put_mode(alloc: Global, attrs: &mut List<Attr>, mode: Mode) -> Result<(), Mem
 {
     match mode {
         Mode::Prepend => Ok(()),
-        Mode::Append => put(alloc, attrs, "mode", "append"),
-        Mode::Replace => put(alloc, attrs, "mode", "replace"),
+        Mode::Append => put_attr(alloc, attrs, "mode", "append"),
+        Mode::Replace => put_attr(alloc, attrs, "mode", "replace"),
     }
 }
 
@@ -45,7 +45,7 @@ fn binding_element(alloc: Global, binding: &Binding) -> Result<Element, Memory>
             separator,
             default,
         } => {
-            put(alloc, &mut attrs, "name", name.as_str())?;
+            put_attr(alloc, &mut attrs, "name", name.as_str())?;
             put_extra(alloc, &mut attrs, extra)?;
             put_mode(alloc, &mut attrs, *mode)?;
             put_unless(alloc, &mut attrs, ":", "separator", separator.as_str())?;
@@ -78,7 +78,7 @@ fn put_kind(alloc: Global, attrs: &mut List<Attr>, kind: DepKind) -> Result<(), 
 {
     match kind {
         DepKind::Essential => Ok(()),
-        DepKind::Recommended => put(alloc, attrs, "importance", "recommended"),
+        DepKind::Recommended => put_attr(alloc, attrs, "importance", "recommended"),
         DepKind::Restricts => Ok(()),
     }
 }
@@ -89,7 +89,7 @@ fn dep_element(alloc: Global, dep: &Dep) -> Result<Element, Memory>
     ensures { IfOk result (λ e. element_view e ≡ dep_elem dep.now) }
 {
     let mut attrs = List::new(alloc);
-    put(alloc, &mut attrs, "interface", dep.interface.as_str())?;
+    put_attr(alloc, &mut attrs, "interface", dep.interface.as_str())?;
     put_kind(alloc, &mut attrs, dep.kind)?;
     let mut children = List::new(alloc);
     put_bindings(alloc, &mut children, dep.bindings.as_slice())?;

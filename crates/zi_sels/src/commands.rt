@@ -1,14 +1,14 @@
 //! Commands as elements, with their arguments and what runs them.
 ghost use Rattle.std.specs.Prelude.{◌≡◌, ◌++◌, map, option_map, IfOk, OnOk};
 ghost use Rattle.zi_forest.specs.Forest.{element_view};
+ghost use Rattle.zi_docout.specs.Elements.{Adds};
 ghost use Rattle.zi_feed.specs.Words.{optional};
 ghost use Rattle.zi_sels.specs.Written.{command_wanted, arg_elem, word_elem, runner_elem, unbuilt_elem, command_elem};
-ghost use Rattle.zi_sels.specs.Adding.{Adds};
 
 use crate::bindings::{put_bindings, put_deps};
-use crate::elements::{arg_element, element, put, put_child, put_unless, put_where_there};
+use crate::elements::{arg_element, put_unless, put_where_there};
 use std::alloc::Global;
-use zi_docout::{Element, Node};
+use zi_docout::{Element, Node, element, put_attr, put_child};
 use zi_feed::{Command, Runner, Word};
 use zi_text::{List, Memory, Text};
 
@@ -35,7 +35,7 @@ fn word_element(alloc: Global, word: &Word) -> Result<Element, Memory>
             args,
         } => {
             let mut attrs = List::new(alloc);
-            put(alloc, &mut attrs, "item-from", item_from.as_str())?;
+            put_attr(alloc, &mut attrs, "item-from", item_from.as_str())?;
             put_unless(alloc, &mut attrs, ":", "separator", separator.as_str())?;
             let mut children = List::new(alloc);
             put_args(alloc, &mut children, args.as_slice())?;
@@ -70,13 +70,13 @@ fn runner_element(alloc: Global, runner: &Runner) -> Result<Element, Memory>
     ensures { IfOk result (λ e. element_view e ≡ runner_elem runner.now) }
 {
     let mut attrs = List::new(alloc);
-    put(
+    put_attr(
         alloc,
         &mut attrs,
         "interface",
         runner.dep.interface.as_str(),
     )?;
-    put(alloc, &mut attrs, "command", command_wanted(runner))?;
+    put_attr(alloc, &mut attrs, "command", command_wanted(runner))?;
     let mut children = List::new(alloc);
     put_bindings(alloc, &mut children, runner.dep.bindings.as_slice())?;
     put_words(alloc, &mut children, runner.words.as_slice())?;
@@ -120,7 +120,7 @@ fn command_element(alloc: Global, command: &Command) -> Result<Element, Memory>
     ensures { IfOk result (λ e. element_view e ≡ command_elem command.now) }
 {
     let mut attrs = List::new(alloc);
-    put(alloc, &mut attrs, "name", command.name.as_str())?;
+    put_attr(alloc, &mut attrs, "name", command.name.as_str())?;
     put_where_there(alloc, &mut attrs, "path", &command.path)?;
     let mut children = List::new(alloc);
     put_bindings(alloc, &mut children, command.bindings.as_slice())?;

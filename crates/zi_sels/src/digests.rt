@@ -2,14 +2,13 @@
 ghost use Rattle.std.specs.Prelude.{◌≡◌, ◌∷◌, [], ◌++◌, ◌==◌, length, codes, IfOk, OnOk, MatchOption};
 ghost use Rattle.std.specs.List.{position_or_len, after_first};
 ghost use Rattle.zi_forest.specs.Forest.{element_view};
+ghost use Rattle.zi_docout.specs.Elements.{elem, Adds};
 ghost use Rattle.zi_feed.specs.Digests.{attribute_by};
-ghost use Rattle.zi_sels.specs.Written.{elem, digits, is_by, digest_attr, digest_attrs_by, digest_attrs, digests_elems};
-ghost use Rattle.zi_sels.specs.Adding.{Adds};
+ghost use Rattle.zi_sels.specs.Written.{digits, is_by, digest_attr, digest_attrs_by, digest_attrs, digests_elems};
 
-use crate::elements::{element, put, put_child};
 use std::alloc::Global;
 use zi_digest::{Algorithm, DigestName};
-use zi_docout::{Attr, Element, Node};
+use zi_docout::{Attr, Element, Node, element, put_attr, put_child};
 use zi_text::{List, Memory, Text};
 
 // The attribute of an algorithm.
@@ -64,7 +63,7 @@ fn put_digest(alloc: Global, attrs: &mut List<Attr>, name: &DigestName) -> Resul
     ensures { OnOk result (attrs.new ≡ attrs.old ++ digest_attr name.now ∷ []) }
 {
     let digits = digits(alloc, name)?;
-    put(
+    put_attr(
         alloc,
         attrs,
         attribute_by(name.algorithm()),

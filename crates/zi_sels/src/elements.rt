@@ -1,25 +1,11 @@
-//! Elements and attributes of a selections document, one by one.
-ghost use Rattle.std.specs.Prelude.{◌≡◌, ◌∷◌, [], ◌++◌, IfOk, OnOk};
+//! Attributes that are left out where they say nothing, and arguments.
+ghost use Rattle.std.specs.Prelude.{◌≡◌, ◌++◌, IfOk, OnOk};
 ghost use Rattle.zi_forest.specs.Forest.{element_view, nodes_view};
-ghost use Rattle.zi_docout.specs.Canonical.{injector};
-ghost use Rattle.zi_sels.specs.Written.{attr, attr_of, attr_unless, text_node, arg_elem};
-ghost use Rattle.zi_sels.specs.Adding.{Adds};
+ghost use Rattle.zi_sels.specs.Written.{attr_of, attr_unless, text_node, arg_elem};
 
 use std::alloc::Global;
-use zi_docout::{Attr, Element, Node};
+use zi_docout::{Attr, Element, Node, element, put_attr};
 use zi_text::{List, Memory, Text};
-
-const NS: &str = "http://zero-install.sourceforge.net/2004/injector/interface";
-
-/// Adds an attribute.
-pub fn put(alloc: Global, attrs: &mut List<Attr>, name: &str, value: &str) -> Result<(), Memory>
-    ensures { OnOk result (attrs.new ≡ attrs.old ++ attr name.now value.now ∷ []) }
-{
-    let space = Text::new(alloc);
-    let name = Text::from_str(alloc, name)?;
-    let value = Text::from_str(alloc, value)?;
-    attrs.push(Attr { space, name, value })
-}
 
 /// Adds an attribute where there is a value.
 pub fn put_where_there(
@@ -32,7 +18,7 @@ pub fn put_where_there(
 {
     match value {
         None => Ok(()),
-        Some(value) => put(alloc, attrs, name, value.as_str()),
+        Some(value) => put_attr(alloc, attrs, name, value.as_str()),
     }
 }
 
@@ -50,35 +36,7 @@ pub fn put_unless(
     if value == default {
         return Ok(());
     }
-    put(alloc, attrs, name, value)
-}
-
-/// An element of the injector's namespace.
-#[tactic(auto, unfolding(zi_docout::specs::Canonical::injector))]
-pub fn element(
-    alloc: Global,
-    name: &str,
-    attrs: List<Attr>,
-    children: List<Node>,
-) -> Result<Element, Memory>
-    ensures { IfOk result (λ e. element_view e ≡ record { space = injector; name = name.now; attrs = attrs; inside = nodes_view children; place = 0 }) }
-{
-    let space = Text::from_str(alloc, NS)?;
-    let name = Text::from_str(alloc, name)?;
-    Ok(Element {
-        space,
-        name,
-        attrs,
-        children,
-        place: 0,
-    })
-}
-
-/// Adds an element.
-pub fn put_child(children: &mut List<Node>, child: Element) -> Result<(), Memory>
-    ensures { OnOk result (Adds children.old children.new (element_view child ∷ [])) }
-{
-    children.push(Node::Child(child))
+    put_attr(alloc, attrs, name, value)
 }
 
 // A text as what an element holds; the empty text is nothing.

@@ -3,16 +3,16 @@ ghost use Rattle.std.specs.Prelude.{◌≡◌, ◌++◌, map, IfOk, OnOk, OnErr}
 ghost use Rattle.zi_forest.specs.Forest.{element_view};
 ghost use Rattle.zi_docout.specs.Amiss.{first_amiss};
 ghost use Rattle.zi_docout.specs.Answers.{IsFirst};
+ghost use Rattle.zi_docout.specs.Elements.{Adds};
 ghost use Rattle.zi_sels.specs.Written.{selection_attrs, selection_elem, tree, document};
-ghost use Rattle.zi_sels.specs.Adding.{Adds};
 
 use crate::bindings::{put_bindings, put_deps};
 use crate::commands::put_commands;
 use crate::digests::put_digests;
-use crate::elements::{element, put, put_child, put_unless, put_where_there};
+use crate::elements::{put_unless, put_where_there};
 use crate::types::{Selection, Selections};
 use std::alloc::Global;
-use zi_docout::{Attr, Element, Node, WriteFault};
+use zi_docout::{Attr, Element, Node, WriteFault, element, put_attr, put_child};
 use zi_text::{List, Memory};
 
 // What is said of a selection: which implementation it is, and what else is known of it.
@@ -23,9 +23,9 @@ fn selection_attrs(alloc: Global, item: &Selection) -> Result<List<Attr>, Memory
     let mut attrs = List::new(alloc);
     let interface = item.interface.as_str();
     let feed = item.from_feed.as_str();
-    put(alloc, &mut attrs, "interface", interface)?;
-    put(alloc, &mut attrs, "id", item.id.as_str())?;
-    put(alloc, &mut attrs, "version", item.version.as_str())?;
+    put_attr(alloc, &mut attrs, "interface", interface)?;
+    put_attr(alloc, &mut attrs, "id", item.id.as_str())?;
+    put_attr(alloc, &mut attrs, "version", item.version.as_str())?;
     put_unless(alloc, &mut attrs, interface, "from-feed", feed)?;
     put_where_there(alloc, &mut attrs, "local-path", &item.local)?;
     put_where_there(alloc, &mut attrs, "arch", &item.arch)?;
@@ -68,7 +68,7 @@ fn tree(alloc: Global, sels: &Selections) -> Result<Element, Memory>
     ensures { IfOk result (λ e. element_view e ≡ tree sels.now) }
 {
     let mut attrs = List::new(alloc);
-    put(alloc, &mut attrs, "interface", sels.interface.as_str())?;
+    put_attr(alloc, &mut attrs, "interface", sels.interface.as_str())?;
     put_where_there(alloc, &mut attrs, "command", &sels.command)?;
     let mut children = List::new(alloc);
     put_selections(alloc, &mut children, sels.items.as_slice())?;

@@ -1,6 +1,6 @@
 use Rattle.std.proofs.Common.{map, take}
 use Rattle.zi_sels.specs.Written.{binding_elem}
-use Rattle.zi_sels.specs.Adding.{Adds}
+use Rattle.zi_docout.specs.Elements.{Adds}
 use Rattle.zi_sels.proofs.bindings.put_bindings.Given as goal
 
 abbrev pub invariant-loop-binding : goal.invariant-loop-binding

@@ -1,6 +1,6 @@
 use Rattle.std.proofs.Common.{map, take}
 use Rattle.zi_sels.specs.Written.{dep_elem}
-use Rattle.zi_sels.specs.Adding.{Adds}
+use Rattle.zi_docout.specs.Elements.{Adds}
 use Rattle.zi_sels.proofs.bindings.put_deps.Given as goal
 
 abbrev pub invariant-loop-dep : goal.invariant-loop-dep

@@ -1,6 +1,6 @@
 use Rattle.std.proofs.Common.{map, take}
 use Rattle.zi_sels.specs.Written.{word_elem}
-use Rattle.zi_sels.specs.Adding.{Adds}
+use Rattle.zi_docout.specs.Elements.{Adds}
 use Rattle.zi_sels.proofs.commands.put_words.Given as goal
 
 abbrev pub invariant-loop-word : goal.invariant-loop-word

@@ -1,0 +1,12 @@
+//! The demonstration: for each number n a program of n + 4 interfaces, whose choice a search without learning would seek for
+//! more than 2^(n - 1) conflicts. Its root needs a1 to an and then p, q and r; with a1 at its version 2 the last three would need
+//! three different versions out of 2 and 3, so the best choice is a1 at 1, every other a at 2, p at 3, q at 2 and r at 1.
+#![tactic(auto)]
+
+mod feeds;
+mod versions;
+
+pub use feeds::universe_of;
+
+#[cfg(test)]
+mod tests;
