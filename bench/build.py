@@ -7,15 +7,12 @@ memory, and the ratio to a known tool in the same run, where one is installed: f
 `0install select` on the same feeds, which also chooses; for many versions of the building to the time in which minisat reads the same
 literals as a file, and of the memory to that of its whole run.
 """
-import sys
-
-sys.path.append(sys.path.pop(0))  # last: select.py beside this file has the name of a module that subprocess needs
-
 import os
 import pathlib
 import re
 import shutil
 import subprocess
+import sys
 import tempfile
 
 from measure import timed_with_peak

@@ -4,12 +4,9 @@
 Run it after `rt ci` (or `rt run` in crates/doc_speed), which builds the program. expat builds a tree too (ElementTree).
 The ratio wanted is at most 1.0; more than 3 is a defect. Each figure is the best of five. The time of an empty document is taken off ours.
 """
-import sys
-
-sys.path.pop(0)  # this folder has a select.py, which isn't Python's
-
 import pathlib
 import subprocess
+import sys
 import time
 import xml.etree.ElementTree as tree
 

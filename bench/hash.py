@@ -4,12 +4,9 @@
 Run it after `rt ci` (or `rt run` in crates/hash_speed), which builds the program.
 The ratio wanted is at most 1.5. Each figure is the best of five, over one file that lies in memory.
 """
-import sys
-
-sys.path.pop(0)  # select.py beside this file has the name of a module that subprocess needs
-
 import pathlib
 import subprocess
+import sys
 import tempfile
 import time
 

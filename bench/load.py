@@ -4,13 +4,10 @@
 Prints the best of some runs for each size, the ratio of the time per item to that of the smallest size, the peak memory, and the
 ratio to 0install on the same feeds in the same run, where that ends within a minute.
 """
-import sys
-
-sys.path.append(sys.path.pop(0))  # last: select.py beside this file has the name of a module that subprocess needs
-
 import os
 import shutil
 import subprocess
+import sys
 import tempfile
 import time
 

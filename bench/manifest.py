@@ -6,13 +6,10 @@ other 20,000 files of 1,000 bytes in 200 folders. The goal is 1.0; more than 2 i
 installed, `sha256sum` over the same files stands for it. Each figure is the best of five; the program makes its tree in
 memory first, which counts as its time, and 0install reads files that the system holds in memory.
 """
-import sys
-
-sys.path.append(sys.path.pop(0))  # last: select.py beside this file has the name of a module that subprocess needs
-
 import pathlib
 import shutil
 import subprocess
+import sys
 import tempfile
 import time
 

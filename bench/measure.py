@@ -1,8 +1,4 @@
-"""What several of these scripts do: they fill folders with trees, and time programs.
-
-A script that imports it puts its own folder last on the path before, since select.py has the name of a module of Python's
-that subprocess needs.
-"""
+"""What several of these scripts do: they fill folders with trees, and time programs."""
 import os
 import subprocess
 import sys

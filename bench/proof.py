@@ -6,13 +6,10 @@ of implications each says the next variable, by the one before it and a clause. 
 same lemmas without their hints; else the time is held against `wc`, which reads the same bytes. Each figure is the best of
 three. Two sizes show whether the time is linear.
 """
-import sys
-
-sys.path.pop(0)  # select.py beside this file has the name of a module that subprocess needs
-
 import pathlib
 import shutil
 import subprocess
+import sys
 import tempfile
 import time
 

@@ -8,10 +8,6 @@ here. The program decides the variables in order and never begins anew, so what 
 The random formulas are numbered for all of them by how many clauses a variable stands in, the most first: the program takes what order
 it is given. All answers are to agree; a run that takes longer than twenty seconds is given up.
 """
-import sys
-
-sys.path.append(sys.path.pop(0))  # last: select.py beside this file has the name of a module that subprocess needs
-
 import collections
 import itertools
 import pathlib
@@ -20,6 +16,7 @@ import re
 import shutil
 import statistics
 import subprocess
+import sys
 import tempfile
 import time
 

@@ -5,13 +5,10 @@ Run it after `rt ci`, which builds the program. Interfaces in a chain and in a w
 the oldest of many versions fits: its certificate is written too, and its size printed. At the end of the third chain no version
 fits, so there is no choice. A size is printed with the ratio of its time to that of the one before it, and of their interfaces or versions.
 """
-import sys
-
-sys.path.append(sys.path.pop(0))  # last: select.py beside this file has the name of a module that subprocess needs
-
 import os
 import pathlib
 import subprocess
+import sys
 import tempfile
 
 from measure import timed_with_peak

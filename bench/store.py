@@ -7,16 +7,13 @@ may take twice the time of 0install, which doesn't make what it stored last thro
 the time of `sync -f` alone. Each figure is the best of some runs. Where 0install isn't installed, `sha256sum` and `cp -r`
 over the same files stand for it.
 """
-import sys
-
-sys.path.append(sys.path.pop(0))  # last: select.py beside this file has the name of a module that subprocess needs
-
 import base64
 import hashlib
 import os
 import pathlib
 import shutil
 import subprocess
+import sys
 import tempfile
 import time
 

@@ -4,12 +4,9 @@
 Prints the best of some runs for each size, the ratio of the time per implementation to that of the smallest feed, the
 peak memory of the largest run in feed sizes, and for flat feeds the ratio to 0install on the same feed in the same run.
 """
-import sys
-
-sys.path.append(sys.path.pop(0))  # last: this file has the name of a module that subprocess needs
-
 import os
 import shutil
+import sys
 import tempfile
 
 from measure import timed_with_peak
