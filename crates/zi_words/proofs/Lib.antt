@@ -14,3 +14,4 @@ pub mod PieceLemmas
 pub mod RightLemmas
 pub mod SearchLaws
 pub mod OneLaws
+pub mod DemoLemmas

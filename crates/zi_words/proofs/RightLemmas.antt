@@ -10,6 +10,7 @@ use Rattle.zi_words.specs.declared.refusal.Refusal.{Refusal}
 use Rattle.zi_words.specs.declared.refusal.Refusal.TheVariants.{Left, Memory}
 use Rattle.zi_words.specs.Forms.{Word}
 use Rattle.zi_words.specs.Store.{AsksManifest, AsksStore, InStore}
+use Rattle.zi_words.specs.Demo.{AsksDemo, Demonstrates}
 use Rattle.zi_words.specs.Words.{loader_word, AsksLoading, Loads, Alone, Right}
 use Rattle.zi_words.specs.Refused.{Asks, LeftAt, Refused}
 use Rattle.zi_words.specs.Taken.{IsEnded}
@@ -17,73 +18,89 @@ use Rattle.zi_words.proofs.KindLemmas.{not_same}
 use Rattle.zi_words.proofs.LeftLemmas.{behind, stuck, short}
 
 begins : BeginsRight (Asks Right) []
-begins = (codes "--help" ∷ [], (request.Help, inr (inr (refl, inl (refl, refl)))))
+begins = (codes "--help" ∷ [], (request.Help, inr (inr (inr (refl, inl (refl, refl))))))
 
 pub right_none : (ws : List Word) → length ws ≡ 0 → LeftAt (Asks Right) ws 0
 right_none [] e = short (Asks Right) [] begins (λ (r, h). h)
 right_none (w ∷ ws) e = absurd (omega arith)
 
-pub right_unknown : (ws rest : List Word) (w : Word) → ws ≡ w ∷ rest → w ≢ codes "select" → w ≢ codes "refute" → w ≢ codes "manifest" → w ≢ codes "store" → w ≢ codes "--help" → w ≢ codes "--version"
+pub right_unknown : (ws rest : List Word) (w : Word) → ws ≡ w ∷ rest → w ≢ codes "select" → w ≢ codes "refute" → w ≢ codes "manifest" → w ≢ codes "store" → w ≢ codes "demo" → w ≢ codes "--help" → w ≢ codes "--version"
     → LeftAt (Asks Right) ws (length ws)
-right_unknown ws rest w e ns nr nm nt nh nv =
+right_unknown ws rest w e ns nr nm nt nd nh nv =
     let P : List Word → Type 0 = λ v. LeftAt (Asks Right) v (length v) in
     subst P (sym e) (stuck (Asks Right) [] w rest begins (λ (more, (r, h)). wrong more r h))
   where
-    wrong : (more : List Word) (r : Request) → Loads w more r ⊎ (InStore w more r ⊎ Alone w more r) → ⊥
+    wrong : (more : List Word) (r : Request) → Loads w more r ⊎ (InStore w more r ⊎ (Demonstrates w more r ⊎ Alone w more r)) → ⊥
     wrong more r (inl (loader.Select, h, a)) = ns h
     wrong more r (inl (loader.Refute, h, a)) = nr h
     wrong more r (inr (inl (inl h))) = nm h.0
     wrong more r (inr (inl (inr h))) = nt h.0
-    wrong more r (inr (inr (e, inl h))) = nh h.0
-    wrong more r (inr (inr (e, inr h))) = nv h.0
+    wrong more r (inr (inr (inl h))) = nd h.0
+    wrong more r (inr (inr (inr (e, inl h)))) = nh h.0
+    wrong more r (inr (inr (inr (e, inr h)))) = nv h.0
 
 pub select_only : (u : List Word) (r : Request) → Right (codes "select" ∷ u) r → AsksLoading loader.Select u r
 select_only u r (inl (loader.Select, h, a)) = a
 select_only u r (inl (loader.Refute, h, a)) = absurd (not_same (codes "select") (codes "refute") refl h)
 select_only u r (inr (inl (inl h))) = absurd (not_same (codes "select") (codes "manifest") refl h.0)
 select_only u r (inr (inl (inr h))) = absurd (not_same (codes "select") (codes "store") refl h.0)
-select_only u r (inr (inr (n, inl h))) = absurd (not_same (codes "select") (codes "--help") refl h.0)
-select_only u r (inr (inr (n, inr h))) = absurd (not_same (codes "select") (codes "--version") refl h.0)
+select_only u r (inr (inr (inl h))) = absurd (not_same (codes "select") (codes "demo") refl h.0)
+select_only u r (inr (inr (inr (n, inl h)))) = absurd (not_same (codes "select") (codes "--help") refl h.0)
+select_only u r (inr (inr (inr (n, inr h)))) = absurd (not_same (codes "select") (codes "--version") refl h.0)
 
 pub refute_only : (u : List Word) (r : Request) → Right (codes "refute" ∷ u) r → AsksLoading loader.Refute u r
 refute_only u r (inl (loader.Select, h, a)) = absurd (not_same (codes "refute") (codes "select") refl h)
 refute_only u r (inl (loader.Refute, h, a)) = a
 refute_only u r (inr (inl (inl h))) = absurd (not_same (codes "refute") (codes "manifest") refl h.0)
 refute_only u r (inr (inl (inr h))) = absurd (not_same (codes "refute") (codes "store") refl h.0)
-refute_only u r (inr (inr (n, inl h))) = absurd (not_same (codes "refute") (codes "--help") refl h.0)
-refute_only u r (inr (inr (n, inr h))) = absurd (not_same (codes "refute") (codes "--version") refl h.0)
+refute_only u r (inr (inr (inl h))) = absurd (not_same (codes "refute") (codes "demo") refl h.0)
+refute_only u r (inr (inr (inr (n, inl h)))) = absurd (not_same (codes "refute") (codes "--help") refl h.0)
+refute_only u r (inr (inr (inr (n, inr h)))) = absurd (not_same (codes "refute") (codes "--version") refl h.0)
 
 pub manifest_only : (u : List Word) (r : Request) → Right (codes "manifest" ∷ u) r → AsksManifest u r
 manifest_only u r (inl (loader.Select, h, a)) = absurd (not_same (codes "manifest") (codes "select") refl h)
 manifest_only u r (inl (loader.Refute, h, a)) = absurd (not_same (codes "manifest") (codes "refute") refl h)
 manifest_only u r (inr (inl (inl h))) = h.1
 manifest_only u r (inr (inl (inr h))) = absurd (not_same (codes "manifest") (codes "store") refl h.0)
-manifest_only u r (inr (inr (n, inl h))) = absurd (not_same (codes "manifest") (codes "--help") refl h.0)
-manifest_only u r (inr (inr (n, inr h))) = absurd (not_same (codes "manifest") (codes "--version") refl h.0)
+manifest_only u r (inr (inr (inl h))) = absurd (not_same (codes "manifest") (codes "demo") refl h.0)
+manifest_only u r (inr (inr (inr (n, inl h)))) = absurd (not_same (codes "manifest") (codes "--help") refl h.0)
+manifest_only u r (inr (inr (inr (n, inr h)))) = absurd (not_same (codes "manifest") (codes "--version") refl h.0)
 
 pub store_only : (u : List Word) (r : Request) → Right (codes "store" ∷ u) r → AsksStore u r
 store_only u r (inl (loader.Select, h, a)) = absurd (not_same (codes "store") (codes "select") refl h)
 store_only u r (inl (loader.Refute, h, a)) = absurd (not_same (codes "store") (codes "refute") refl h)
 store_only u r (inr (inl (inl h))) = absurd (not_same (codes "store") (codes "manifest") refl h.0)
 store_only u r (inr (inl (inr h))) = h.1
-store_only u r (inr (inr (n, inl h))) = absurd (not_same (codes "store") (codes "--help") refl h.0)
-store_only u r (inr (inr (n, inr h))) = absurd (not_same (codes "store") (codes "--version") refl h.0)
+store_only u r (inr (inr (inl h))) = absurd (not_same (codes "store") (codes "demo") refl h.0)
+store_only u r (inr (inr (inr (n, inl h)))) = absurd (not_same (codes "store") (codes "--help") refl h.0)
+store_only u r (inr (inr (inr (n, inr h)))) = absurd (not_same (codes "store") (codes "--version") refl h.0)
+
+pub demo_only : (u : List Word) (r : Request) → Right (codes "demo" ∷ u) r → AsksDemo u r
+demo_only u r (inl (loader.Select, h, a)) = absurd (not_same (codes "demo") (codes "select") refl h)
+demo_only u r (inl (loader.Refute, h, a)) = absurd (not_same (codes "demo") (codes "refute") refl h)
+demo_only u r (inr (inl (inl h))) = absurd (not_same (codes "demo") (codes "manifest") refl h.0)
+demo_only u r (inr (inl (inr h))) = absurd (not_same (codes "demo") (codes "store") refl h.0)
+demo_only u r (inr (inr (inl h))) = h.1
+demo_only u r (inr (inr (inr (n, inl h)))) = absurd (not_same (codes "demo") (codes "--help") refl h.0)
+demo_only u r (inr (inr (inr (n, inr h)))) = absurd (not_same (codes "demo") (codes "--version") refl h.0)
 
 pub help_only : (u : List Word) (r : Request) → Right (codes "--help" ∷ u) r → (u ≡ []) × (r ≡ request.Help)
 help_only u r (inl (loader.Select, h, a)) = absurd (not_same (codes "--help") (codes "select") refl h)
 help_only u r (inl (loader.Refute, h, a)) = absurd (not_same (codes "--help") (codes "refute") refl h)
 help_only u r (inr (inl (inl h))) = absurd (not_same (codes "--help") (codes "manifest") refl h.0)
 help_only u r (inr (inl (inr h))) = absurd (not_same (codes "--help") (codes "store") refl h.0)
-help_only u r (inr (inr (n, inl h))) = (n, h.1)
-help_only u r (inr (inr (n, inr h))) = absurd (not_same (codes "--help") (codes "--version") refl h.0)
+help_only u r (inr (inr (inl h))) = absurd (not_same (codes "--help") (codes "demo") refl h.0)
+help_only u r (inr (inr (inr (n, inl h)))) = (n, h.1)
+help_only u r (inr (inr (inr (n, inr h)))) = absurd (not_same (codes "--help") (codes "--version") refl h.0)
 
 pub version_only : (u : List Word) (r : Request) → Right (codes "--version" ∷ u) r → (u ≡ []) × (r ≡ request.Version)
 version_only u r (inl (loader.Select, h, a)) = absurd (not_same (codes "--version") (codes "select") refl h)
 version_only u r (inl (loader.Refute, h, a)) = absurd (not_same (codes "--version") (codes "refute") refl h)
 version_only u r (inr (inl (inl h))) = absurd (not_same (codes "--version") (codes "manifest") refl h.0)
 version_only u r (inr (inl (inr h))) = absurd (not_same (codes "--version") (codes "store") refl h.0)
-version_only u r (inr (inr (n, inl h))) = absurd (not_same (codes "--version") (codes "--help") refl h.0)
-version_only u r (inr (inr (n, inr h))) = (n, h.1)
+version_only u r (inr (inr (inl h))) = absurd (not_same (codes "--version") (codes "demo") refl h.0)
+version_only u r (inr (inr (inr (n, inl h)))) = absurd (not_same (codes "--version") (codes "--help") refl h.0)
+version_only u r (inr (inr (inr (n, inr h)))) = (n, h.1)
 
 pub loading_only : (l : Loader) (u : List Word) (r : Request) → Right (loader_word l ∷ u) r → AsksLoading l u r
 loading_only loader.Select u r h = select_only u r h
@@ -126,10 +143,14 @@ pub right_store : (ws rest : List Word) (w : Word) (result : Result Request Refu
     → MatchResult result (Right ws) (Refused Right ws)
 right_store = command (codes "store") AsksStore store_only (λ u r a. inr (inl (inr (refl, a))))
 
+pub right_demo : (ws rest : List Word) (w : Word) (result : Result Request Refusal) → ws ≡ w ∷ rest → w ≡ codes "demo" → MatchResult result (AsksDemo rest) (Refused AsksDemo rest)
+    → MatchResult result (Right ws) (Refused Right ws)
+right_demo = command (codes "demo") AsksDemo demo_only (λ u r a. inr (inr (inl (refl, a))))
+
 pub right_help : (ws rest : List Word) (w : Word) (result : Result Request Refusal) → ws ≡ w ∷ rest → w ≡ codes "--help" → IsEnded request.Help rest result
     → MatchResult result (Right ws) (Refused Right ws)
-right_help = single (codes "--help") request.Help help_only (inr (inr (refl, inl (refl, refl))))
+right_help = single (codes "--help") request.Help help_only (inr (inr (inr (refl, inl (refl, refl)))))
 
 pub right_version : (ws rest : List Word) (w : Word) (result : Result Request Refusal) → ws ≡ w ∷ rest → w ≡ codes "--version" → IsEnded request.Version rest result
     → MatchResult result (Right ws) (Refused Right ws)
-right_version = single (codes "--version") request.Version version_only (inr (inr (refl, inr (refl, refl))))
+right_version = single (codes "--version") request.Version version_only (inr (inr (inr (refl, inr (refl, refl)))))

@@ -1,4 +1,4 @@
--- The number of lemmas that is asked for is never past the greatest.
+-- The numbers that are asked for: that of lemmas is never past the greatest, and that of a demonstration is one.
 use Rattle.std.proofs.Common.{◌≡◌, ℕ, ◌≤◌, Bool, true, false, List, [], ◌∷◌, Option, Some, None, refl, sym, subst, arith, inl, inr}
 use Rattle.std.specs.Prelude.{fold, nat_le, if◌then◌else◌, unwrap_or}
 use Rattle.std.proofs.lemmas.Bool.Decides.{nat_tests}
@@ -11,7 +11,7 @@ use Rattle.zi_words.specs.declared.asked.Asked.{Asked}
 use Rattle.zi_words.specs.declared.request.Ask.{Ask}
 use Rattle.zi_words.specs.declared.request.Request.{Request}
 use Rattle.zi_words.specs.declared.request.Request.TheVariants as request
-use Rattle.zi_words.specs.Forms.{Word, most_lemmas, up_to, budget_of}
+use Rattle.zi_words.specs.Forms.{Word, is_between, most_lemmas, up_to, budget_of, if_between, demo_number}
 use Rattle.zi_words.specs.Options.{Item, first, set, nothing, gathered, ask_of}
 use Rattle.zi_words.specs.Store.{AsksStore}
 use Rattle.zi_words.specs.Words.{request_of, Right}
@@ -64,10 +64,28 @@ ask_fits : (root : Word) (a : Asked) → Fits a.search → (ask_of root a).searc
 unfolding ask_of
 ask_fits root a h = or_fits a.search h
 
--- the number of lemmas of a request isn't past the greatest
+-- the number of a demonstration
+abbrev IsNumber : Option ℕ → Type 0
+IsNumber None = Unit {0}
+IsNumber (Some n) = (1 ≤ n) × (n ≤ 1000)
+
+between_is : (o : Option ℕ) → IsNumber (if_between 1 1000 o)
+between_is None = tt
+between_is (Some n) = by (is_between 1 1000 n) refl
+  where
+    by : (b : Bool) → is_between 1 1000 n ≡ b → IsNumber (if b then Some n else None)
+    by true e = let h : 1 ≤ n = grind (arith, nat_tests) in let k : n ≤ 1000 = grind (arith, nat_tests) in (h, k)
+    by false e = tt
+
+number_is : (w : Word) → IsNumber (demo_number w)
+unfolding demo_number
+number_is w = between_is (numeral w)
+
+-- the number of lemmas of a request isn't past the greatest, and that of a demonstration is one
 abbrev pub IsWithin : Request → Type 0
 IsWithin (request.Select ask proof) = ask.search ≤ most_lemmas
 IsWithin (request.Refute ask proof) = ask.search ≤ most_lemmas
+IsWithin (request.Demo n) = (1 ≤ n) × (n ≤ 1000)
 IsWithin other = Unit {0}
 
 of_loader : (l : Loader) (ask : Ask) (proof : Bool) (named : List Word) → ask.search ≤ most_lemmas → IsWithin (request_of l ask proof named)
@@ -87,5 +105,9 @@ is_within (w ∷ ws) r (inr (inl (inr (e, h)))) = in_store ws h
     in_store (u ∷ us) (inl (f, (name, files, g, d, n, is))) = let P : Request → Type 0 = λ v. IsWithin v in subst P (sym is) tt
     in_store (u ∷ us) (inr (inl (f, (name, g, d, is)))) = let P : Request → Type 0 = λ v. IsWithin v in subst P (sym is) tt
     in_store (u ∷ us) (inr (inr (f, g, is))) = let P : Request → Type 0 = λ v. IsWithin v in subst P (sym is) tt
-is_within (w ∷ ws) r (inr (inr (n, inl (e, is)))) = let P : Request → Type 0 = λ v. IsWithin v in subst P (sym is) tt
-is_within (w ∷ ws) r (inr (inr (n, inr (e, is)))) = let P : Request → Type 0 = λ v. IsWithin v in subst P (sym is) tt
+is_within (w ∷ ws) r (inr (inr (inl (e, (word, n, f, number, is))))) =
+    let P : Request → Type 0 = λ v. IsWithin v in
+    let Q : Option ℕ → Type 0 = λ o. IsNumber o in
+    subst P (sym is) (subst Q number (number_is word))
+is_within (w ∷ ws) r (inr (inr (inr (n, inl (e, is))))) = let P : Request → Type 0 = λ v. IsWithin v in subst P (sym is) tt
+is_within (w ∷ ws) r (inr (inr (inr (n, inr (e, is))))) = let P : Request → Type 0 = λ v. IsWithin v in subst P (sym is) tt

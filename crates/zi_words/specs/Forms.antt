@@ -69,6 +69,14 @@ up_to most (Some n) = if nat_le n most then Some n else None
 unfoldable pub budget_of : Word → Option ℕ
 budget_of text = up_to most_lemmas (numeral text)
 
+-- the number of a demonstration, in decimal digits: from 1 to 1,000
+abbrev pub if_between : ℕ → ℕ → Option ℕ → Option ℕ
+if_between low high None = None
+if_between low high (Some n) = if is_between low high n then Some n else None
+
+unfoldable pub demo_number : Word → Option ℕ
+demo_number text = if_between 1 1000 (numeral text)
+
 -- what an argument of an option may be
 pub data Form : Type 0 where
   Address : Form

@@ -12,6 +12,7 @@ use Rattle.zi_words.specs.declared.request.WordsFault.TheVariants as fault
 use Rattle.zi_words.specs.Forms.{Word, is_address}
 use Rattle.zi_words.specs.Options.{Item, AreItems, spelled, any_clash, first, gathered, ask_of}
 use Rattle.zi_words.specs.Store.{InStore}
+use Rattle.zi_words.specs.Demo.{Demonstrates}
 
 -- what may end the options: nothing, or `--`
 abbrev pub EndsOptions : List Word → Type 0
@@ -61,7 +62,7 @@ Alone w ws r = (ws ≡ []) × (((w ≡ codes "--help") × (r ≡ request.Help)) 
 -- These words are right, and ask for this.
 abbrev pub Right : List Word → Request → Type 0
 Right [] r = ⊥
-Right (w ∷ ws) r = Loads w ws r ⊎ (InStore w ws r ⊎ Alone w ws r)
+Right (w ∷ ws) r = Loads w ws r ⊎ (InStore w ws r ⊎ (Demonstrates w ws r ⊎ Alone w ws r))
 
 -- these words are right
 abbrev pub AreRight : List Word → Type 0

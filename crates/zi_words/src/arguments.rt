@@ -6,7 +6,7 @@ ghost use Rattle.std.specs.List.{list_all};
 ghost use Rattle.std.specs.Str.{chars};
 ghost use Rattle.zi_text.specs.Numeral.{number_from, numeral};
 ghost use Rattle.zi_version.specs.Range.{range_of};
-ghost use Rattle.zi_words.specs.Forms.{Word, begins, is_carried, is_address, level_of, stability_of, network_of, budget_of, Address, Name, Range as ARange, Level, «Network'», Rating, Budget};
+ghost use Rattle.zi_words.specs.Forms.{Word, begins, is_carried, is_address, level_of, stability_of, network_of, budget_of, demo_number, Address, Name, Range as ARange, Level, «Network'», Rating, Budget};
 ghost use Rattle.zi_words.specs.Taken.{MissesWith};
 
 use crate::refusal::Refusal;
@@ -17,6 +17,9 @@ use zi_version::{Range, RangeFault};
 
 // The greatest number of lemmas that may be asked for.
 const MOST_LEMMAS: u64 = 4_000_000_000;
+
+// The greatest number of a demonstration.
+const MOST_CHOICES: u64 = 1_000;
 
 // A character that XML can carry, no tab and no line end.
 #[tactic(auto, unfolding(crate::specs::Forms::is_carried))]
@@ -200,6 +203,19 @@ fn numeral(text: &str) -> Option<u64>
         return None;
     }
     number(text.as_bytes())
+}
+
+/// The number of a demonstration that a word says.
+#[tactic(auto, unfolding(crate::specs::Forms::demo_number))]
+pub fn demo_number(text: &str) -> Option<u64>
+    ensures { result ≡ demo_number text.now }
+{
+    let number = numeral(text)?;
+    if number >= 1 && number <= MOST_CHOICES {
+        Some(number)
+    } else {
+        None
+    }
 }
 
 // The number of lemmas that a word says.

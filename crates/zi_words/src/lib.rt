@@ -5,6 +5,7 @@
 
 mod arguments;
 mod asked;
+mod demo;
 mod kind;
 pub mod laws;
 mod loader;

@@ -1,7 +1,7 @@
 //! The words of the commands that load feeds.
 
 ghost use Rattle.std.specs.Prelude.{◌≡◌, map, length, unwrap_or, Some, codes, IfOk, MatchResult};
-ghost use Rattle.zi_words.specs.Options.{or_english, wanted, ask_of};
+ghost use Rattle.zi_words.specs.Options.{or_english, wanted, nothing, ask_of};
 ghost use Rattle.zi_words.specs.Words.{count_of, request_of, AsksLoading};
 ghost use Rattle.zi_words.specs.Refused.{Refused};
 ghost use Rattle.zi_words.specs.Taken.{PastDashes, IsEnd};
@@ -147,6 +147,16 @@ impl Asked {
             },
             search: search.unwrap_or(100_000),
         })
+    }
+}
+
+impl Ask {
+    /// What is asked of the program at an address where no option is given: its command `run`, each version, and what the
+    /// policy has by itself. Memory is its one refusal.
+    pub fn without_options(alloc: Global, root: &Text) -> Result<Ask, Memory>
+        ensures { IfOk result (λ a. a ≡ ask_of root.now nothing) }
+    {
+        Asked::new(alloc).into_ask(alloc, root)
     }
 }
 

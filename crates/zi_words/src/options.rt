@@ -56,8 +56,8 @@ fn first_option<'a>(loader: Loader, words: &'a [Text]) -> Option<(Kind, &'a [Tex
 }
 
 impl Asked {
-    // Nothing is asked yet.
-    fn new(alloc: Global) -> Asked
+    /// Nothing is asked yet.
+    pub(crate) fn new(alloc: Global) -> Asked
         ensures { result ≡ nothing }
     {
         Asked {

@@ -4,6 +4,7 @@ ghost use Rattle.std.specs.Prelude.{MatchResult};
 ghost use Rattle.zi_words.specs.Words.{Right, FaultMeans};
 ghost use Rattle.zi_words.specs.Refused.{Refused};
 
+use crate::demo::demo;
 use crate::loader::Loader;
 use crate::loading::loading;
 use crate::refusal::Refusal;
@@ -24,6 +25,7 @@ fn request(alloc: Global, words: &[Text]) -> Result<Request, Refusal>
         "refute" => loading(alloc, Loader::Refute, behind),
         "manifest" => manifest(alloc, behind),
         "store" => store(alloc, behind),
+        "demo" => demo(behind),
         "--help" => ended(Request::Help, behind),
         "--version" => ended(Request::Version, behind),
         _ => Err(Refusal::Left(words.len())),
@@ -34,7 +36,7 @@ impl Request {
     /// What the words of a command line ask for, the program's own name left out.
     ///
     /// Right words are `select [options] ROOT`, `refute [options] ROOT PROOF`, `manifest ALG NAME`, `store add NAME FILE..`,
-    /// `store verify NAME`, `store list`, and `--help` or `--version` alone. The options and what each sets are in `Kind`; they
+    /// `store verify NAME`, `store list`, `demo N`, and `--help` or `--version` alone. The options and what each sets are in `Kind`; they
     /// come before ROOT, and `--` may end them. A word that looks like an option is a value where a value stands.
     ///
     /// `Usage` is answered exactly where no request is right for the words. Its index counts from 0: it is the number of

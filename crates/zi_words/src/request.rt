@@ -44,6 +44,8 @@ pub enum Request {
     Verify { name: DigestName },
     /// `store list`: the digest names in the store.
     Names,
+    /// `demo`: the choice of the demonstration with this number, which is from 1 to 1,000.
+    Demo { n: u64 },
     /// `--help`: the commands and options.
     Help,
     /// `--version`: which program this is.

@@ -112,6 +112,7 @@ fn shown(alloc: Global, request: &Request) -> Result<String, Fail> {
             Ok(format!(in alloc; "verify {}", name.text(alloc)?.as_str())?)
         }
         Request::Names => Ok(String::from_str(alloc, "names")?),
+        Request::Demo { n } => Ok(format!(in alloc; "demo {n}")?),
         Request::Help => Ok(String::from_str(alloc, "help")?),
         Request::Version => Ok(String::from_str(alloc, "version")?),
     }
@@ -250,6 +251,17 @@ Refute /a b -> 0
 --version -> version
 --version 1 -> 1
 -h -> 0
+demo -> 1
+demo 0 -> 1
+demo 1 -> demo 1
+demo 040 -> demo 40
+demo 1000 -> demo 1000
+demo 1001 -> 1
+demo 18446744073709551617 -> 1
+demo x -> 1
+demo -1 -> 1
+demo _ -> 1
+demo 40 40 -> 2
 manifest -> 1
 manifest sha1 -> 1
 manifest sha256 -> 2
@@ -288,5 +300,15 @@ store verify sha1new=da39a3ee5e6b4b0d3255bfef95601890afd80709 x -> 3";
 #[test]
 fn files_are_named(rt: HostRuntime) -> Result<(), Fail> {
     assert_eq!(rt; first_wrong(rt.alloc(), FILES)?, "");
+    Ok(())
+}
+
+/// Without options an ask is what the root alone says.
+#[test]
+fn an_ask_without_options(rt: HostRuntime) -> Result<(), Fail> {
+    let alloc = rt.alloc();
+    let ask = Ask::without_options(alloc, &Text::from_str(alloc, "/a")?)?;
+    let shown = asked(alloc, &ask)?;
+    assert_eq!(rt; shown.as_str(), answer(alloc, "select /a")?.as_str());
     Ok(())
 }

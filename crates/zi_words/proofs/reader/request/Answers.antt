@@ -1,6 +1,6 @@
 use Rattle.std.proofs.Common.{sym, ◌∙◌}
 use Rattle.zi_words.specs.declared.loader.Loader.TheVariants.{Select, Refute}
-use Rattle.zi_words.proofs.RightLemmas.{right_none, right_unknown, right_loading, right_manifest, right_store, right_help, right_version}
+use Rattle.zi_words.proofs.RightLemmas.{right_none, right_unknown, right_loading, right_manifest, right_store, right_demo, right_help, right_version}
 use Rattle.zi_words.proofs.reader.request.Goals as goal
 
 pub returns-in_default : goal.returns-in_default
@@ -23,6 +23,10 @@ pub returns-in-store : goal.returns-in-store
 returns-in-store c =
     right_store c.args.words.now c.in-Some.behind.now c.in-Some.word.now c.store.result c.in-Some.ensures.cases.0 (sym c.as_str.ensures ∙ c.in-store.is) c.store.ensures
 
+pub returns-in-demo : goal.returns-in-demo
+returns-in-demo c =
+    right_demo c.args.words.now c.in-Some.behind.now c.in-Some.word.now c.demo.result c.in-Some.ensures.cases.0 (sym c.as_str.ensures ∙ c.in-demo.is) c.demo.ensures
+
 pub returns-in-text : goal.returns-in-text
 returns-in-text c =
     right_help c.args.words.now c.in-Some.behind.now c.in-Some.word.now c.ended.result c.in-Some.ensures.cases.0 (sym c.as_str.ensures ∙ c.in-text.is) c.ended.ensures
@@ -35,5 +39,5 @@ pub returns-in_default-as_str : goal.returns-in_default-as_str
 returns-in_default-as_str c =
     let is = c.as_str.ensures in
     right_unknown c.args.words.now c.in-Some.behind.now c.in-Some.word.now c.in-Some.ensures.cases.0 (λ e. c.in_default-as_str.not-select (is ∙ e))
-    (λ e. c.in_default-as_str.not-refute (is ∙ e)) (λ e. c.in_default-as_str.not-manifest (is ∙ e)) (λ e. c.in_default-as_str.not-store (is ∙ e)) (λ e. c.in_default-as_str.not-text (is ∙ e))
-    (λ e. c.in_default-as_str.not-text-2 (is ∙ e))
+    (λ e. c.in_default-as_str.not-refute (is ∙ e)) (λ e. c.in_default-as_str.not-manifest (is ∙ e)) (λ e. c.in_default-as_str.not-store (is ∙ e)) (λ e. c.in_default-as_str.not-demo (is ∙ e))
+    (λ e. c.in_default-as_str.not-text (is ∙ e)) (λ e. c.in_default-as_str.not-text-2 (is ∙ e))
