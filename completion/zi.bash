@@ -5,7 +5,7 @@ _zi() {
     local options="--command --no-command --version --version-for --os --cpu --lang --level --network --use --rate --search --"
     COMPREPLY=()
     if [ "$COMP_CWORD" -eq 1 ]; then
-        mapfile -t COMPREPLY < <(compgen -W "select refute manifest store --help --version" -- "$word")
+        mapfile -t COMPREPLY < <(compgen -W "select refute manifest store demo --help --version" -- "$word")
         return
     fi
     case ${COMP_WORDS[1]} in

@@ -511,6 +511,11 @@ def wrong_words(folder):
         (["selects"], 0),
         (["--help", "x"], 1),
         (["--version", "--help"], 1),
+        (["demo"], 1),
+        (["demo", "0"], 1),
+        (["demo", "1001"], 1),
+        (["demo", "x"], 1),
+        (["demo", "40", "40"], 2),
         (["select"], 1),
         (["select", "--"], 2),
         (["select", "/a", "--proof"], 2),
@@ -549,10 +554,17 @@ def wrong_words(folder):
         expect(run(words, folder), 64, b"", f"zi: usage at word {index}\n".encode())
 
 
+def demonstrations(folder):
+    """The best choice of the demonstration, whatever feeds and store are there."""
+    for n in (1, 2, 40):
+        lines = [f"interfaces {n + 4}", f"candidates {2 * n + 10}", f"selections {n + 4}", f"first {n + 1}", "checked yes"]
+        expect(run(["demo", str(n)], folder, feeds=os.path.join(folder, "absent")), 0, "".join(line + "\n" for line in lines).encode(), b"")
+
+
 def help_and_version(folder):
     status, out, err = run(["--help"], folder)
     options = ["--no-command", "--version", "--version-for", "--os", "--cpu", "--lang", "--level", "--network", "--use", "--rate", "--command", "--search", "--proof"]
-    missing = [word for word in ["zi select", "zi refute", "zi --help", "zi --version", "Linux", "x86_64", "ZI_FEEDS"] + options if word.encode() not in out]
+    missing = [word for word in ["zi select", "zi refute", "zi demo", "zi --help", "zi --version", "Linux", "x86_64", "ZI_FEEDS"] + options if word.encode() not in out]
     if status != 0 or err or missing or not out.endswith(b"\n"):
         raise Wrong(f"{status}, {missing}, {out!r}, {err!r}")
     expect(run(["--version"], folder), 0, b"zi 0.1\n", b"")
@@ -796,6 +808,7 @@ ROWS = [
     a_long_feed,
     an_output_that_fails,
     wrong_words,
+    demonstrations,
     help_and_version,
     options,
     parts_of_the_chosen,

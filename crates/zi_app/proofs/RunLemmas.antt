@@ -14,6 +14,7 @@ use Rattle.zi_words.specs.declared.request.WordsFault.TheVariants as fault
 use Rattle.zi_words.specs.Forms.{Word}
 use Rattle.zi_words.specs.Options.{ask_of, gathered}
 use Rattle.zi_words.specs.Store.{AsksStore}
+use Rattle.zi_words.specs.Demo.{AsksDemo}
 use Rattle.zi_words.proofs.SearchLaws.{IsWithin, is_within}
 use Rattle.zi_app.specs.declared.checked.Checked.{Checked}
 use Rattle.zi_app.specs.declared.checked.Checked.TheVariants as checked
@@ -22,7 +23,8 @@ use Rattle.zi_outcome.specs.declared.outcome.Outcome.{Outcome}
 use Rattle.zi_outcome.specs.declared.outcome.Outcome.TheVariants.{Done, Usage}
 use Rattle.zi_world.specs.World.{World}
 use Rattle.zi_outcome.specs.Writing.{PrintsThen, Prints}
-use Rattle.zi_app.specs.Showing.{ShowsText}
+use Rattle.zi_app.specs.Showing.{ShowsText, ShowsDemo}
+use Rattle.zi_choosing.specs.Demo.{Demos}
 use Rattle.zi_app.specs.StoreVerify.{TellsCheck}
 use Rattle.zi_app.specs.Answers.{Does, Works, Runs}
 use Rattle.zi_app.specs.Words.{IsInForm, words_outcome}
@@ -33,7 +35,7 @@ use Rattle.zi_outcome.specs.Line.{Tells}
 use Rattle.zi_store.specs.Keeping.{is_names, is_reading}
 use Rattle.zi_world.proofs.ShelvesLemmas.{untouched, nothing_done, untouched_lasts, keeps_lasts}
 
--- right words ask for files with names, and for no more lemmas than there may be
+-- right words ask for files with names, for no more lemmas than there may be, and for a demonstration that there is
 abbrev IsLoading : Request → Type 0
 IsLoading (request.Select ask proof) = Unit {0}
 IsLoading (request.Refute ask proof) = Unit {0}
@@ -60,16 +62,22 @@ within_form (request.Manifest algorithm name) h l = tt
 within_form (request.Add name files) h l = absurd l
 within_form (request.Verify name) h l = tt
 within_form request.Names h l = tt
+within_form (request.Demo n) h l = h
 within_form request.Help h l = tt
 within_form request.Version h l = tt
+
+-- of a demonstration
+demo_form : (ws : List (List ℕ)) (r : Request) → IsWithin r → AsksDemo ws r → IsInForm r
+demo_form ws r h (word, n, are, number, asked) = subst IsInForm (sym asked) (subst IsWithin asked h)
 
 pub in_form : (words : List (List ℕ)) (r : Request) → Right words r → IsInForm r
 in_form [] r right = absurd right
 in_form (w ∷ ws) r (inl loads) = within_form r (is_within (w ∷ ws) r (inl loads)) (loads_form ws r w loads)
 in_form (w ∷ ws) r (inr (inl (inl (e, (a, name, are, right, asked))))) = subst IsInForm (sym asked) tt
 in_form (w ∷ ws) r (inr (inl (inr (e, s)))) = store_form ws r s
-in_form (w ∷ ws) r (inr (inr (are, inl (e, asked)))) = subst IsInForm (sym asked) tt
-in_form (w ∷ ws) r (inr (inr (are, inr (e, asked)))) = subst IsInForm (sym asked) tt
+in_form (w ∷ ws) r (inr (inr (inl demo))) = demo_form ws r (is_within (w ∷ ws) r (inr (inr (inl demo)))) demo.1
+in_form (w ∷ ws) r (inr (inr (inr (are, inl (e, asked))))) = subst IsInForm (sym asked) tt
+in_form (w ∷ ws) r (inr (inr (inr (are, inr (e, asked))))) = subst IsInForm (sym asked) tt
 
 -- Right words never come to Usage.
 no_print : (text : List ℕ) (ending : Outcome) (old new : Sinking) (index : ℕ) → ending ≢ Usage index → PrintsThen text ending old new (Usage index) → ⊥
@@ -106,6 +114,7 @@ never_usage (request.Verify name) before after index d = elim d.answer [
   | inr s ↦ no_check name s.1.0 before.out after.out index s.1.2
 ]
 never_usage request.Names before after index d = elim d.answer [ inl f ↦ f | inr s ↦ no_show _ before.out after.out index s.1.2 ]
+never_usage (request.Demo n) before after index d = elim d.out [ inl shown ↦ shown.counts | inr m ↦ (let e = m.0 in (cc e)) ]
 never_usage request.Help before after index d = no_show _ before.out after.out index d.out
 never_usage request.Version before after index d = no_show _ before.out after.out index d.out
 
@@ -119,6 +128,11 @@ words_wrong words fault.Memory world means = inr (inr (refl, nothing_done world)
 
 pub words_unread : (words : List (List ℕ)) (f : WordsFault) (world : World) (outcome : Outcome) → FaultMeans words f → outcome ≡ words_outcome f → Works words world world outcome
 words_unread words f world outcome means e = subst (λ x. Works words world world x) (sym e) (words_wrong words f world means)
+
+-- the lines of a demonstration are written
+pub shows_demo : (n : ℕ) (world : World) (out : Sinking) (outcome : Outcome) → Demos n world.out out outcome
+    → ShowsDemo n world (record { feeds = world.feeds; shelf = world.shelf; out = out }) outcome
+shows_demo n world out outcome d = record { feeds = refl; shelf = untouched world.shelf; out = d }
 
 -- a text is printed
 pub shows : (text shown : List ℕ) (world : World) (out : Sinking) (outcome : Outcome) → shown ≡ text → Prints shown world.out out outcome
@@ -135,6 +149,7 @@ does_last (request.Manifest algorithm name) before after outcome d = keeps_lasts
 does_last (request.Add name files) before after outcome d = d.shelf
 does_last (request.Verify name) before after outcome d = keeps_lasts is_reading before.shelf after.shelf d.shelf
 does_last request.Names before after outcome d = keeps_lasts is_names before.shelf after.shelf d.shelf
+does_last (request.Demo n) before after outcome d = untouched_lasts before.shelf after.shelf d.shelf
 does_last request.Help before after outcome d = untouched_lasts before.shelf after.shelf d.shelf
 does_last request.Version before after outcome d = untouched_lasts before.shelf after.shelf d.shelf
 
@@ -145,6 +160,7 @@ does_stay (request.Manifest algorithm name) before after outcome d = unasked_sta
 does_stay (request.Add name files) before after outcome d = d.feeds
 does_stay (request.Verify name) before after outcome d = unasked_stay before.feeds after.feeds d.feeds
 does_stay request.Names before after outcome d = unasked_stay before.feeds after.feeds d.feeds
+does_stay (request.Demo n) before after outcome d = unasked_stay before.feeds after.feeds d.feeds
 does_stay request.Help before after outcome d = unasked_stay before.feeds after.feeds d.feeds
 does_stay request.Version before after outcome d = unasked_stay before.feeds after.feeds d.feeds
 

@@ -18,7 +18,7 @@ use Rattle.zi_app.specs.ManifestCommand.{Manifests}
 use Rattle.zi_app.specs.StoreList.{Lists}
 use Rattle.zi_app.specs.StoreVerify.{VerifiesTree}
 use Rattle.zi_app.specs.Adding.{Adds}
-use Rattle.zi_app.specs.Showing.{ShowsText}
+use Rattle.zi_app.specs.Showing.{ShowsText, ShowsDemo}
 
 -- What a request asks for is done, to this outcome.
 abbrev pub Does : Request → World → World → Outcome → Type 0
@@ -28,6 +28,7 @@ Does (request.Manifest algorithm name) before after outcome = Manifests algorith
 Does (request.Add name files) before after outcome = Adds name files before after outcome
 Does (request.Verify name) before after outcome = VerifiesTree name before after outcome
 Does request.Names before after outcome = Lists before after outcome
+Does (request.Demo n) before after outcome = ShowsDemo n before after outcome
 Does request.Help before after outcome = ShowsText HELP.now before after outcome
 Does request.Version before after outcome = ShowsText VERSION.now before after outcome
 

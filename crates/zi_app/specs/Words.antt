@@ -14,10 +14,11 @@ use Rattle.zi_outcome.specs.declared.outcome.Outcome.{Outcome}
 use Rattle.zi_outcome.specs.declared.outcome.Outcome.TheVariants.{Usage, Memory}
 use Rattle.zi_outcome.specs.Line.{Tells}
 
--- the search may be let learn so many lemmas, and each file goes into a tree under a name
+-- the search may be let learn so many lemmas, each file goes into a tree under a name, and there is a demonstration of the number
 abbrev pub IsInForm : Request → Type 0
 IsInForm (request.Select ask proof) = ask.search ≤ most_lemmas
 IsInForm (request.Add name files) = list_all is_file files ≡ true
+IsInForm (request.Demo n) = (1 ≤ n) × (n ≤ 1000)
 IsInForm other = Unit {0}
 
 -- the outcome of words that aren't read

@@ -25,6 +25,10 @@ zi store verify DIGEST
     manifest that stands in it differs: in which line, not at all, or that none stands there.
 zi store list
     Writes the digests that the store has.
+zi demo N
+    Chooses for a made program of N and four interfaces, N from 1 to 1000, and writes how many
+    interfaces, candidates and selections there are, how many of these are the first of their
+    interface, and that the certificate was checked. No feed is read.
 zi --help
     Writes this text.
 zi --version

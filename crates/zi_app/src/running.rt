@@ -10,7 +10,7 @@ use crate::help::{HELP, VERSION};
 use crate::manifests::manifest;
 use crate::names::list;
 use std::alloc::Global;
-use zi_choosing::{refute, select};
+use zi_choosing::{demonstrate, refute, select};
 use zi_outcome::{Outcome, put_text, tell};
 use zi_outside::{Feeds, Sink, SinkFault, Vars};
 use zi_shelf::Shelf;
@@ -22,7 +22,8 @@ use zi_words::{Request, WordsFault};
 /// `select` finds out which digests are stored, loads the universe that its words ask for, and writes the document of the best
 /// choice, a certificate of it, or a proof that there is none; `refute` loads it too, and says whether a proof shows that there
 /// is none; `manifest`, `store verify` and `store list` read the store and write what they say of it, and `store add` puts
-/// files there as a tree; `--help` and `--version` write their texts.
+/// files there as a tree; `demo` counts what the best choice of a demonstration selects, whose feeds it makes itself; `--help`
+/// and `--version` write their texts.
 pub fn run<F: Feeds, K: Shelf, O: Sink, E: Sink>(
     alloc: Global,
     words: &[Text],
@@ -94,6 +95,7 @@ fn answer<F: Feeds, K: Shelf, O: Sink>(
         Request::Add { name, files } => add(alloc, name, files, feeds, shelf, out),
         Request::Verify { name } => verify_tree(alloc, name, shelf, out),
         Request::Names => list(alloc, shelf, out),
+        Request::Demo { n } => demonstrate(alloc, n, out),
         Request::Help => put_text(HELP.as_bytes(), out),
         Request::Version => put_text(VERSION.as_bytes(), out),
     }

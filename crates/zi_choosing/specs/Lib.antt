@@ -4,3 +4,5 @@ pub mod Refute
 pub mod RefuteParts
 pub mod Select
 pub mod SelectParts
+pub mod Demo
+pub mod DemoParts

@@ -104,8 +104,8 @@ fn put_refutation<O: Sink>(alloc: Global, proof: Proof, out: &mut O) -> Outcome
     }
 }
 
-// The outcome of a search that learned as many lemmas as it was let.
-fn spent(proof: Proof, count: u64) -> Outcome
+/// The outcome of a search that learned as many lemmas as it was let.
+pub(crate) fn spent(proof: Proof, count: u64) -> Outcome
     ensures { result ≡ Spent proof count }
 {
     Outcome::Spent { proof, count }
