@@ -18,8 +18,3 @@ pub use help::{HELP, VERSION};
 pub use running::{refuse, run};
 pub use zi_outcome::Outcome;
 pub use zi_universe::BadFeed;
-
-#[cfg(test)]
-mod adding_tests;
-#[cfg(test)]
-mod tests;

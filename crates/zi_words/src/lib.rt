@@ -15,8 +15,6 @@ mod reader;
 mod refusal;
 mod request;
 mod store;
-#[cfg(test)]
-mod tests;
 
 pub use request::{Ask, Request, Wanted, WordsFault};
 pub use store::last_part;

@@ -1,12 +1,12 @@
 //! Rows of words with what they ask for, or the index at which they stop being right, taken by hand from the rules.
 //! Each option is tried, each command, and the ways in which words can go wrong.
 //! In a row the words stand between blanks, `_` is the empty word, and the answer stands behind the arrow.
-use crate::{Ask, Request, Wanted, WordsFault};
 use std::alloc::Global;
 use std::test::Fail;
 use zi_policy::Override;
 use zi_text::{List, Text};
 use zi_version::Version;
+use zi_words::{Ask, Request, Wanted, WordsFault};
 
 /// The words of a row.
 fn words(alloc: Global, row: &str) -> Result<List<Text>, Fail> {

@@ -1,7 +1,8 @@
-use super::*;
+//! What the program answers over feeds, a store and streams in memory: what it writes, its status and its line.
 use std::alloc::Global;
 use std::process::Abort;
 use std::test::Fail;
+use zi_app::{HELP, VERSION, feed_file, refuse, run};
 use zi_outside::{MemoryFeeds, MemorySink, Vars};
 use zi_shelf::MemoryShelf;
 use zi_text::{Bytes, List, Text};

@@ -1,9 +1,9 @@
 //! What `store add` answers over files and a store in memory.
 
-use crate::running::run;
 use std::alloc::Global;
 use std::process::Abort;
 use std::test::Fail;
+use zi_app::run;
 use zi_outside::{Feeds, FeedsFault, Got, MemoryFeeds, MemorySink, Vars};
 use zi_shelf::MemoryShelf;
 use zi_text::{List, Text};
