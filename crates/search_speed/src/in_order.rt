@@ -2,7 +2,7 @@
 //! Its rule is the opposite of the first undecided variable.
 //! It needs no variables.
 
-ghost use Rattle.std.specs.Prelude.{◌≡◌, ◌≤◌, ℕ, IfSome, IfNone, true, false};
+ghost use Rattle.std.specs.Prelude.{◌≡◌, ◌≤◌, ℕ, [], IfSome, IfNone, true, false};
 ghost use Rattle.zi_proof.specs.Known.{is_open};
 ghost use Rattle.zi_sat.specs.Trail.{known_from};
 ghost use Rattle.zi_sat.specs.Least.{least_open};
@@ -39,7 +39,11 @@ impl Decider for InOrder {
 
     ghost needs = { λ _. 0 };
 
+    ghost taken = { λ _. [] };
+
     fn pick(&mut self, t: &Trail) -> Result<Option<Lit>, Memory> {
         Ok(first_open(t))
     }
+
+    fn go_back(&mut self, _t: &Trail) {}
 }

@@ -1,3 +1,4 @@
+pub mod BehindLaws
 pub mod TrailLaws
 pub mod GroupLaws
 pub mod FrameLaws

@@ -105,6 +105,7 @@ pub(crate) fn seek<D: Decider>(
     requires within { Within f.now }
     requires same { t.old.variables ≡ f.now.variables }
     requires needs { D.needs d.old ≤ f.now.variables }
+    requires taken { D.taken d.old ≡ [] }
     requires once { OnceAll f.now.constraints }
     requires empty_trail { t.old.entries ≡ [] }
     requires empty_log { proof.old.lemmas ≡ [] }
@@ -128,6 +129,7 @@ pub(crate) fn seek<D: Decider>(
         if let Some(found) = resolve(alloc, f, t, proof, d, hint, budget, &mut marked)? {
             return Ok(found);
         }
+        d.go_back(t);
         cut_to(&mut w, t.len());
         watch_last(&mut w, f.variables, proof.lemmas.as_slice())?;
         say_last(f, proof.lemmas.as_slice(), t)?;

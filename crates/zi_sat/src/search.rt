@@ -103,6 +103,7 @@ impl<'f> Search<'f> {
     ) -> Result<Found, Memory>
         requires empty_log { self.old.log.lemmas ≡ [] }
         requires needs { D.needs d.old ≤ self.old.formula.variables }
+        requires taken { D.taken d.old ≡ [] }
         requires few { length self.old.formula.constraints + budget < 2 ^ 32 - 1 }
         ensures formula { self.new.formula ≡ self.old.formula }
         ensures rule { D.chooses d.new ≡ D.chooses d.old }

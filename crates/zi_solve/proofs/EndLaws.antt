@@ -30,10 +30,13 @@ use Rattle.zi_solve.proofs.SolveLaws.{not_first}
 
 module _ (u : List Interface) (req : Requirement) (f : Formula) (is : f ≡ formula u req) where
   -- the search's conditions
-  pub needed : (w : WalkSeen) → w ≡ record { universe = u; requirement = req } → var_count w.universe ≤ f.variables
+  pub needed : (w : WalkSeen) → w ≡ record { universe = u; requirement = req; taken = [] } → var_count w.universe ≤ f.variables
   needed w by =
       let e : f.variables ≡ var_count u = ap (λ (g : Formula). g.variables) is in
       subst (λ (v : WalkSeen). var_count v.universe ≤ f.variables) (sym by) (omega (arith, e))
+
+  pub nothing_taken : (w : WalkSeen) → w ≡ record { universe = u; requirement = req; taken = [] } → w.taken ≡ []
+  nothing_taken w by = ap (λ (v : WalkSeen). v.taken) by
 
   pub few_constraints : (budget : ℕ) → literals (formula u req).constraints ≤ most_literals → budget ≤ 4000000000 → length f.constraints + budget < 2 ^ 32 - 1
   few_constraints budget few small =
@@ -79,7 +82,7 @@ module _ (u : List Interface) (req : Requirement) (f : Formula) (is : f ≡ form
     )
 
 -- whatever the search came to
-pub ended : (u : List Interface) (req : Requirement) (old new : SearchSeen) (w : WalkSeen) (budget : ℕ) (found : Found) → old.formula ≡ formula u req → w ≡ record { universe = u; requirement = req } → follows old.formula new.log.lemmas ≡ true → AreFresh old.formula.constraints new.log.lemmas → AreLean old.formula.constraints new.log.lemmas → Lawful (citable old.formula.constraints new.log.lemmas) old.formula.constraints (walk_picks w.universe w.requirement old.formula.variables) new.trail.entries → OpenAll nothing (lits_of new.trail.entries) → Ends old.formula new.log.lemmas new.trail.entries budget found → HasEnded u req budget new found
+pub ended : (u : List Interface) (req : Requirement) (old new : SearchSeen) (w : WalkSeen) (budget : ℕ) (found : Found) → old.formula ≡ formula u req → w ≡ record { universe = u; requirement = req; taken = [] } → follows old.formula new.log.lemmas ≡ true → AreFresh old.formula.constraints new.log.lemmas → AreLean old.formula.constraints new.log.lemmas → Lawful (citable old.formula.constraints new.log.lemmas) old.formula.constraints (walk_picks w.universe w.requirement old.formula.variables) new.trail.entries → OpenAll nothing (lits_of new.trail.entries) → Ends old.formula new.log.lemmas new.trail.entries budget found → HasEnded u req budget new found
 ended u req old new w budget found is by follow new_ones lean lawful open_all end = at found end
   where
     by_walk : Lawful (citable old.formula.constraints new.log.lemmas) old.formula.constraints (walk_picks u req old.formula.variables) new.trail.entries

@@ -7,3 +7,12 @@ pub mod Ways
 pub mod Replay
 pub mod Stops
 pub mod OpenLaws
+pub mod ListLaws
+pub mod InverseLaws
+pub mod StepLaws
+pub mod PathLaws
+pub mod PartLaws
+pub mod KeptLaws
+pub mod FirmLaws
+pub mod OnLaws
+pub mod TakenLaws

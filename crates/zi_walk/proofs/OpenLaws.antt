@@ -1,5 +1,5 @@
 -- Candidates, places and interfaces are looked at one after another.
-use Rattle.std.proofs.Common.{◌≡◌, ℕ, suc, ◌+◌, ◌<◌, ◌≤◌, Bool, true, false, not, cond, List, [], ◌∷◌, ◌++◌, length, map, take, drop, get_or, refl, sym, ap, ◌∙◌, subst, arith, Option, Some, None}
+use Rattle.std.proofs.Common.{◌≡◌, ℕ, zero, suc, ◌+◌, ◌<◌, ◌≤◌, Bool, true, false, not, cond, List, [], ◌∷◌, ◌++◌, length, map, take, drop, get_or, refl, sym, ap, ◌∙◌, subst, arith, Option, Some, None}
 use Rattle.std.specs.Prelude.{is_some}
 use Rattle.std.proofs.lemmas.Bool.{false≢true}
 use Rattle.std.proofs.lemmas.List.{take_all, drop_all}
@@ -93,6 +93,13 @@ chosen_more u k i ps qs p l h f e =
 
 pub chosen_all : (u : List Interface) (k : Known) (i : ℕ) (ps : List (Option ℕ)) → length u ≤ i → ps ≡ chosen_from u k 0 (take i u) → ps ≡ so_far u k
 chosen_all u k i ps l h = h ∙ ap (chosen_from u k 0) (take_all i u l)
+
+-- where all variables are decided no literal is found
+pub none_least : (k : Known) (n : ℕ) → ((x : ℕ) → 1 ≤ x → x ≤ n → is_open (k x) ≡ false) → least_open n k ≡ None
+none_least k zero h = refl
+none_least k (suc n) h =
+    ap (λ r. first_of r (cond (is_open (k (suc n))) (Some (record { variable = suc n; positive = false })) None)) (none_least k n (λ x l m. h x l (omega (arith, m))))
+    ∙ ap (λ b. cond b (Some (record { variable = suc n; positive = false })) None) (h (suc n) (omega arith) (omega arith))
 
 -- the places
 pub lit_there : (u : List Interface) (w : Option ℕ) (i : ℕ) (r : Option Var) (l : Lit) → Some l ≡ as_lit u (or_else w i None) → Some l ≡ as_lit u (or_else w i r)

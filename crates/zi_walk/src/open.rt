@@ -1,8 +1,9 @@
 //! What a trail knows of candidates, and where the first undecided one is.
-ghost use Rattle.std.specs.Prelude.{◌≡◌, ◌≤◌, ◌<◌, ℕ, None, true, false, map, length, IfOk, IfSome, IfNone};
+ghost use Rattle.std.specs.Prelude.{◌≡◌, ◌≤◌, ◌<◌, ◌-◌, None, true, false, map, length, IfOk, IfSome, IfNone};
 ghost use Rattle.zi_proof.specs.Known.{is_open};
 ghost use Rattle.zi_sat.specs.Trail.{known_from};
 ghost use Rattle.zi_sat.specs.Least.{least_open};
+ghost use Rattle.zi_sat.specs.Ends.{AreDecided};
 ghost use Rattle.zi_choice.specs.Vars.{Cand, candidates_of, var_number, var_count};
 ghost use Rattle.zi_choice.specs.Traces.{as_place};
 ghost use Rattle.zi_walk.specs.Rule.{first_where, is_chosen, is_undecided, so_far, waits_at, or_else, first_open, as_lit};
@@ -52,7 +53,7 @@ fn is_undecided(n: &Numbering, t: &Trail, i: u32, c: u32) -> bool
 }
 
 // The first candidate of an interface that is chosen.
-fn chosen_at(n: &Numbering, t: &Trail, i: u32) -> Option<u32>
+pub(crate) fn chosen_at(n: &Numbering, t: &Trail, i: u32) -> Option<u32>
     requires room { var_count n.now ≤ t.now.variables }
     ensures { result ≡ first_where (is_chosen n.now (known_from t.now.entries) i) 0 (candidates_of n.now i) }
 {
@@ -65,7 +66,7 @@ fn chosen_at(n: &Numbering, t: &Trail, i: u32) -> Option<u32>
 }
 
 // The first candidate of an interface that is undecided.
-fn undecided_at(n: &Numbering, t: &Trail, i: u32) -> Option<u32>
+pub(crate) fn undecided_at(n: &Numbering, t: &Trail, i: u32) -> Option<u32>
     requires room { var_count n.now ≤ t.now.variables }
     ensures is { result ≡ first_where (is_undecided n.now (known_from t.now.entries) i) 0 (candidates_of n.now i) }
     ensures there { IfSome result (λ c. c < length (candidates_of n.now i)) }
@@ -105,7 +106,7 @@ fn waits_at(n: &Numbering, t: &Trail, p: &Place) -> Option<u32>
 }
 
 // The literal that a candidate is chosen, where one waits at the place.
-fn lit_at(n: &Numbering, t: &Trail, p: &Place) -> Option<Lit>
+pub(crate) fn lit_at(n: &Numbering, t: &Trail, p: &Place) -> Option<Lit>
     requires room { var_count n.now ≤ t.now.variables }
     ensures is { result ≡ as_lit n.now (or_else (waits_at n.now (known_from t.now.entries) (as_place p.now)) p.now.interface None) }
     ensures undecided { IfSome result (λ l. (1 ≤ l.variable) × (l.variable ≤ t.now.variables) × (is_open (known_from t.now.entries l.variable) ≡ true)) }
@@ -132,13 +133,16 @@ pub(crate) fn first_open(n: &Numbering, t: &Trail, places: &[Place]) -> Option<L
     None
 }
 
-/// The opposite of the first undecided variable.
-pub(crate) fn least_open(t: &Trail) -> Option<Lit>
+/// The opposite of the first undecided variable, where those up to a mark are decided.
+pub(crate) fn least_open(t: &Trail, low: u32) -> Option<Lit>
+    requires { AreDecided low t.now.entries }
     ensures is { result ≡ least_open t.now.variables (known_from t.now.entries) }
     ensures undecided { IfSome result (λ l. (1 ≤ l.variable) × (l.variable ≤ t.now.variables) × (is_open (known_from t.now.entries l.variable) ≡ true)) }
-    ensures none { IfNone result ((x : ℕ) → 1 ≤ x → x ≤ t.now.variables → is_open (known_from t.now.entries x) ≡ false) }
+    ensures before { IfSome result (λ l. AreDecided (l.variable - 1) t.now.entries) }
+    ensures none { IfNone result (AreDecided t.now.variables t.now.entries) }
 {
-    for x in 0..t.variables() {
+    let mut x = low;
+    while x < t.variables() {
         let lit = Lit {
             variable: x + 1,
             positive: false,
@@ -146,6 +150,7 @@ pub(crate) fn least_open(t: &Trail) -> Option<Lit>
         if t.value(lit).is_none() {
             return Some(lit);
         }
+        x += 1;
     }
     None
 }

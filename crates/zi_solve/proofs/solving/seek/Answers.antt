@@ -2,12 +2,16 @@ use Rattle.std.proofs.Common.{subst}
 use Rattle.zi_proof.specs.Known.{nothing}
 use Rattle.zi_sat.specs.Trail.{lits_of, OpenAll}
 use Rattle.zi_sat.specs.View.{Seen}
-use Rattle.zi_solve.proofs.EndLaws.{needed, few_constraints, ended}
+use Rattle.zi_solve.proofs.EndLaws.{needed, nothing_taken, few_constraints, ended}
 use Rattle.zi_solve.proofs.solving.seek.Goals as goal
 
 pub run-requires-clause-needs : goal.run-requires-clause-needs
 run-requires-clause-needs c =
     needed c.args.u.now c.args.req.now c.args.search.now.formula c.requires.formula c.in_ok-walk.walk c.in_ok-walk.ensures
+
+pub run-requires-clause-taken : goal.run-requires-clause-taken
+run-requires-clause-taken c =
+    nothing_taken c.args.u.now c.args.req.now c.args.search.now.formula c.requires.formula c.in_ok-walk.walk c.in_ok-walk.ensures
 
 pub run-requires-clause-few : goal.run-requires-clause-few
 run-requires-clause-few c =
