@@ -1,3 +1,4 @@
 pub mod LoadedLemmas
 pub mod RefuteLemmas
 pub mod SelectLemmas
+pub mod DemoLemmas

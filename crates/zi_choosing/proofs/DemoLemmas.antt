@@ -1,0 +1,168 @@
+-- The counts of a demonstration, and what they mean for what was asked.
+use Rattle.std.proofs.Common.{◌≡◌, ℕ, inl, inr, Bool, true, false, List, [], ◌∷◌, ◌++◌, Some, refl, sym, ap, subst, ◌∙◌, append_assoc}
+use Rattle.std.specs.Prelude.{codes, IsTrue, ◌↔◌}
+use Rattle.zi_outside.specs.Views.{Feeding, Sinking}
+use Rattle.zi_outside.specs.Memory.{sure_told, sure_seen}
+use Rattle.zi_outside.specs.declared.sure_feeds.SureFeeds.{SureFeeds}
+use Rattle.zi_demo.specs.Feeds.{feeds, Holds}
+use Rattle.zi_universe.specs.declared.types.Interface.{Interface}
+use Rattle.zi_universe.specs.declared.types.Requirement.{Requirement}
+use Rattle.zi_universe.specs.declared.fault.LoadFault.{LoadFault}
+use Rattle.zi_universe.specs.declared.fault.LoadFault.TheVariants as load
+use Rattle.zi_choice.specs.Choice.{Choice}
+use Rattle.zi_choice.specs.Valid.{IsValid, NoneIsValid}
+use Rattle.zi_choice.specs.Best.{IsBest}
+use Rattle.zi_build.specs.declared.building.BuildFault.{BuildFault}
+use Rattle.zi_build.specs.declared.building.BuildFault.TheVariants as build
+use Rattle.zi_build.specs.Answers.{FaultMeans}
+use Rattle.zi_proof.specs.declared.proof.Proof.{Proof}
+use Rattle.zi_proof.specs.declared.proof.Certificate.{Certificate}
+use Rattle.zi_certificate.specs.Certificates.{Excludes, Refutes}
+use Rattle.zi_solve.specs.Answers.{IsSpent}
+use Rattle.zi_outcome.specs.declared.outcome.Outcome.{Outcome}
+use Rattle.zi_outcome.specs.declared.outcome.Outcome.TheVariants.{Done, Usage, FeedRead, NoRootFeed, BadFeed, FeedTooLong, TooManyFeeds, TooManyInterfaces, TooManyCandidates, TooLarge, NoSolution, Spent, NoFile, BadProof, Rejected, Overlap, Mismatch, MissingTree, DamagedTree, BadName, TreeTooLarge, StoreFault, Crowded, Unwritable, SinkFault, Memory}
+use Rattle.zi_outcome.specs.Refused.{outcome_of}
+use Rattle.zi_outcome.specs.Writing.{Prints}
+use Rattle.zi_choosing.specs.declared.counting.Counts.{Counts}
+use Rattle.zi_choosing.specs.Wanted.{requirement_of}
+use Rattle.zi_choosing.specs.Loaded.{Lent, IsLoaded, IsRefused, AreFew, build_outcome}
+use Rattle.zi_choosing.specs.Demo.{demo_ask, counts_of, count_line, lines, IsCounted, CountsOver, Demonstrates, Demos}
+use Rattle.zi_choosing.specs.DemoParts.{budget, CountsNothing, CountsBest, CountsFrom}
+
+-- the five lines, one behind another
+pub lines_put : (c : Counts) (a b d e all : List ℕ) → a ≡ count_line (codes "interfaces") c.interfaces → b ≡ a ++ count_line (codes "candidates") c.candidates
+    → d ≡ b ++ count_line (codes "selections") c.selections → e ≡ d ++ count_line (codes "first") c.first → all ≡ e ++ codes "checked yes\n" → all ≡ lines c
+unfolding lines
+lines_put c a b d e all f g h i j =
+    let first = count_line (codes "interfaces") c.interfaces in
+    let second = count_line (codes "candidates") c.candidates in
+    let third = count_line (codes "selections") c.selections in
+    let fourth = count_line (codes "first") c.first in
+    let last = codes "checked yes\n" in
+    j
+    ∙ (ap (λ v. v ++ last) i ∙ (append_assoc d fourth last
+    ∙ (ap (λ v. v ++ (fourth ++ last)) h ∙ (append_assoc b third (fourth ++ last)
+    ∙ (ap (λ v. v ++ (third ++ (fourth ++ last))) g ∙ (append_assoc a second (third ++ (fourth ++ last))
+    ∙ ap (λ v. v ++ (second ++ (third ++ (fourth ++ last)))) f))))))
+
+module _ (req : Requirement) (u : List Interface) where
+  -- the lines of the best choice were printed
+  pub counted : (choice : Choice) (c : Certificate) (old new : Sinking) (outcome : Outcome) → AreFew u req → IsBest u req choice → Excludes u req choice c
+      → Prints (lines (counts_of u choice)) old new outcome → CountsFrom req u old new outcome
+  counted choice c old new outcome few best excludes p =
+      inl (record { few = few; choice = choice; best = best; checked = (c, excludes); printed = p })
+
+  -- a certificate that excludes is never rejected
+  pub never_rejected : (choice : Choice) (c : Certificate) → IsBest u req choice → Excludes u req choice c → (IsTrue false ↔ IsValid u req choice × Excludes u req choice c) → ⊥
+  never_rejected choice c best excludes h = let f : false ≡ true = h.1 (best.valid, excludes) in cc
+
+  -- there was no formula
+  pub uncounted : (fault : BuildFault) (out : Sinking) (outcome : Outcome) → FaultMeans u req fault → outcome ≡ build_outcome fault → CountsFrom req u out out outcome
+  uncounted (build.TooLarge limit) out outcome means e = subst (λ x. CountsFrom req u out out x) (sym e) (inr (means, refl))
+  uncounted build.Memory out outcome means e = subst (λ x. CountsFrom req u out out x) (sym e) (inr (tt, refl))
+
+  -- no choice is valid, or the search was spent
+  pub none_counted : (p : Proof) (out : Sinking) (outcome : Outcome) → AreFew u req → Refutes u req p → NoneIsValid u req → outcome ≡ NoSolution p → CountsFrom req u out out outcome
+  none_counted p out outcome few refutes none e = subst (λ x. CountsFrom req u out out x) (sym e) (inr ((few, refutes, none), refl))
+
+  pub spent_counted : (p : Proof) (count : ℕ) (out : Sinking) (outcome : Outcome) → AreFew u req → count ≡ budget → IsSpent u req budget p → outcome ≡ Spent p count
+      → CountsFrom req u out out outcome
+  spent_counted p count out outcome few many spent e = subst (λ x. CountsFrom req u out out x) (sym e) (inr ((few, many, spent), refl))
+
+-- Behind the loading.
+unfolded_budget : (demo_ask).search ≡ budget
+unfolding demo_ask
+unfolded_budget = refl
+
+module _ (before after : Lent) where
+  counted_as : (u : List Interface) (outcome : Outcome) → IsLoaded [] demo_ask before.feeds after.feeds u → CountsBest (requirement_of demo_ask) u before.out after.out outcome
+      → CountsOver before after outcome
+  counted_as u outcome loaded b = by b.printed
+    where
+      text : List ℕ
+      text = lines (counts_of u b.choice)
+
+      is : IsCounted before.feeds after.feeds text
+      is = record { there = record { universe = u; loaded = loaded; few = b.few }; choice = b.choice; best = b.best; checked = b.checked; shown = refl }
+
+      by : Prints text before.out after.out outcome → CountsOver before after outcome
+      by (inl (w, e)) = subst (λ x. CountsOver before after x) (sym e) (text, is, w)
+      by (inr (inl (w, e))) = subst (λ x. CountsOver before after x) (sym e) (text, is, w)
+      by (inr (inr (w, e))) = subst (λ x. CountsOver before after x) (sym e) (inr (inr (inr (text, is, w))))
+
+  uncounted_as : (u : List Interface) (outcome : Outcome) → IsLoaded [] demo_ask before.feeds after.feeds u → CountsNothing (requirement_of demo_ask) u outcome
+      → after.out ≡ before.out → CountsOver before after outcome
+  uncounted_as u Done loaded why w = absurd why
+  uncounted_as u (Usage index) loaded why w = absurd why
+  uncounted_as u (FeedRead uri) loaded why w = absurd why
+  uncounted_as u NoRootFeed loaded why w = absurd why
+  uncounted_as u (BadFeed uri fault) loaded why w = absurd why
+  uncounted_as u (FeedTooLong uri limit) loaded why w = absurd why
+  uncounted_as u (TooManyFeeds limit) loaded why w = absurd why
+  uncounted_as u (TooManyInterfaces limit) loaded why w = absurd why
+  uncounted_as u (TooManyCandidates limit) loaded why w = absurd why
+  uncounted_as u (TooLarge limit) loaded why w = ((u, loaded, why), w)
+  uncounted_as u (NoSolution p) loaded why w = (record { there = record { universe = u; loaded = loaded; few = why.0 }; refutes = why.1; none = why.2 }, w)
+  uncounted_as u (Spent p count) loaded why w = (
+    record {
+      there = record { universe = u; loaded = loaded; few = why.0 };
+      count_is = why.1 ∙ sym unfolded_budget;
+      spent = subst (λ n. IsSpent u (requirement_of demo_ask) n p) (sym unfolded_budget) why.2;
+    },
+    w,
+  )
+  uncounted_as u (NoFile absent) loaded why w = absurd why
+  uncounted_as u (BadProof line) loaded why w = absurd why
+  uncounted_as u Rejected loaded why w = absurd why
+  uncounted_as u (Overlap path) loaded why w = absurd why
+  uncounted_as u (Mismatch wanted found) loaded why w = absurd why
+  uncounted_as u (MissingTree missing) loaded why w = absurd why
+  uncounted_as u (DamagedTree damaged found) loaded why w = absurd why
+  uncounted_as u (BadName path) loaded why w = absurd why
+  uncounted_as u (TreeTooLarge what limit) loaded why w = absurd why
+  uncounted_as u (StoreFault top) loaded why w = absurd why
+  uncounted_as u (Crowded tried) loaded why w = absurd why
+  uncounted_as u (Unwritable place) loaded why w = absurd why
+  uncounted_as u SinkFault loaded why w = absurd why
+  uncounted_as u Memory loaded why w = inr (inr (inl ((u, loaded, tt), w)))
+
+  counted_over : (u : List Interface) (outcome : Outcome) → IsLoaded [] demo_ask before.feeds after.feeds u
+      → CountsFrom (requirement_of demo_ask) u before.out after.out outcome → CountsOver before after outcome
+  counted_over u outcome loaded (inl b) = counted_as u outcome loaded b
+  counted_over u outcome loaded (inr (why, w)) = uncounted_as u outcome loaded why w
+
+  -- the counting of the universe that was loaded
+  pub over_loaded : (req : Requirement) (u : List Interface) (outcome : Outcome) → req ≡ requirement_of demo_ask → IsLoaded [] demo_ask before.feeds after.feeds u
+      → CountsFrom req u before.out after.out outcome → CountsOver before after outcome
+  over_loaded req u outcome e loaded c = counted_over u outcome loaded (subst (λ r. CountsFrom r u before.out after.out outcome) e c)
+
+  -- what a loading that was refused comes to
+  pub over_refused : (e : LoadFault) (outcome : Outcome) → IsRefused [] demo_ask before.feeds after.feeds e → after.out ≡ before.out → outcome ≡ outcome_of e
+      → CountsOver before after outcome
+  over_refused e outcome r w is = subst (λ x. CountsOver before after x) (sym is) (by e r)
+    where
+      by : (e : LoadFault) → IsRefused [] demo_ask before.feeds after.feeds e → CountsOver before after (outcome_of e)
+      by (load.FeedRead uri) r = (r, w)
+      by load.NoRootFeed r = (r, w)
+      by (load.BadFeed uri fault) r = (r, w)
+      by (load.FeedTooLong uri limit) r = (r, w)
+      by (load.TooManyFeeds limit) r = (r, w)
+      by (load.TooManyInterfaces limit) r = (r, w)
+      by (load.TooManyCandidates limit) r = (r, w)
+      by load.Memory r = inr (inl (r, w))
+
+-- there was no memory for what is asked
+pub no_job : (lent : Lent) → CountsOver lent lent Memory
+no_job lent = inl refl
+
+-- the feeds were made, and counted over
+pub demonstrated : (n : ℕ) (made : SureFeeds) (after : Feeding) (old new : Sinking) (outcome : Outcome) → Holds (feeds n) (sure_told made).holds → (sure_told made).asked ≡ []
+    → CountsOver (record { feeds = sure_seen made; out = old }) (record { feeds = after; out = new }) outcome → Demos n old new outcome
+demonstrated n made after old new outcome held unasked counts =
+    let seen : List (List ℕ) → Feeding = λ asked. record { told = Some (record { holds = (sure_told made).holds; asked = asked }); faults = 0; plan = [] } in
+    inl (record { before = sure_seen made; after = after; made = ((sure_told made).holds, held, ap seen unasked); counts = counts })
+
+pub undemonstrated : (n : ℕ) (out : Sinking) → Demos n out out Memory
+undemonstrated n out = inr (refl, refl)
+
+pub ruleset demonstrating = (undemonstrated)
