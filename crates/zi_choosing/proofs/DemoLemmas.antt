@@ -29,32 +29,12 @@ use Rattle.zi_choosing.specs.Loaded.{Lent, IsLoaded, IsRefused, AreFew, build_ou
 use Rattle.zi_choosing.specs.Demo.{demo_ask, counts_of, count_line, lines, IsCounted, CountsOver, Demonstrates, Demos}
 use Rattle.zi_choosing.specs.DemoParts.{budget, CountsNothing, CountsBest, CountsFrom}
 
--- the five lines, one behind another
-pub lines_put : (c : Counts) (a b d e all : List ℕ) → a ≡ count_line (codes "interfaces") c.interfaces → b ≡ a ++ count_line (codes "candidates") c.candidates
-    → d ≡ b ++ count_line (codes "selections") c.selections → e ≡ d ++ count_line (codes "first") c.first → all ≡ e ++ codes "checked yes\n" → all ≡ lines c
-unfolding lines
-lines_put c a b d e all f g h i j =
-    let first = count_line (codes "interfaces") c.interfaces in
-    let second = count_line (codes "candidates") c.candidates in
-    let third = count_line (codes "selections") c.selections in
-    let fourth = count_line (codes "first") c.first in
-    let last = codes "checked yes\n" in
-    j
-    ∙ (ap (λ v. v ++ last) i ∙ (append_assoc d fourth last
-    ∙ (ap (λ v. v ++ (fourth ++ last)) h ∙ (append_assoc b third (fourth ++ last)
-    ∙ (ap (λ v. v ++ (third ++ (fourth ++ last))) g ∙ (append_assoc a second (third ++ (fourth ++ last))
-    ∙ ap (λ v. v ++ (second ++ (third ++ (fourth ++ last)))) f))))))
-
 module _ (req : Requirement) (u : List Interface) where
   -- the lines of the best choice were printed
   pub counted : (choice : Choice) (c : Certificate) (old new : Sinking) (outcome : Outcome) → AreFew u req → IsBest u req choice → Excludes u req choice c
       → Prints (lines (counts_of u choice)) old new outcome → CountsFrom req u old new outcome
   counted choice c old new outcome few best excludes p =
       inl (record { few = few; choice = choice; best = best; checked = (c, excludes); printed = p })
-
-  -- a certificate that excludes is never rejected
-  pub never_rejected : (choice : Choice) (c : Certificate) → IsBest u req choice → Excludes u req choice c → (IsTrue false ↔ IsValid u req choice × Excludes u req choice c) → ⊥
-  never_rejected choice c best excludes h = let f : false ≡ true = h.1 (best.valid, excludes) in cc
 
   -- there was no formula
   pub uncounted : (fault : BuildFault) (out : Sinking) (outcome : Outcome) → FaultMeans u req fault → outcome ≡ build_outcome fault → CountsFrom req u out out outcome
@@ -68,6 +48,10 @@ module _ (req : Requirement) (u : List Interface) where
   pub spent_counted : (p : Proof) (count : ℕ) (out : Sinking) (outcome : Outcome) → AreFew u req → count ≡ budget → IsSpent u req budget p → outcome ≡ Spent p count
       → CountsFrom req u out out outcome
   spent_counted p count out outcome few many spent e = subst (λ x. CountsFrom req u out out x) (sym e) (inr ((few, many, spent), refl))
+
+pub ruleset counting = (counted, uncounted)
+
+pub ruleset answering = (none_counted, spent_counted, uncounted)
 
 -- Behind the loading.
 unfolded_budget : (demo_ask).search ≡ budget

@@ -77,6 +77,7 @@ fn put_lines<O: Sink>(
 }
 
 // Checks the certificate of the best choice, and writes the choice's lines.
+#[tactic(auto, using(crate::proofs::DemoLemmas::counting))]
 fn put_checked<O: Sink>(
     alloc: Global,
     req: &Requirement,
@@ -106,6 +107,7 @@ fn unsolved(proof: Proof) -> Outcome
 }
 
 // Finds the best choice from a universe, and writes its lines.
+#[tactic(auto, using(crate::proofs::DemoLemmas::answering))]
 fn count_best<O: Sink>(
     alloc: Global,
     req: &Requirement,
@@ -151,6 +153,7 @@ fn count_over<F: Feeds, O: Sink>(alloc: Global, feeds: &mut F, out: &mut O) -> O
 /// checked, and five lines are written: `interfaces` and how many there are, `candidates` and how many they have, `selections`
 /// and how many interfaces have one chosen, `first` and how many of these have their first, and `checked yes`. Where the lemmas
 /// are spent nothing is written, and the outcome is `Spent`.
+#[tactic(auto, using(crate::proofs::DemoLemmas::demonstrating))]
 pub fn demonstrate<O: Sink>(alloc: Global, n: u64, out: &mut O) -> Outcome
     requires low { 1 ≤ n }
     requires high { n ≤ 1000 }
