@@ -62,12 +62,7 @@ fn demo_job(alloc: Global) -> Result<Job, Memory>
 
 // Writes the lines of a choice.
 #[tactic(auto, using(crate::proofs::SelectLemmas::certifying))]
-fn put_lines<O: Sink>(
-    alloc: Global,
-    universe: &Universe,
-    choice: &Choice,
-    out: &mut O,
-) -> Outcome
+fn put_lines<O: Sink>(alloc: Global, universe: &Universe, choice: &Choice, out: &mut O) -> Outcome
     ensures { Prints (lines_of (counts_of universe.now choice.now.picks)) (O.seen out.old) (O.seen out.new) result }
 {
     match lines(alloc, &counts_of(universe, choice)) {
@@ -125,12 +120,7 @@ fn count_best<O: Sink>(
             },
         ) => put_checked(alloc, req, universe, &choice, &certificate, out),
         Ok(Answer::None { proof }) => unsolved(proof),
-        Ok(
-            Answer::Spent {
-                proof,
-                count,
-            },
-        ) => spent(proof, count),
+        Ok(Answer::Spent { proof, count }) => spent(proof, count),
         Err(fault) => without_formula(fault),
     }
 }
