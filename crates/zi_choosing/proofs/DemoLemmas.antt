@@ -1,6 +1,5 @@
 -- The counts of a demonstration, and what they mean for what was asked.
-use Rattle.std.proofs.Common.{◌≡◌, ℕ, inl, inr, Bool, true, false, List, [], ◌∷◌, ◌++◌, Some, refl, sym, ap, subst, ◌∙◌, append_assoc}
-use Rattle.std.specs.Prelude.{codes, IsTrue, ◌↔◌}
+use Rattle.std.proofs.Common.{◌≡◌, ℕ, inl, inr, List, [], Some, refl, sym, ap, subst, ◌∙◌}
 use Rattle.zi_outside.specs.Views.{Feeding, Sinking}
 use Rattle.zi_outside.specs.Memory.{sure_told, sure_seen}
 use Rattle.zi_outside.specs.declared.sure_feeds.SureFeeds.{SureFeeds}
@@ -10,7 +9,7 @@ use Rattle.zi_universe.specs.declared.types.Requirement.{Requirement}
 use Rattle.zi_universe.specs.declared.fault.LoadFault.{LoadFault}
 use Rattle.zi_universe.specs.declared.fault.LoadFault.TheVariants as load
 use Rattle.zi_choice.specs.Choice.{Choice}
-use Rattle.zi_choice.specs.Valid.{IsValid, NoneIsValid}
+use Rattle.zi_choice.specs.Valid.{NoneIsValid}
 use Rattle.zi_choice.specs.Best.{IsBest}
 use Rattle.zi_build.specs.declared.building.BuildFault.{BuildFault}
 use Rattle.zi_build.specs.declared.building.BuildFault.TheVariants as build
@@ -23,10 +22,9 @@ use Rattle.zi_outcome.specs.declared.outcome.Outcome.{Outcome}
 use Rattle.zi_outcome.specs.declared.outcome.Outcome.TheVariants.{Done, Usage, FeedRead, NoRootFeed, BadFeed, FeedTooLong, TooManyFeeds, TooManyInterfaces, TooManyCandidates, TooLarge, NoSolution, Spent, NoFile, BadProof, Rejected, Overlap, Mismatch, MissingTree, DamagedTree, BadName, TreeTooLarge, StoreFault, Crowded, Unwritable, SinkFault, Memory}
 use Rattle.zi_outcome.specs.Refused.{outcome_of}
 use Rattle.zi_outcome.specs.Writing.{Prints}
-use Rattle.zi_choosing.specs.declared.counting.Counts.{Counts}
 use Rattle.zi_choosing.specs.Wanted.{requirement_of}
 use Rattle.zi_choosing.specs.Loaded.{Lent, IsLoaded, IsRefused, AreFew, build_outcome}
-use Rattle.zi_choosing.specs.Demo.{demo_ask, counts_of, count_line, lines, IsCounted, CountsOver, Demonstrates, Demos}
+use Rattle.zi_choosing.specs.Demo.{demo_ask, counts_of, lines, IsCounted, CountsOver, Demos}
 use Rattle.zi_choosing.specs.DemoParts.{budget, CountsNothing, CountsBest, CountsFrom}
 
 module _ (req : Requirement) (u : List Interface) where
