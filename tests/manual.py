@@ -14,7 +14,7 @@ TOP = os.path.dirname(os.path.dirname(os.path.abspath(__file__)))
 PROGRAM = os.path.join(TOP, "crates", "zi", "out", "zi")
 OPTION = re.compile(r"(?<![\w-])--[a-z][a-z-]*(?![\w=-])")
 VARIABLE = re.compile(r"\bZI_[A-Z]+\b")
-COMMANDS = re.compile(r"^zi (--help|--version|store [a-z]+|[a-z]+)(?=$| \[| [A-Z]{2})", re.MULTILINE)
+COMMANDS = re.compile(r"^zi (--help|--version|store [a-z]+|[a-z]+)(?=$| \[| [A-Z](?:[A-Z]|$))", re.MULTILINE)
 
 
 def read(*path):
