@@ -5,6 +5,8 @@
 #[cfg(test)]
 mod adding;
 #[cfg(test)]
+mod demonstration;
+#[cfg(test)]
 mod running;
 #[cfg(test)]
 mod words;
