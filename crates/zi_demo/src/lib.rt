@@ -7,6 +7,3 @@ mod feeds;
 mod versions;
 
 pub use feeds::universe_of;
-
-#[cfg(test)]
-mod tests;

@@ -12,8 +12,6 @@ mod base32;
 mod hasher;
 mod hexadecimal;
 pub mod laws;
-#[cfg(test)]
-mod tests;
 
 pub use hasher::Hasher;
 use std::alloc::Global;

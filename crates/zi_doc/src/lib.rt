@@ -19,6 +19,3 @@ pub use fault::{DocFault, DocKind};
 pub use laws::one_answer;
 pub use reader::read;
 pub use zi_elements::{Attr, Element, Node};
-
-#[cfg(test)]
-mod tests;

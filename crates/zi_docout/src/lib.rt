@@ -16,6 +16,3 @@ pub use fault::WriteFault;
 pub use laws::what_is_written_is_read;
 pub use writer::write;
 pub use zi_elements::{Attr, Element, Node};
-
-#[cfg(test)]
-mod tests;

@@ -17,8 +17,3 @@ mod writing;
 pub use listing::{Line, Listing};
 pub use reading::{ManifestFault, read};
 pub use writing::{ManifestOutFault, digest, write};
-
-#[cfg(test)]
-mod read_tests;
-#[cfg(test)]
-mod tests;

@@ -15,6 +15,3 @@ mod tags;
 pub use attributes::{Binding, Raw};
 pub use entered::{Entered, Started};
 pub use scopes::Scopes;
-
-#[cfg(test)]
-mod tests;

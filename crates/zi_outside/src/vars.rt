@@ -111,25 +111,3 @@ impl Vars {
         Ok(Vars { alloc, all })
     }
 }
-
-#[cfg(test)]
-mod tests {
-    use super::*;
-    use std::test::Fail;
-
-    #[test]
-    fn a_copy_is_apart_from_what_it_was_made_of(rt: HostRuntime) -> Result<(), Fail> {
-        let mut vars = Vars::new(rt.alloc());
-        vars.set("PATH", "/bin")?;
-        vars.set("HOME", "/h")?;
-        let mut copy = vars.copy(rt.alloc())?;
-        copy.set("HOME", "/other")?;
-        assert_eq!(rt; copy.len(), 2);
-        assert!(rt;
-            copy.get("PATH")
-                .is_some_and(|value| value.as_str() == "/bin")
-        );
-        assert!(rt; vars.get("HOME").is_some_and(|value| value.as_str() == "/h"));
-        Ok(())
-    }
-}

@@ -5,8 +5,6 @@
 
 mod arch;
 mod platform;
-#[cfg(test)]
-mod tests;
 mod types;
 
 pub use platform::{active, group, machine_rank, machine_rank_of, os_rank, os_rank_of};

@@ -21,6 +21,3 @@ pub use marks::Marks;
 pub use proof::{Block, Certificate, Lemma, Proof};
 pub use reader::read;
 pub use writer::write;
-
-#[cfg(test)]
-mod tests;

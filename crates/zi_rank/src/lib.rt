@@ -8,8 +8,6 @@ mod languages;
 pub mod laws;
 mod order;
 mod reasons;
-#[cfg(test)]
-mod tests;
 mod types;
 
 pub use languages::place_among;

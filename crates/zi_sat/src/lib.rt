@@ -8,20 +8,14 @@ mod analysis;
 mod decider;
 mod entry;
 mod found;
-#[cfg(test)]
-mod in_order;
 mod kept;
 mod look;
 mod mark;
 mod pair;
-#[cfg(test)]
-mod plain;
 mod propagation;
 mod rounds;
 mod rows;
 mod search;
-#[cfg(test)]
-mod tests;
 mod trail;
 mod watch;
 mod watches;

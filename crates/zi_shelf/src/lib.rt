@@ -17,6 +17,3 @@ pub use call::{CallKind, ShelfCall};
 pub use memory_shelf::MemoryShelf;
 pub use shelf::{Entry, EntryKind, Listed, Moved, Shelf, ShelfFault, TopMade};
 pub use sure_shelf::SureShelf;
-
-#[cfg(test)]
-mod tests;

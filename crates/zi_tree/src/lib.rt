@@ -13,6 +13,3 @@ mod way;
 pub use change::{InsertFault, TreeLimit};
 pub use path::RelPath;
 pub use tree::{Tree, TreeNode};
-
-#[cfg(test)]
-mod tests;

@@ -1,9 +1,9 @@
 //! Manifests and digests of small trees against values from outside.
 
-use crate::{ManifestOutFault, digest, write};
 use std::alloc::Global;
 use std::test::Fail;
 use zi_digest::Algorithm;
+use zi_manifest::{ManifestOutFault, digest, write};
 use zi_text::{Bytes, Text};
 use zi_tree::{RelPath, Tree, TreeNode};
 

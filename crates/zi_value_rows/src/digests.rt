@@ -1,8 +1,8 @@
 //! The published vectors, and spellings that are none.
 //! Hashes were taken from another implementation.
 //! Places of cuts are the edges of blocks and of their padding.
-use crate::{Algorithm, DigestName, Hasher};
 use std::test::Fail;
+use zi_digest::{Algorithm, DigestName, Hasher};
 
 fn name_of(algorithm: Algorithm, pieces: &[&str]) -> DigestName {
     let mut hasher = Hasher::new(algorithm);

@@ -1,11 +1,11 @@
 //! Rows of the published tables.
 //! Ranks by host, groups by machine, conditions, and texts of platforms.
 //! 9 stands for a rank that isn't there.
-use crate::{
-    Arch, Condition, Network, Policy, Stability, Width, active, group, machine_rank, os_rank,
-};
 use std::alloc::Global;
 use std::test::Fail;
+use zi_policy::{
+    Arch, Condition, Network, Policy, Stability, Width, active, group, machine_rank, os_rank,
+};
 use zi_text::{List, Memory, Text};
 
 /// A policy for this platform, with the one use `testing`.

@@ -1,9 +1,9 @@
 //! Rows of trees and paths that no clause says, and depths that no stack holds.
 
-use crate::{InsertFault, RelPath, Tree, TreeNode};
 use std::alloc::Global;
 use std::test::Fail;
 use zi_text::{Bytes, Text};
+use zi_tree::{InsertFault, RelPath, Tree, TreeNode};
 
 /// How many parts the deep path has.
 const DEEP: usize = 2_000_000;

@@ -1,6 +1,7 @@
-use super::*;
+//! Variables after bindings, and what arguments stand for.
 use std::alloc::Global;
 use std::test::Fail;
+use zi_bind::{BindFault, apply, expand};
 use zi_feed::{Binding, Extra, Mode, Word};
 use zi_outside::Vars;
 use zi_text::{List, Memory, Text};

@@ -1,6 +1,7 @@
-use super::*;
+//! Start tags with their namespaces, and those that break the constraints on names.
 use std::alloc::Global;
 use std::test::Fail;
+use zi_names::{Entered, Raw, Scopes};
 use zi_text::{List, Memory, Text};
 
 const W3: &str = "http://www.w3.org";

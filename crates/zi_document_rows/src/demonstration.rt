@@ -1,8 +1,8 @@
 //! Feeds of the demonstration to the byte, by hand.
 
-use super::*;
 use std::alloc::Global;
 use std::test::Fail;
+use zi_demo::universe_of;
 use zi_outside::{Feeds, FeedsFault, Got, SureFeeds};
 
 const HEAD: &str = "<?xml version=\"1.0\" encoding=\"utf-8\"?>

@@ -1,11 +1,11 @@
 //! Rows of the published order, their values taken by hand.
 //! Each component decides once, with those behind it the other way round where they can be; then the level, the network,
 //! languages by base and by tag, and each reason with the later ones.
-use crate::{Standing, WhyNot, before, compare, usable};
 use std::alloc::Global;
 use std::cmp::Ordering;
 use std::test::Fail;
 use zi_policy::{Arch, Network, Policy, Stability};
+use zi_rank::{Standing, WhyNot, before, compare, usable};
 use zi_text::{List, Memory, Text};
 use zi_version::Version;
 

@@ -4,10 +4,10 @@
 
 ghost use Rattle.zi_formula.specs.Form.{WellFormed};
 
-use super::*;
 use std::alloc::Global;
 use std::test::Fail;
 use zi_formula::{Constraint, Formula, Lit, is_well_formed};
+use zi_proof::{Marks, Proof, ProofFault, check, check_block, follow, laws, read, write};
 use zi_text::{List, Memory};
 
 // The line of the fault, 0 for a right text that is written again to the byte, 1000 for one that isn't.

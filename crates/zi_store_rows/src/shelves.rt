@@ -1,8 +1,8 @@
 //! Each call on both forms, with its answer and its row in the record, and what no clause says.
 
-use crate::{Entry, EntryKind, Listed, MemoryShelf, Shelf, ShelfCall, ShelfFault, SureShelf};
 use std::alloc::Global;
 use std::test::Fail;
+use zi_shelf::{Entry, EntryKind, Listed, MemoryShelf, Shelf, ShelfCall, ShelfFault, SureShelf};
 use zi_text::{Bytes, List, Text};
 use zi_tree::{RelPath, Tree, TreeNode};
 

@@ -1,9 +1,9 @@
 //! Texts read as listings, and the lines at which others are bad. The numbers are taken by hand from the format.
 
-use crate::{Line, ManifestFault, read};
 use std::alloc::Global;
 use std::test::Fail;
 use zi_digest::Algorithm;
+use zi_manifest::{Line, ManifestFault, read};
 use zi_text::Memory;
 
 /// The line at which a text is bad, or 0 where it is a listing.

@@ -1,6 +1,7 @@
-use crate::{DocFault, Node, one_answer, read};
+//! Documents: which are right, and the kind and the place of the fault of each other.
 use std::alloc::Global;
 use std::test::Fail;
+use zi_doc::{DocFault, Node, one_answer, read};
 
 // The number of the kind and the place of the fault; (0, 0) where there is none, and (9, 0) for want of memory.
 fn fault_of(alloc: Global, bytes: &[u8]) -> (u8, u64) {

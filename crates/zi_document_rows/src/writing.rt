@@ -1,7 +1,8 @@
-use crate::{Attr, Element, Node, WriteFault, write};
+//! Trees written as documents, to the byte, and the place of the first element that can't be.
 use std::alloc::Global;
 use std::test::Fail;
 use zi_doc::read;
+use zi_docout::{Attr, Element, Node, WriteFault, write};
 use zi_text::{List, Memory, Text};
 
 const NAMESPACE: &str = "http://zero-install.sourceforge.net/2004/injector/interface";
@@ -243,12 +244,12 @@ fn what_is_written_is_read(rt: HostRuntime) -> Result<(), Fail> {
 fn an_element_is_made(rt: HostRuntime) -> Result<(), Fail> {
     let alloc = rt.alloc();
     let mut attrs = List::new(alloc);
-    crate::put_attr(alloc, &mut attrs, "a", "1")?;
-    crate::put_attr(alloc, &mut attrs, "b", "2")?;
-    let inner = crate::element(alloc, "inner", List::new(alloc), List::new(alloc))?;
+    zi_docout::put_attr(alloc, &mut attrs, "a", "1")?;
+    zi_docout::put_attr(alloc, &mut attrs, "b", "2")?;
+    let inner = zi_docout::element(alloc, "inner", List::new(alloc), List::new(alloc))?;
     let mut children = List::new(alloc);
-    crate::put_child(&mut children, inner)?;
-    let outer = crate::element(alloc, "outer", attrs, children)?;
+    zi_docout::put_child(&mut children, inner)?;
+    let outer = zi_docout::element(alloc, "outer", attrs, children)?;
     let mut into = Vec::new(alloc);
     assert_eq!(rt; write(alloc, &outer, &mut into), Ok(()));
     assert_eq!(rt;
