@@ -1,16 +1,10 @@
-//! Rows of the store and of what the program is lent: trees, manifests, shelves, the outside and bindings.
+//! Rows of what the program is lent: trees, the objects in memory beside the traits of the outside, and variables after bindings.
 //! It has tests alone: in the crates whose calls they try, each of those would be proved once more for them.
 #![tactic(auto)]
 
 #[cfg(test)]
 mod bindings;
 #[cfg(test)]
-mod listings;
-#[cfg(test)]
-mod manifests;
-#[cfg(test)]
 mod outside;
-#[cfg(test)]
-mod shelves;
 #[cfg(test)]
 mod trees;
