@@ -30,8 +30,11 @@ pub(crate) fn put_models(
     for word in row.split_whitespace() {
         values.push(word == "1")?;
     }
-    if !is_well_formed(f) || values.len() != f.variables as usize {
+    if !is_well_formed(f) {
         return Ok(out.push_str("not formed")?);
+    }
+    if values.len() != f.variables as usize {
+        return Ok(out.push_str("no values")?);
     }
     put_whether(out, models(f, values.as_slice()))
 }
