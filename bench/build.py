@@ -1,7 +1,7 @@
 #!/usr/bin/env python3
 """The time and memory that building the constraints of a universe takes, by its literals.
 
-Run it after `rt ci` (or `rt run` in crates/build_speed), which builds the program: it loads feeds, and builds their constraints as often
+Run it after `rt ci` (or `rt run` in crates/speed), which builds the program: it loads feeds, and builds their constraints as often
 as it is told. What it takes more than where it only loads is the building's. Prints for each size the time of one building and its
 memory, and the ratio to a known tool in the same run, where one is installed: for chains and webs of the whole run, loading included, to
 `0install select` on the same feeds, which also chooses; for many versions of the building to the time in which minisat reads the same
@@ -19,7 +19,7 @@ from measure import timed_with_peak
 from shapes import chain, impl, impls, requires, theirs_on, web, write_feeds
 
 TOP = pathlib.Path(__file__).resolve().parent.parent
-PROGRAM = os.environ.get("BUILD_SPEED", str(TOP / "crates/build_speed/out/build_speed"))
+PROGRAM = os.environ.get("SPEED_PROGRAM", str(TOP / "crates/speed/out/speed"))
 RUNS = 3
 
 
@@ -80,11 +80,11 @@ def main():
                 given = os.path.join(folder, "given")
                 pathlib.Path(given).write_text(lines)
                 with open(given) as source:
-                    line = subprocess.run([PROGRAM, "1"], stdin=source, capture_output=True, text=True).stdout.strip()
+                    line = subprocess.run([PROGRAM, "build", "1"], stdin=source, capture_output=True, text=True).stdout.strip()
                 literals = int(re.search(r"(\d+) literals", line)[1])
-                loading, before = timed_with_peak([PROGRAM, "0"], RUNS, given=given)
-                once, peak = timed_with_peak([PROGRAM, "1"], RUNS, given=given)
-                whole, _ = timed_with_peak([PROGRAM, str(times)], RUNS, given=given)
+                loading, before = timed_with_peak([PROGRAM, "build", "0"], RUNS, given=given)
+                once, peak = timed_with_peak([PROGRAM, "build", "1"], RUNS, given=given)
+                whole, _ = timed_with_peak([PROGRAM, "build", str(times)], RUNS, given=given)
                 each, memory = (whole - loading) / times, peak - before
                 print(f"{'/'.join(map(str, sizes))}: {line}")
                 print(f"  {each * 1000:.3f} ms, {each / literals * 1e9:.1f} ns and {memory / literals:.1f} bytes a literal, peak {peak / 1e6:.0f} MB")

@@ -1,7 +1,7 @@
 #!/usr/bin/env python3
 """The time to read documents of 0.25, 1 and 4 MiB of three shapes, as a ratio to Python's expat on the same bytes in the same run.
 
-Run it after `rt ci` (or `rt run` in crates/doc_speed), which builds the program. expat builds a tree too (ElementTree).
+Run it after `rt ci` (or `rt run` in crates/speed), which builds the program. expat builds a tree too (ElementTree).
 The ratio wanted is at most 1.0; more than 3 is a defect. Each figure is the best of five. The time of an empty document is taken off ours.
 """
 import pathlib
@@ -12,7 +12,7 @@ import xml.etree.ElementTree as tree
 
 RUNS = 5
 TOP = pathlib.Path(__file__).resolve().parent.parent
-PROGRAM = TOP / "crates/doc_speed/out/doc_speed"
+PROGRAM = TOP / "crates/speed/out/speed"
 
 
 def small_elements(size):
@@ -34,7 +34,7 @@ def ours(data):
     best = float("inf")
     for _ in range(RUNS):
         start = time.perf_counter()
-        done = subprocess.run([str(PROGRAM)], input=data, capture_output=True, check=True)
+        done = subprocess.run([str(PROGRAM), "document"], input=data, capture_output=True, check=True)
         best = min(best, time.perf_counter() - start)
     if done.stdout != b"ok\n":
         sys.exit(f"the document has a fault: {done.stdout}")

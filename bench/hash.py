@@ -1,7 +1,7 @@
 #!/usr/bin/env python3
 """The time to hash 256 MB, as a ratio to sha256sum and sha1sum in the same run.
 
-Run it after `rt ci` (or `rt run` in crates/hash_speed), which builds the program.
+Run it after `rt ci` (or `rt run` in crates/speed), which builds the program.
 The ratio wanted is at most 1.5. Each figure is the best of five, over one file that lies in memory.
 """
 import pathlib
@@ -13,7 +13,7 @@ import time
 SIZE = 256_000_000
 RUNS = 5
 TOP = pathlib.Path(__file__).resolve().parent.parent
-PROGRAM = TOP / "crates/hash_speed/out/hash_speed"
+PROGRAM = TOP / "crates/speed/out/speed"
 
 
 def timed(words, path):
@@ -37,7 +37,7 @@ def main():
         file.write(bytes(SIZE % len(piece)))
         file.flush()
         for front, ours, theirs in [("sha256=", "sha256", "sha256sum"), ("sha1new=", "sha1new", "sha1sum")]:
-            time_ours, name = timed([str(PROGRAM), ours], file.name)
+            time_ours, name = timed([str(PROGRAM), "hash", ours], file.name)
             time_theirs, digest = timed([theirs], file.name)
             if name != front + digest:
                 sys.exit(f"{ours}: {name} isn't {digest}")

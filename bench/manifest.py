@@ -1,7 +1,7 @@
 #!/usr/bin/env python3
 """The time to digest two trees, as a ratio to `0install digest` on the same trees in folders, in the same run.
 
-Run it after `rt ci` (or `rt run` in crates/manifest_speed), which builds the program. One tree is a file of 100 MB, the
+Run it after `rt ci` (or `rt run` in crates/speed), which builds the program. One tree is a file of 100 MB, the
 other 20,000 files of 1,000 bytes in 200 folders. The goal is 1.0; more than 2 is a defect. Where 0install isn't
 installed, `sha256sum` over the same files stands for it. Each figure is the best of five; the program makes its tree in
 memory first, which counts as its time, and 0install reads files that the system holds in memory.
@@ -17,7 +17,7 @@ from measure import fill
 
 RUNS = 5
 TOP = pathlib.Path(__file__).resolve().parent.parent
-PROGRAM = TOP / "crates/manifest_speed/out/manifest_speed"
+PROGRAM = TOP / "crates/speed/out/speed"
 SHAPES = {"one": (1, 1, 100_000_000), "many": (200, 100, 1_000)}
 
 
@@ -37,7 +37,7 @@ def main():
     for shape, sizes in SHAPES.items():
         with tempfile.TemporaryDirectory() as folder:
             fill(pathlib.Path(folder), *sizes)
-            time_ours, name = timed([str(PROGRAM), shape])
+            time_ours, name = timed([str(PROGRAM), "manifest", shape])
             if shutil.which("0install"):
                 other = "0install digest"
                 time_theirs, digest = timed(["0install", "digest", folder, "--algorithm=sha256new"])

@@ -1,7 +1,7 @@
 #!/usr/bin/env python3
 """The time to read and check a proof text of ten megabytes, lemma by lemma.
 
-Run it after `rt ci` (or `rt run` in crates/proof_speed), which builds the program. The lemmas are made here: over a chain
+Run it after `rt ci` (or `rt run` in crates/speed), which builds the program. The lemmas are made here: over a chain
 of implications each says the next variable, by the one before it and a clause. Where `drat-trim` is installed, it checks the
 same lemmas without their hints; else the time is held against `wc`, which reads the same bytes. Each figure is the best of
 three. Two sizes show whether the time is linear.
@@ -16,7 +16,7 @@ import time
 RUNS = 3
 LENGTHS = (95_000, 380_000)
 TOP = pathlib.Path(__file__).resolve().parent.parent
-PROGRAM = TOP / "crates/proof_speed/out/proof_speed"
+PROGRAM = TOP / "crates/speed/out/speed"
 
 
 def write_proof(path, n):
@@ -58,7 +58,7 @@ def main():
             text = pathlib.Path(folder, f"proof{n}")
             write_proof(text, n)
             size = text.stat().st_size
-            ours, answer = timed([str(PROGRAM), str(n)], text)
+            ours, answer = timed([str(PROGRAM), "proof", str(n)], text)
             if answer != "yes\n":
                 sys.exit(f"{n} lemmas: the answer is {answer!r}")
             print(f"{n} lemmas, {size / 1e6:.1f} MB: {ours:.3f} s, {ours / size * 1e9:.1f} ns a byte")

@@ -1,7 +1,7 @@
 #!/usr/bin/env python3
 """The lemmas and the time of the search, beside minisat and cadical on the same formulas in the same run.
 
-Run it after `rt ci` (or `rt run` in crates/search_speed), which builds the program. The formulas are pigeons in too few holes, and
+Run it after `rt ci` (or `rt run` in crates/speed), which builds the program. The formulas are pigeons in too few holes, and
 random clauses of three literals, 4.26 for each variable, where about half of the formulas have a model. Pigeons in one hole are a
 group here and a clause for each pair of them for the other solvers, which know no groups; for these a conflict is what a lemma is
 here. The program decides the variables in order and never begins anew, so what it needs says how it learns, not how it guesses.
@@ -26,7 +26,7 @@ SEEDS = 20
 PIGEONS = (8, 9)
 VARIABLES = (100, 150)
 RATIO = 4.26
-PROGRAM = pathlib.Path(__file__).resolve().parent.parent / "crates/search_speed/out/search_speed"
+PROGRAM = pathlib.Path(__file__).resolve().parent.parent / "crates/speed/out/speed"
 
 # the other solvers: what they are called with before the formula, and where they tell their conflicts
 OTHERS = {
@@ -74,7 +74,7 @@ def timed(words, **given):
 
 def ours(text):
     """The answer, the number of lemmas and the time of the program, or None."""
-    run = timed([PROGRAM, str(BUDGET)], input=text)
+    run = timed([PROGRAM, "search", str(BUDGET)], input=text)
     if run is None:
         return None
     out, status, taken = run

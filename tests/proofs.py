@@ -2,7 +2,7 @@
 """Checks proof texts by docs/FORMATS.md, with nothing of the program's code: do the lemmas follow by their hints, are they fresh and
 lean, does the whole refute a formula, or exclude for a choice what a certificate has to exclude?
 
-Run alone it first tries itself on texts by hand, and then checks the lemmas that the program crates/search_speed learns from
+Run alone it first tries itself on texts by hand, and then checks the lemmas that the program crates/speed learns from
 random formulas, where the gate left it. What such a search comes to is held against all assignments of the few variables, and so is
 each lemma that is still accepted after one hint of it was changed. A number on the command line asks for as many formulas. The
 status is 1 where something is wrong.
@@ -16,7 +16,7 @@ import sys
 from typing import NamedTuple
 
 TOP = os.path.dirname(os.path.dirname(os.path.abspath(__file__)))
-PROGRAM = os.path.join(TOP, "crates", "search_speed", "out", "search_speed")
+PROGRAM = os.path.join(TOP, "crates", "speed", "out", "speed")
 GREATEST = 4_294_967_295
 
 
@@ -512,7 +512,7 @@ def wrong_in(formula, true_in, found, text, budget):
 
 def searched(formula, budget):
     """What the program comes to, and the proof text that it writes."""
-    done = subprocess.run([PROGRAM, str(budget)], input=dimacs(formula), stdout=subprocess.PIPE, check=True, timeout=300)
+    done = subprocess.run([PROGRAM, "search", str(budget)], input=dimacs(formula), stdout=subprocess.PIPE, check=True, timeout=300)
     found, text = done.stdout.split(b"\n", 1)
     return found.decode(), text
 
@@ -554,7 +554,7 @@ def main():
     if os.path.exists(PROGRAM):
         failed += check_search(int(sys.argv[1]) if len(sys.argv) > 1 else 500)
     else:
-        print("crates/search_speed/out/search_speed isn't there: no search is checked")
+        print("crates/speed/out/speed isn't there: no search is checked")
     sys.exit(1 if failed else 0)
 
 

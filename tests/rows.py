@@ -1,8 +1,8 @@
 #!/usr/bin/env python3
 """Runs the proved program on real folders, and compares standard output, standard error and exit status to the byte.
 
-The program is crates/zi/out/zi, and the reader of documents crates/doc_speed/out/doc_speed; the gate leaves both there. Each row is a function; one that fails is named, and the
-status is then 1.
+The program is crates/zi/out/zi, and that of its parts crates/speed/out/speed; the gate leaves both there. Each row is a function; one
+that fails is named, and the status is then 1.
 """
 import os
 import re
@@ -13,7 +13,7 @@ import tempfile
 
 TOP = os.path.dirname(os.path.dirname(os.path.abspath(__file__)))
 PROGRAM = os.path.join(TOP, "crates", "zi", "out", "zi")
-READER = os.path.join(TOP, "crates", "doc_speed", "out", "doc_speed")
+PARTS = os.path.join(TOP, "crates", "speed", "out", "speed")
 SECONDS = 120
 NS = "http://zero-install.sourceforge.net/2004/injector/interface"
 
@@ -762,9 +762,9 @@ SIGNED = (
 ).encode()
 
 
-def says(text):
-    """What the reader of documents says of a text: `ok`, or the kind of its fault and the place."""
-    return subprocess.run([READER], input=text, stdout=subprocess.PIPE, check=True, timeout=SECONDS).stdout.decode().strip()
+def says(words, text):
+    """What the program of parts prints for the words and the text on its standard input; of a document, `ok` or the kind of its fault and the place."""
+    return subprocess.run([PARTS] + words, input=text, stdout=subprocess.PIPE, check=True, timeout=SECONDS).stdout.decode().strip()
 
 
 def documents(folder):
@@ -779,9 +779,37 @@ def documents(folder):
     rows.append((start + b"<group>" * 63 + b"</group>" * 63 + b"</interface>", "ok"))
     rows.append((f'<a:interface xmlns="{NS}"/>'.encode(), "6 0"))
     for text, wanted in rows:
-        said = says(text)
+        said = says(["document"], text)
         if said != wanted:
             raise Wrong(f"{text!r}: {said}, not {wanted}")
+
+
+REFUTATION = b"zi-proof 1\nl 1 0 1 0\nl 2 0 5 2 0\nl 3 0 6 3 0\nl 0 7 4 0\ne\n"
+RANGED = (
+    b"/r <implementation id='/r1' version='1'><requires interface='/a' version='2..'/></implementation>\n"
+    b"/a <implementation id='/a1' version='3'/><implementation id='/a2' version='2'/><implementation id='/a3' version='1'/>\n"
+)
+
+
+def parts_by_themselves(folder):
+    rows = [
+        (["document"], b"<a>&x;</a>", "5 3"),
+        (["hash", "sha256new"], b"", "sha256new_4OYMIQUY7QOBJGX36TEJS35ZEQT24QPEMSNZGTFESWMRW6CSXBKQ"),
+        (["manifest", "few"], b"", "sha256new_7FE6ES75NR763VWATRQ73Z3JIW2JHR5B5TMURAUCR5T6BZRPLQ5Q"),
+        (["proof", "3"], REFUTATION, "yes"),
+        (["proof", "4"], REFUTATION, "no"),
+        (["build", "2"], RANGED, "5 variables, 3 constraints, 7 literals"),
+        (["build", "0"], RANGED, "loaded"),
+        (["search", "0"], b"1 2 0\n-1 2 0\n1 -2 0\n-1 -2 0\n", "spent\nzi-proof 1\ne"),
+    ]
+    for words, text, wanted in rows:
+        said = says(words, text)
+        if said != wanted:
+            raise Wrong(f"{words}: {said}, not {wanted}")
+    for words in ([], ["hash"], ["hash", "md5"], ["manifest", "all"], ["proof", "x"], ["run"]):
+        status = subprocess.run([PARTS] + words, input=b"", stdout=subprocess.DEVNULL, stderr=subprocess.DEVNULL, timeout=SECONDS).returncode
+        if status != 2:
+            raise Wrong(f"{words}: status {status}, not 2")
 
 
 ROWS = [
@@ -816,11 +844,12 @@ ROWS = [
     too_many_literals,
     web_addresses,
     documents,
+    parts_by_themselves,
 ]
 
 
 def main():
-    for program in (PROGRAM, READER):
+    for program in (PROGRAM, PARTS):
         if not os.path.exists(program):
             print(f"{os.path.relpath(program, TOP)} isn't there: run the gate first")
             return 1

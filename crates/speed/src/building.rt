@@ -1,13 +1,11 @@
 //! Reads feeds from standard input, a line for each: its address and what stands in its root; the first is the root's. Builds
-//! the constraints of their universe as often as the one word says, and prints how many variables, constraints and literals
+//! the constraints of their universe as often as the word says, and prints how many variables, constraints and literals
 //! there are; where it says 0 the feeds are loaded alone.
 //! `bench/build.py` makes the feeds, and holds the time against that of other tools.
-#![tactic(auto)]
 
+use crate::{line, number};
 use std::alloc::{AllocError, Global};
-use std::env;
-use std::io::{self, Read};
-use std::process::ExitCode;
+use std::io;
 use thiserror::Error;
 use zi_build::{BuildFault, build};
 use zi_formula::{Constraint, Formula};
@@ -111,38 +109,25 @@ fn built(alloc: Global, lines: &str, times: u32) -> Result<String, Fault> {
     };
     let mut feeds = feeds_of(alloc, lines)?;
     let universe = load(alloc, &req, &policy(alloc)?, &[], &mut feeds)?;
-    let mut line = String::from_str(alloc, "loaded")?;
+    let mut told = String::from_str(alloc, "loaded")?;
     for _ in 0..times {
         let formula = build(alloc, &universe, &req)?;
-        line = counts(alloc, &formula)?;
+        told = counts(alloc, &formula)?;
     }
-    Ok(line)
+    Ok(told)
 }
 
-/// The number that the program's one word is.
-fn asked(rt: &HostRuntime) -> io::Result<Option<u32>> {
-    let mut words = env::args(rt)?;
-    let _program = words.next();
-    match words.next() {
-        Some(word) => Ok(word.as_str().parse::<u32>().ok()),
-        None => Ok(None),
-    }
-}
-
-fn main(rt: HostRuntime) -> io::Result<ExitCode> {
-    let Some(times) = asked(&rt)? else {
-        eprintln!(rt; "build_speed: how often to build")?;
-        return Ok(ExitCode::from(2));
+pub fn counted(rt: &HostRuntime, word: &str) -> io::Result<Option<Vec<u8>>> {
+    let Some(times) = number(word) else {
+        return Ok(None);
     };
-    let mut text = Vec::new(rt.alloc());
-    rt.stdin().read_to_end(&mut text)?;
-    let Ok(lines) = std::str::from_utf8(text.as_slice()) else {
-        eprintln!(rt; "build_speed: the feeds aren't UTF-8")?;
-        return Ok(ExitCode::from(2));
+    let lines = io::read_to_string(rt.alloc(), rt.stdin())?;
+    let told = match built(rt.alloc(), lines.as_str(), times) {
+        Ok(told) => line(rt.alloc(), told.as_str())?,
+        Err(fault) => {
+            let fault = format!(in rt.alloc(); "{fault}")?;
+            line(rt.alloc(), fault.as_str())?
+        }
     };
-    match built(rt.alloc(), lines, times) {
-        Ok(line) => println!(rt; "{}", line.as_str())?,
-        Err(fault) => println!(rt; "{fault}")?,
-    }
-    Ok(ExitCode::SUCCESS)
+    Ok(Some(told))
 }

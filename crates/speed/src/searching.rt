@@ -1,17 +1,13 @@
-//! Reads a formula from standard input, searches it within so many lemmas as its one word says, and prints `model`, `refuted` or
+//! Reads a formula from standard input, searches it within so many lemmas as the word says, and prints `model`, `refuted` or
 //! `spent`, and behind it the lemmas that were learned, as a proof text.
 //! The formula is in DIMACS CNF, a clause a line and no comments; a line `g VAR.. 0` is a group, of which at most one is true. Its
 //! variables are those up to the greatest that stands in it. `bench/search.py` holds the time against that of other solvers, and
 //! `tests/proofs.py` checks the lemmas.
-#![tactic(auto)]
 
-mod in_order;
-
-use in_order::InOrder;
+use crate::in_order::InOrder;
+use crate::{line, number};
 use std::alloc::Global;
-use std::env;
 use std::io::{self, Write};
-use std::process::ExitCode;
 use zi_formula::{Constraint, Formula, Lit, is_well_formed};
 use zi_proof::{Certificate, write};
 use zi_sat::{Found, Search};
@@ -83,30 +79,26 @@ fn searched(
     Ok(Some(found))
 }
 
-/// The number that the program's one word is.
-fn asked(rt: &HostRuntime) -> io::Result<Option<u32>> {
-    let mut words = env::args(rt)?;
-    let _program = words.next();
-    match words.next() {
-        Some(word) => Ok(word.as_str().parse::<u32>().ok()),
-        None => Ok(None),
+/// The word of an end of the search.
+fn end_of(found: &Option<Found>) -> &'static str {
+    match found {
+        Some(Found::Model) => "model",
+        Some(Found::Refuted) => "refuted",
+        Some(Found::Spent { .. }) => "spent",
+        None => "no formula",
     }
 }
 
-fn main(rt: HostRuntime) -> io::Result<ExitCode> {
-    let Some(budget) = asked(&rt)? else {
-        eprintln!(rt; "search_speed: the greatest number of lemmas")?;
-        return Ok(ExitCode::from(2));
+pub fn found(rt: &HostRuntime, word: &str) -> io::Result<Option<Vec<u8>>> {
+    let Some(budget) = number(word) else {
+        return Ok(None);
     };
     let text = io::read_to_string(rt.alloc(), rt.stdin())?;
     let mut proof = Vec::new(rt.alloc());
-    match searched(rt.alloc(), text.as_str(), budget, &mut proof) {
-        Ok(Some(Found::Model)) => println!(rt; "model")?,
-        Ok(Some(Found::Refuted)) => println!(rt; "refuted")?,
-        Ok(Some(Found::Spent { .. })) => println!(rt; "spent")?,
-        Ok(None) => println!(rt; "no formula")?,
-        Err(Memory) => println!(rt; "out of memory")?,
-    }
-    rt.stdout().write_all(proof.as_slice())?;
-    Ok(ExitCode::SUCCESS)
+    let mut told = match searched(rt.alloc(), text.as_str(), budget, &mut proof) {
+        Ok(found) => line(rt.alloc(), end_of(&found))?,
+        Err(Memory) => line(rt.alloc(), "out of memory")?,
+    };
+    told.write_all(proof.as_slice())?;
+    Ok(Some(told))
 }

@@ -2,7 +2,7 @@ use Rattle.std.proofs.Common.{◌≡◌, ◌+◌, true, rules, arith}
 use Rattle.zi_proof.specs.Known.{is_open}
 use Rattle.zi_sat.specs.Trail.{known_from}
 use Rattle.zi_sat.proofs.LeastLaws.{least_next}
-use Rattle.search_speed.proofs.in_order.first_open.Goals as goal
+use Rattle.speed.proofs.in_order.first_open.Goals as goal
 
 pub returns-then-is_none-clause-answer : goal.returns-then-is_none-clause-answer
 returns-then-is_none-clause-answer c =

@@ -1,12 +1,10 @@
-//! Reads a proof text from standard input and says whether it refutes a chain of implications, whose length its one word is.
+//! Reads a proof text from standard input and prints whether it refutes a chain of implications, whose length the word is.
 //! The chain of length n has the constraints 1, then not k or k + 1 for each k below n, and last not n.
 //! `bench/proof.py` gives it ten megabytes of lemmas, and holds its time against that of other checkers.
-#![tactic(auto)]
 
+use crate::{line, number};
 use std::alloc::Global;
-use std::env;
 use std::io::{self, Read};
-use std::process::ExitCode;
 use zi_formula::{Constraint, Formula, Lit, is_well_formed};
 use zi_proof::{Marks, ProofFault, check, read};
 use zi_text::{List, Memory};
@@ -46,27 +44,19 @@ fn refutes(alloc: Global, n: u32, text: &[u8]) -> Result<bool, ProofFault> {
     Ok(check(&f, &c.proof, &[], &mut marks))
 }
 
-/// The number that the program's one word is.
-fn asked(rt: &HostRuntime) -> io::Result<Option<u32>> {
-    let mut words = env::args(rt)?;
-    let _program = words.next();
-    match words.next() {
-        Some(word) => Ok(word.as_str().parse::<u32>().ok()),
-        None => Ok(None),
-    }
-}
-
-fn main(rt: HostRuntime) -> io::Result<ExitCode> {
-    let Some(n) = asked(&rt)? else {
-        eprintln!(rt; "proof_speed: the length of the chain")?;
-        return Ok(ExitCode::from(2));
+pub fn told(rt: &HostRuntime, word: &str) -> io::Result<Option<Vec<u8>>> {
+    let Some(n) = number(word) else {
+        return Ok(None);
     };
     let mut text = Vec::new(rt.alloc());
     rt.stdin().read_to_end(&mut text)?;
-    match refutes(rt.alloc(), n, text.as_slice()) {
-        Ok(true) => println!(rt; "yes")?,
-        Ok(false) => println!(rt; "no")?,
-        Err(fault) => println!(rt; "{fault}")?,
-    }
-    Ok(ExitCode::SUCCESS)
+    let told = match refutes(rt.alloc(), n, text.as_slice()) {
+        Ok(true) => line(rt.alloc(), "yes")?,
+        Ok(false) => line(rt.alloc(), "no")?,
+        Err(fault) => {
+            let fault = format!(in rt.alloc(); "{fault}")?;
+            line(rt.alloc(), fault.as_str())?
+        }
+    };
+    Ok(Some(told))
 }

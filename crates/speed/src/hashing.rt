@@ -1,11 +1,9 @@
-//! Prints the digest name of standard input by the algorithm that its one word names: sha1new, sha256 or sha256new.
+//! Prints the digest name of standard input by the algorithm that the word names: sha1new, sha256 or sha256new.
 //! It reads pieces of 64 KiB and gives them to the hasher, so its time is that of the hash.
 //! `bench/hash.py` holds it against `sha1sum` and `sha256sum`.
-#![tactic(auto)]
 
-use std::env;
+use crate::line;
 use std::io::{self, Read};
-use std::process::ExitCode;
 use zi_digest::{Algorithm, DigestName, Hasher};
 
 /// The algorithm of a word.
@@ -38,28 +36,15 @@ fn name_of<R: Read>(
     Ok(hasher.finish())
 }
 
-/// The algorithm that the program's one word names.
-fn asked(rt: &HostRuntime) -> io::Result<Option<Algorithm>> {
-    let mut words = env::args(rt)?;
-    let _program = words.next();
-    match words.next() {
-        Some(word) => Ok(algorithm_of(word.as_str())),
-        None => Ok(None),
-    }
-}
-
-fn main(rt: HostRuntime) -> io::Result<ExitCode> {
-    let Some(algorithm) = asked(&rt)? else {
-        eprintln!(rt; "hash_speed: sha1new, sha256 or sha256new")?;
-        return Ok(ExitCode::from(2));
+pub fn named(rt: &HostRuntime, word: &str) -> io::Result<Option<Vec<u8>>> {
+    let Some(algorithm) = algorithm_of(word) else {
+        return Ok(None);
     };
     let mut piece = vec![in rt.alloc(); 0u8; 65_536]?;
     let name = name_of(&mut rt.stdin(), piece.as_mut_slice(), algorithm)?;
-    match name.text(rt.alloc()) {
-        Ok(text) => {
-            println!(rt; "{}", text.as_str())?;
-            Ok(ExitCode::SUCCESS)
-        }
-        Err(_) => Ok(ExitCode::from(1)),
-    }
+    let told = match name.text(rt.alloc()) {
+        Ok(text) => line(rt.alloc(), text.as_str())?,
+        Err(_) => line(rt.alloc(), "out of memory")?,
+    };
+    Ok(Some(told))
 }

@@ -2,7 +2,7 @@ use Rattle.std.proofs.Common.{◌≡◌, ◌≤◌, ℕ, None, false}
 use Rattle.zi_proof.specs.Known.{is_open}
 use Rattle.zi_sat.specs.Trail.{known_from}
 use Rattle.zi_sat.specs.Least.{least_open}
-use Rattle.search_speed.proofs.in_order.first_open.Given as goal
+use Rattle.speed.proofs.in_order.first_open.Given as goal
 
 abbrev pub invariant-loop-x : goal.invariant-loop-x
 invariant-loop-x l =
