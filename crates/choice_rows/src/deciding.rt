@@ -1,6 +1,8 @@
 //! What the walk's decider decides in a search, and what is known to be chosen then.
-ghost use Rattle.std.specs.Prelude.{◌≤◌};
+ghost use Rattle.std.specs.Prelude.{◌≡◌, ◌≤◌, []};
+ghost use Rattle.zi_universe.specs.Whole.{BeginsWith};
 ghost use Rattle.zi_choice.specs.Vars.{var_count};
+ghost use Rattle.zi_build.specs.Clauses.{formula, literals, most_literals};
 
 use crate::fault::Fault;
 use crate::told::{Told, universe_of, want};
@@ -10,6 +12,7 @@ use zi_build::build;
 use zi_numbering::Numbering;
 use zi_sat::{Found, Search, Trail, Why};
 use zi_text::Memory;
+use zi_universe::{Requirement, Universe};
 use zi_walk::{Walk, so_far};
 
 /// Adds the literals that were decided, in order, and behind `|` what is chosen for each interface.
@@ -38,7 +41,31 @@ fn put_trail(
     Ok(())
 }
 
-/// Adds the trail that a search within 100 lemmas ends with.
+// Searches by the walk's decider within 100 lemmas, and adds the trail that a model ends with, or how it ends otherwise.
+fn put_end(
+    alloc: Global,
+    out: &mut String,
+    universe: &Universe,
+    req: &Requirement,
+    search: &mut Search,
+) -> Result<(), Memory>
+    requires rooted { BeginsWith universe.now req.now.interface }
+    requires formula { search.old.formula ≡ formula universe.now req.now }
+    requires few { literals (formula universe.now req.now).constraints ≤ most_literals }
+    requires empty_log { search.old.log.lemmas ≡ [] }
+{
+    let mut walk = Walk::new(alloc, universe, req)?;
+    match search.run(alloc, &mut walk, 100)? {
+        Found::Model => {
+            let numbering = Numbering::of(alloc, universe)?;
+            put_trail(alloc, out, &numbering, search.trail())
+        }
+        Found::Refuted => Ok(out.push_str("refuted")?),
+        Found::Spent { .. } => Ok(out.push_str("spent")?),
+    }
+}
+
+/// Adds the end of a search within 100 lemmas, and the trail of a model.
 pub(crate) fn put_search(
     alloc: Global,
     out: &mut String,
@@ -48,18 +75,6 @@ pub(crate) fn put_search(
     let req = want(alloc, told, command)?;
     let universe = universe_of(alloc, &req, &mut told.feeds)?;
     let formula = build(alloc, &universe, &req)?;
-    if formula.constraints.len() > 1000 {
-        return Err(Fault::Refused);
-    }
     let mut search = Search::new(alloc, &formula)?;
-    let mut walk = Walk::new(alloc, &universe, &req)?;
-    match search.run(alloc, &mut walk, 100)? {
-        Found::Model => {
-            let numbering = Numbering::of(alloc, &universe)?;
-            put_trail(alloc, out, &numbering, search.trail())?;
-        }
-        Found::Refuted => out.push_str("refuted")?,
-        Found::Spent { .. } => out.push_str("spent")?,
-    }
-    Ok(())
+    Ok(put_end(alloc, out, &universe, &req, &mut search)?)
 }
