@@ -7,4 +7,6 @@ mod bindings;
 #[cfg(test)]
 mod outside;
 #[cfg(test)]
+mod recipes;
+#[cfg(test)]
 mod trees;
