@@ -37,6 +37,14 @@ impl Kept {
         }
     }
 
+    /// Leaves what the bits of a number say of a crash; of one that never fails it leaves all.
+    pub(crate) fn crash(&mut self, pick: u64) -> Result<(), Memory> {
+        match self {
+            Kept::Planned(shelf) => shelf.crash(pick),
+            Kept::Sure(_) => Ok(()),
+        }
+    }
+
     /// A top entry, where it is there.
     pub(crate) fn top(&self, name: &str) -> Option<&Tree> {
         match self {

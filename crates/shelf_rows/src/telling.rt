@@ -129,6 +129,7 @@ pub(crate) fn tells(
         "put" => told.put(alloc, rest)?,
         "crowd" => told.crowd(alloc, rest.parse::<u32>().unwrap_or(0))?,
         "fails" => told.fail(alloc, rest)?,
+        "crash" => told.shelf.crash(rest.parse::<u64>().unwrap_or(0))?,
         _ => return Ok(false),
     }
     Ok(true)

@@ -6,3 +6,9 @@ pub mod FillingLemmas
 pub mod FilledLemmas
 pub mod WholeLemmas
 pub mod SeenLemmas
+pub mod ComingLemmas
+pub mod FirstLemmas
+pub mod PickedLemmas
+pub mod LeftLemmas
+pub mod MovedLemmas
+pub mod OutcomeLemmas

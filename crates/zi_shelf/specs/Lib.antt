@@ -1,6 +1,9 @@
 pub mod Names
 pub mod Shelved
 pub mod Crash
+pub mod Crashing
+pub mod Picked
+pub mod Comers
 pub mod Filling
 pub mod Fillings
 pub mod Told

@@ -4,6 +4,7 @@
 #![tactic(auto)]
 
 mod call;
+mod crash;
 mod filling;
 mod held;
 pub mod laws;

@@ -2,6 +2,9 @@
 
 ghost use Rattle.std.specs.Prelude.{◌≡◌, [], Some, IfOk, OnErr, OnOk, option_copied, codes};
 ghost use Rattle.zi_shelf.specs.InMemory.{shelf_told, shelf_faults, shelf_plan, shelf_root, shelf_seen};
+ghost use Rattle.zi_shelf.specs.Picked.{pick_of, IsPicked};
+ghost use Rattle.zi_shelf.specs.Crashing.{Crashes};
+ghost use Rattle.zi_shelf.specs.Shelving.{Stays};
 ghost use Rattle.zi_shelf.specs.Told.{nothing_told, placed, tree_at};
 
 use crate::call::ShelfCall;
@@ -73,6 +76,21 @@ impl MemoryShelf {
         ensures { option_copied result ≡ tree_at (shelf_told self.now) name.now }
     {
         self.held.top(name)
+    }
+
+    /// Leaves one of the outcomes of the crash model, by the three low bits of a number. Where bit 0 is set all pending renames
+    /// are taken back, where bit 1 is set all pending removals are. They are taken back newest first, each entry goes at once to
+    /// the oldest of its names that is taken back, and takes that name from what stood there. Where bit 2 is set all unsettled
+    /// entries are gone before that, else they stay as they are. Nothing is pending afterwards, and the record stays as it is.
+    /// Where memory is refused nothing changes.
+    pub fn crash(&mut self, pick: u64) -> Result<(), Memory>
+        ensures picked { OnOk result (IsPicked (pick_of pick) (shelf_told self.old).shelf (shelf_told self.new).shelf.tops) }
+        ensures outcome { OnOk result (Crashes (shelf_seen self.old) (shelf_seen self.new)) }
+        ensures err { OnErr result (shelf_told self.new ≡ shelf_told self.old) }
+        ensures stays { Stays (shelf_seen self.old) (shelf_seen self.new) }
+        ensures faults { shelf_faults self.new ≡ shelf_faults self.old }
+    {
+        self.held.crash(pick)
     }
 
     /// The record of the calls so far, the oldest first.
