@@ -1,5 +1,5 @@
 -- A step of a session is an event of the machine, whose rules are lawful.
-use Rattle.std.proofs.Common.{◌≡◌, ℕ, Bool, true, false, nat_eq, List, [], ◌∷◌, Some, slice_set, length, sym, ◌∙◌, ap, subst, refl, ◌<◌, codes, decimal, arith}
+use Rattle.std.proofs.Common.{◌≡◌, ℕ, Bool, true, false, nat_eq, List, [], ◌∷◌, map, Some, slice_set, length, sym, ◌∙◌, ap, subst, refl, ◌<◌, codes, decimal, arith}
 use Rattle.std.proofs.lemmas.Fmt.{decimal_injective}
 use Rattle.std.proofs.lemmas.List.{append_cancel_left}
 use Rattle.zi_digest.specs.declared.DigestName.{DigestName}
@@ -9,7 +9,7 @@ use Rattle.zi_tree.specs.Dir.{Dir}
 use Rattle.zi_shelf.specs.Names.{Name}
 use Rattle.zi_manifest.specs.Manifest.{manifest, as_read, first_bad}
 use Rattle.zi_shelf.specs.Filling.{trees}
-use Rattle.zi_session.specs.Machine.{Adder, Phase}
+use Rattle.zi_session.specs.Machine.{Adder, Phase, Crash, stopped}
 use Rattle.zi_session.specs.Machine.{Step as StepOf}
 use Rattle.zi_session.specs.Law.{IsLawful}
 use Rattle.zi_session.specs.Phases.{tmp_name}
@@ -18,7 +18,7 @@ use Rattle.zi_session.specs.Standing.{Standing}
 use Rattle.zi_session.specs.Rebuilding.{with_manifest}
 use Rattle.zi_session.specs.StoreRules.{rules, IsNamed, MayBegin}
 use Rattle.zi_session.specs.StoreWorks.{algorithm_in, store_works}
-use Rattle.zi_session.specs.Tie.{StepIsEvent, StepKeeps, EventsKeep, StoreLaw}
+use Rattle.zi_session.specs.Tie.{StepIsEvent, StepKeeps, EventsKeep, CrashKeeps, StoreLaw}
 use Rattle.zi_session.proofs.Remade.{rebuilds, read_free}
 use Rattle.zi_session.proofs.KeptLemmas.{event_keeps, is_kept, is_law}
 
@@ -80,6 +80,10 @@ keeps adders i a x y s t step stands at c inv =
 
 pub events_keep : EventsKeep
 events_keep = is_kept rules lawful
+
+pub crash_keeps : CrashKeeps
+crash_keeps adders s t leaves settled inv =
+    events_keep (record { shelf = s.shelf; adders = adders }) (record { shelf = t.shelf; adders = map stopped adders }) Crash inv (leaves, settled, refl)
 
 pub store_law : StoreLaw
 store_law = is_law rules lawful

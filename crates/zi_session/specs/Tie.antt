@@ -1,8 +1,9 @@
 -- A step of a session is the event step of an adder that it stands for.
-use Rattle.std.specs.Prelude.{◌≡◌, ℕ, List, Some, slice_get, slice_set}
+use Rattle.std.specs.Prelude.{◌≡◌, ℕ, List, [], Some, map, slice_get, slice_set}
 use Rattle.zi_tree.specs.Dir.{Dir}
+use Rattle.zi_shelf.specs.Crash.{CrashLeaves}
 use Rattle.zi_shelf.specs.Told.{Told}
-use Rattle.zi_session.specs.Machine.{Adder, Steps}
+use Rattle.zi_session.specs.Machine.{Adder, Steps, stopped}
 use Rattle.zi_session.specs.Law.{IsLaw}
 use Rattle.zi_session.specs.Invariant.{Inv, IsKept}
 use Rattle.zi_session.specs.Standing.{Standing}
@@ -32,6 +33,10 @@ StepKeeps = (adders : List (Adder Dir)) (i : ℕ) (a : Adder Dir) (old new : Sta
 -- every event keeps the invariant
 abbrev pub EventsKeep : Type 0
 EventsKeep = IsKept rules
+
+-- A crash of the shelf keeps the invariant: who had answered keeps the answer, and every other adder is stopped.
+abbrev pub CrashKeeps : Type 0
+CrashKeeps = (adders : List (Adder Dir)) (s t : Told) → CrashLeaves s.shelf t.shelf.tops → t.shelf.pending ≡ [] → Inv rules s.shelf adders → Inv rules t.shelf (map stopped adders)
 
 -- the law of the store, over every list of events
 abbrev pub StoreLaw : Type 0

@@ -2,7 +2,7 @@
 //! The machine stands in specs/Machine.antt, its invariant in specs/Invariant.antt, the rules of the store in
 //! specs/StoreRules.antt, and what the law says in specs/Law.antt.
 
-ghost use Rattle.zi_session.specs.Tie.{EventsKeep, StepIsEvent, StepKeeps, StoreLaw};
+ghost use Rattle.zi_session.specs.Tie.{CrashKeeps, EventsKeep, StepIsEvent, StepKeeps, StoreLaw};
 
 /// A step of a session is the event step of each adder that it stands for.
 pub fn step_is_event()
@@ -17,6 +17,11 @@ pub fn step_keeps()
 /// Every event keeps the invariant: the beginning, a step and the stop of an adder, and a crash.
 pub fn events_keep()
     ensures { EventsKeep }
+{}
+
+/// A crash keeps the invariant, whatever outcome of the crash model it leaves; so a sound store stays sound.
+pub fn crash_keeps()
+    ensures { CrashKeeps }
 {}
 
 /// After every list of events the store is sound. Who answered Stored or Present has its name, also after a later crash.
