@@ -73,6 +73,10 @@ seen_at s e = (e, taken s e) ∷ []
 unfoldable pub carried_sites : Ways → Said → List ℕ → Forest → List (Elem × Said)
 carried_sites ways s parent f = carry taken seen_at ways s parent f
 
+-- the elements that are read inside one, where nothing is said around it
+abbrev pub seen_within : Ways → Elem → List (Elem × Said)
+seen_within ways e = carried_sites ways unsaid e.name e.inside
+
 abbrev pub carried_at : Ways → Said → List ℕ → Node → List (Elem × Said)
 carried_at ways s parent node = carried_sites ways s parent (node_view node)
 

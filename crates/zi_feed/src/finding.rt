@@ -1,5 +1,5 @@
 //! The fault of a whole feed, and its value.
-ghost use Rattle.std.specs.Prelude.{◌≡◌, ◌++◌, ◌&&◌, not, IfOk, codes, map, option_copied};
+ghost use Rattle.std.specs.Prelude.{◌≡◌, ◌++◌, ◌&&◌, not, IfOk, Some, codes, map, option_copied};
 ghost use Rattle.std.specs.List.{filter, flat_map};
 ghost use Rattle.zi_forest.specs.Forest.{element_view, node_view, nodes_view, attribute};
 ghost use Rattle.zi_feed.specs.Texts.{same};
@@ -7,7 +7,7 @@ ghost use Rattle.zi_feed.specs.Words.{is_wrong, optional};
 ghost use Rattle.zi_feed.specs.Address.{is_local as is_local_text};
 ghost use Rattle.zi_feed.specs.Faults.{least, same_ids, root_faults, counts};
 ghost use Rattle.zi_feed.specs.Feeds.{feed_fault, feed_of, part_fault};
-ghost use Rattle.zi_feed.specs.Views.{views, seen_view, faults_seen, said_by, unsaid, impl_at, carried_sites, carried_impls, carried_impls_in};
+ghost use Rattle.zi_feed.specs.Views.{views, seen_view, faults_seen, said_by, seen_within, impl_at, carried_impls, carried_impls_in};
 
 use crate::address::is_local;
 use crate::along::{Own, own_of};
@@ -93,27 +93,36 @@ fn root_fault(alloc: Global, root: &Element, uri: &str) -> Result<Option<Fault>,
     Ok(lesser_of(unclear, wrong))
 }
 
-// The elements that are read inside one, where nothing is said around it.
-fn seen_in<'a>(alloc: Global, ways: Option<&str>, e: &'a Element) -> Result<Vec<Seen<'a>>, Memory>
-    ensures { IfOk result (λ v. map seen_view v.items ≡ carried_sites (option_copied ways.entry) unsaid e.now.name (nodes_view e.now.children)) }
+/// The elements that are read inside one, where nothing is said around it.
+pub fn seen_in<'a>(
+    alloc: Global,
+    ways: Option<&str>,
+    e: &'a Element,
+) -> Result<Vec<Seen<'a>>, Memory>
+    ensures { IfOk result (λ v. map seen_view v.items ≡ seen_within (option_copied ways.entry) (element_view e.now)) }
 {
     let mut seen = Vec::new(alloc);
     walk(alloc, ways, e, nothing(), &mut seen)?;
     Ok(seen)
 }
 
-/// The fault of a feed, where it has one.
+/// The fault of a feed of which these elements are read, where it has one.
 #[tactic(auto, unfolding(crate::specs::Feeds::feed_fault))]
-pub fn feed_fault(alloc: Global, root: &Element, uri: &str) -> Result<Option<Fault>, Memory>
+pub fn feed_fault(
+    alloc: Global,
+    root: &Element,
+    uri: &str,
+    seen: &[Seen],
+) -> Result<Option<Fault>, Memory>
+    requires { map seen_view seen.now ≡ seen_within (Some uri.now) (element_view root.now) }
     ensures { IfOk result (λ f. f ≡ feed_fault (element_view root.now) uri.now) }
 {
     if !is(root, "interface") {
         return Ok(Some(fault_at(root, FeedKind::NotInterface)));
     }
-    let seen = seen_in(alloc, Some(uri), root)?;
     let own = root_fault(alloc, root, uri)?;
-    let inner = least_seen(alloc, Some(uri), seen.as_slice())?;
-    let shared = same_id(alloc, seen.as_slice())?;
+    let inner = least_seen(alloc, Some(uri), seen)?;
+    let shared = same_id(alloc, seen)?;
     Ok(lesser_of(own, lesser_of(inner, shared)))
 }
 
@@ -236,12 +245,17 @@ fn impls_of(alloc: Global, root: &Element, uri: &str) -> Result<List<Impl>, Memo
 }
 
 // The imports among the elements that were seen in a feed.
-fn imports_of(alloc: Global, root: &Element, uri: &str) -> Result<List<Import>, Memory>
+fn imports_of(
+    alloc: Global,
+    root: &Element,
+    uri: &str,
+    seen: &[Seen],
+) -> Result<List<Import>, Memory>
+    requires { map seen_view seen.now ≡ seen_within (Some uri.now) (element_view root.now) }
     ensures { IfOk result (λ is. is ≡ (feed_of (element_view root.now) uri.now).imports) }
 {
-    let seen = seen_in(alloc, Some(uri), root)?;
     let mut imports = List::new(alloc);
-    for site in seen.as_slice() {
+    for site in seen {
         if is(site.element, "feed") {
             imports.push(import_of(alloc, Some(uri), site.element)?)?;
         }
@@ -249,12 +263,13 @@ fn imports_of(alloc: Global, root: &Element, uri: &str) -> Result<List<Import>, 
     Ok(imports)
 }
 
-/// What a feed says, where it has no fault.
+/// What a feed of which these elements are read says, where it has no fault.
 #[tactic(auto, unfolding(crate::specs::Feeds::feed_of))]
-pub fn feed_of(alloc: Global, root: &Element, uri: &str) -> Result<Feed, Memory>
+pub fn feed_of(alloc: Global, root: &Element, uri: &str, seen: &[Seen]) -> Result<Feed, Memory>
+    requires { map seen_view seen.now ≡ seen_within (Some uri.now) (element_view root.now) }
     ensures { IfOk result (λ f. f ≡ feed_of (element_view root.now) uri.now) }
 {
-    let imports = imports_of(alloc, root, uri)?;
+    let imports = imports_of(alloc, root, uri, seen)?;
     let impls = impls_of(alloc, root, uri)?;
     let uri = Text::from_str(alloc, uri)?;
     Ok(Feed {

@@ -31,10 +31,11 @@ impl Feed {
     pub fn from_tree(alloc: Global, tree: &Element, uri: &str) -> Result<Feed, FeedFault>
         ensures { Reads (feed_fault (element_view tree.now) uri.now) (feed_of (element_view tree.now) uri.now) result }
     {
-        if let Some(fault) = finding::feed_fault(alloc, tree, uri)? {
+        let seen = finding::seen_in(alloc, Some(uri), tree)?;
+        if let Some(fault) = finding::feed_fault(alloc, tree, uri, seen.as_slice())? {
             return Err(bad(fault));
         }
-        Ok(finding::feed_of(alloc, tree, uri)?)
+        Ok(finding::feed_of(alloc, tree, uri, seen.as_slice())?)
     }
 }
 

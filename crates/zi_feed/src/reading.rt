@@ -18,10 +18,11 @@ const INJECTOR: &str = "http://zero-install.sourceforge.net/2004/injector/interf
 const CONDITION: &str = "if-0install-version";
 
 // It has no namespace, and this name.
+#[tactic(auto, unfolding(crate::specs::Texts::same))]
 fn is_named(a: &Attr, name: &str) -> bool
     ensures { result ≡ is_attribute name.now a.now }
 {
-    a.space.as_str() == "" && a.name.as_str() == name
+    is_text(a.name.as_str(), name) && a.space.as_str() == ""
 }
 
 /// The value of an attribute without a namespace.
@@ -51,15 +52,16 @@ pub fn value<'a>(e: &'a Element, name: &str) -> &'a str
 pub fn is_ours(e: &Element) -> bool
     ensures { result ≡ is_ours (element_view e.now) }
 {
-    e.space.as_str() == INJECTOR
+    is_text(e.space.as_str(), INJECTOR)
 }
 
-/// Whether two texts are one.
+/// Whether two texts are one. Their bytes are compared one by one: nearly all that is asked here differ in the first or in their number,
+/// and what is left is faster so than by words of a machine.
 #[tactic(auto, unfolding(crate::specs::Texts::same))]
 pub fn is_text(text: &str, word: &str) -> bool
     ensures { result ≡ same text.now word.now }
 {
-    text == word
+    text.as_bytes() == word.as_bytes()
 }
 
 /// An element of a feed with this name.

@@ -1,10 +1,10 @@
-use Rattle.std.proofs.Common.{ap, ◌∙◌, map}
+use Rattle.std.proofs.Common.{map}
 use Rattle.zi_forest.specs.Forest.{element_view}
 use Rattle.zi_feed.specs.Views.{seen_view}
-use Rattle.zi_feed.proofs.FindingLaws.{imports_are, imports_end, imports_left}
+use Rattle.zi_feed.proofs.FindingLaws.{imports_are, imports_end}
 use Rattle.zi_feed.proofs.finding.imports_of.Goals as goal
 
 pub returns : goal.returns
 returns c =
-    imports_are (element_view c.args.root.now) _ (map seen_view c.in_ok-seen.seen.items) _ c.in_ok-seen.ensures
-    (imports_end _ _ _ _ _ c.loop-site-test.false c.loop-site.invariant ∙ ap (imports_left c.args.uri.now) c.as_slice-site-items.ensures.value)
+    imports_are (element_view c.args.root.now) _ (map seen_view c.args.seen.now) _ c.requires
+    (imports_end _ _ _ _ _ c.loop-site-test.false c.loop-site.invariant)
