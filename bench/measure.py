@@ -1,7 +1,9 @@
 """What several of these scripts do: they fill folders with trees, and time programs."""
 import os
+import signal
 import subprocess
 import sys
+import threading
 import time
 
 
@@ -21,19 +23,27 @@ def fill(top, folders, files, size):
             put(inside / str(file), b"a" * size)
 
 
-def timed_with_peak(command, runs, wanted=0, env=None, given=os.devnull):
+def timed_with_peak(command, runs, wanted=0, env=None, given=os.devnull, seconds=None):
     """The least time and the most memory of some runs, in seconds and bytes; each is to end with the status that is wanted.
 
-    What they read from standard input is the file `given`.
+    What they read from standard input is the file `given`. One that takes longer than so many seconds is ended, and
+    subprocess.TimeoutExpired is raised.
     """
     best, peak = float("inf"), 0
     for _ in range(runs):
         with open(given, "rb") as source:
             start = time.perf_counter()
             child = subprocess.Popen(command, stdin=source, stdout=subprocess.DEVNULL, stderr=subprocess.PIPE, env=env)
+        end = threading.Timer(seconds, child.kill) if seconds else None
+        if end:
+            end.start()
         with child.stderr:
             error = child.stderr.read()
         _, status, usage = os.wait4(child.pid, 0)
+        if end:
+            end.cancel()
+            if os.WIFSIGNALED(status) and os.WTERMSIG(status) == signal.SIGKILL:
+                raise subprocess.TimeoutExpired(command, seconds)
         child.returncode = os.waitstatus_to_exitcode(status)
         best = min(best, time.perf_counter() - start)
         if child.returncode != wanted:

@@ -1,15 +1,19 @@
 #!/usr/bin/env python3
-"""The lemmas and the time of the search, beside minisat and cadical on the same formulas in the same run.
+"""The lemmas and the time of the search, beside minisat and cadical on the same formulas and `0install select` on the same feeds in the same run.
 
-Run it after `rt ci` (or `rt run` in crates/speed), which builds the program. The formulas are pigeons in too few holes, and
+Run it after `rt ci`, which builds the programs. The formulas are pigeons in too few holes, and
 random clauses of three literals, 4.26 for each variable, where about half of the formulas have a model. Pigeons in one hole are a
 group here and a clause for each pair of them for the other solvers, which know no groups; for these a conflict is what a lemma is
 here. The program decides the variables in order and never begins anew, so what it needs says how it learns, not how it guesses.
 The random formulas are numbered for all of them by how many clauses a variable stands in, the most first: the program takes what order
 it is given. All answers are to agree; a run that takes longer than twenty seconds is given up.
+
+Then come feeds: the demonstration, whose formula the other solvers get too, and programs without a solution, pigeons and three of them
+behind forty choices that have nothing to do with them. There `select --proof` tells the lemmas. 0install is given up after two minutes.
 """
 import collections
 import itertools
+import os
 import pathlib
 import random
 import re
@@ -20,13 +24,30 @@ import sys
 import tempfile
 import time
 
+from measure import timed_with_peak
+from shapes import knot, pigeons as pigeons_as_feeds, theirs_on, write_feeds
+
+sys.path.append(str(pathlib.Path(__file__).resolve().parent.parent / "tests"))
+import proofs
+import universes
+from programs import Demonstration
+
 SECONDS = 20
 BUDGET = 1_000_000
 SEEDS = 20
 PIGEONS = (8, 9)
 VARIABLES = (100, 150)
 RATIO = 4.26
-PROGRAM = pathlib.Path(__file__).resolve().parent.parent / "crates/speed/out/speed"
+TOP = pathlib.Path(__file__).resolve().parent.parent
+PROGRAM = pathlib.Path(os.environ.get("SPEED_PROGRAM", TOP / "crates/speed/out/speed"))
+ZI = os.environ.get("ZI_PROGRAM", str(TOP / "crates/zi/out/zi"))
+DEMONSTRATIONS = (10, 20, 40, 80, 1000)
+# what 0install wants of a feed
+HEAD = "  <name>n</name>\n  <summary>s</summary>\n"
+RUNS = 3
+THEIR_SECONDS = 120
+DONE, NO_SOLUTION = 0, 73
+UNSOLVABLE = (("three pigeons in two holes beside 40 choices", knot, 40), ("9 pigeons in 8 holes", pigeons_as_feeds, 9), ("11 pigeons in 10 holes", pigeons_as_feeds, 11))
 
 # the other solvers: what they are called with before the formula, and where they tell their conflicts
 OTHERS = {
@@ -91,7 +112,8 @@ def theirs(name, path):
     out, status, taken = run
     if status not in ANSWERS:
         sys.exit(f"{name}: status {status}")
-    return ANSWERS[status], int(conflicts.search(out).group(1)), taken
+    told = conflicts.search(out)
+    return ANSWERS[status], int(told.group(1)) if told else 0, taken
 
 
 def compare(what, formulas, others, folder):
@@ -123,9 +145,52 @@ def summary(runs):
     return line
 
 
+def for_others(formula):
+    """A formula for solvers that know no groups."""
+    clauses = [c.lits for c in formula.constraints if isinstance(c, proofs.Clause)]
+    groups = [c.variables for c in formula.constraints if isinstance(c, proofs.Group)]
+    return dimacs(formula.variables, clauses + [(-x, -y) for group in groups for x, y in itertools.combinations(group, 2)])
+
+
+def on_feeds(what, root, folder, status):
+    """Prints the lemmas and the time of `select` over these feeds, and how 0install compares."""
+    told = subprocess.run([ZI, "select", "--no-command", "--proof", root], stdout=subprocess.PIPE, stderr=subprocess.DEVNULL, text=True)
+    taken, _ = timed_with_peak([ZI, "select", "--no-command", root], RUNS, status)
+    line = f"{what}\n  here: {told.stdout.count(chr(10) + 'l ')} lemmas, {taken:.4f} s"
+    try:
+        theirs = theirs_on(folder, root, 1, 1 if status == NO_SOLUTION else 0, THEIR_SECONDS)
+    except subprocess.TimeoutExpired:
+        print(f"{line}; 0install was given up after {THEIR_SECONDS} s, so it is less than {taken / THEIR_SECONDS:.4f} of its time", flush=True)
+        return
+    print(line + ("; 0install isn't installed: no ratio to it" if theirs is None else f"; {taken / theirs:.4f} of 0install's time ({theirs:.2f} s)"), flush=True)
+
+
+def demonstration(count, others):
+    """The demonstration as feeds, and its formula for the other solvers."""
+    with tempfile.TemporaryDirectory(prefix="zi-bench-") as folder:
+        feeds = Demonstration(count, folder, HEAD)
+        feeds.write()
+        root = feeds.address("root")
+        on_feeds(f"the demonstration of {count}", root, folder, DONE)
+        asked = universes.Asked(root)
+        path = pathlib.Path(folder, "formula.cnf")
+        path.write_text(for_others(universes.formula(universes.load(asked), asked)))
+        for name in others:
+            run = theirs(name, path)
+            print(f"  {name}: " + ("given up" if run is None else f"{run[0]}, {run[1]} conflicts, {run[2]:.4f} s"), flush=True)
+
+
+def unsolvable(what, feeds_of, count):
+    """A program without a solution as feeds."""
+    with tempfile.TemporaryDirectory(prefix="zi-bench-") as folder:
+        root, _ = write_feeds(folder, feeds_of(count))
+        on_feeds(f"{what}, as feeds", root, folder, NO_SOLUTION)
+
+
 def main():
-    if not PROGRAM.exists():
-        sys.exit(f"{PROGRAM} isn't built: run `rt ci` first")
+    for program in (PROGRAM, pathlib.Path(ZI)):
+        if not program.exists():
+            sys.exit(f"{program} isn't built: run `rt ci` first")
     others = [name for name in OTHERS if shutil.which(name)]
     missing = [name for name in OTHERS if name not in others]
     if missing:
@@ -135,6 +200,10 @@ def main():
             compare(f"{count} pigeons in {count - 1} holes", [pigeons(count)], others, folder)
         for variables in VARIABLES:
             compare(f"{SEEDS} formulas of {variables} variables in threes", [threes(variables, seed) for seed in range(SEEDS)], others, folder)
+    for count in DEMONSTRATIONS:
+        demonstration(count, others)
+    for row in UNSOLVABLE:
+        unsolvable(*row)
 
 
 if __name__ == "__main__":

@@ -32,6 +32,23 @@ def web(count):
     return ["".join(impl(v, needs(n, v)) for v in range(10)) for n in range(count)]
 
 
+def differ(versions, others):
+    """Versions that refuse the like version of each of these interfaces."""
+    return "".join(impl(v, "".join(f'<restricts interface="./{n}.xml" version="!{v}"/>' for n in others)) for v in range(versions))
+
+
+def pigeons(count):
+    """One program that needs so many interfaces, no two of which may have the same of one version fewer: they have no solution."""
+    return [impl(0, "".join(map(requires, range(1, count + 1)))), *(differ(count - 1, range(n + 1, count + 1)) for n in range(1, count + 1))]
+
+
+def knot(count):
+    """One program that needs so many interfaces of two versions, and behind them three pigeons, which have no solution."""
+    first = count + 1
+    three = [differ(2, range(n + 1, first + 3)) for n in range(first, first + 3)]
+    return [impl(0, "".join(map(requires, range(1, first + 3)))), *([impls(2)] * count), *three]
+
+
 def write_feeds(folder, feeds):
     """The feeds as files, numbered from 0, each with the name and the summary that 0install asks for: the root's path, and a line for each with its path and what
     stands in its root. Beside them stands the folder `here`, since 0install wants the path of an implementation to be there."""
@@ -44,11 +61,12 @@ def write_feeds(folder, feeds):
     return os.path.join(folder, "0.xml"), "".join(lines)
 
 
-def theirs_on(folder, root, runs, wanted=0):
-    """The least time of some runs of `0install select` on these feeds, which end with this status; None where it isn't installed."""
+def theirs_on(folder, root, runs, wanted=0, seconds=None):
+    """The least time of some runs of `0install select` on these feeds, which end with this status; None where it isn't installed.
+    Where one takes longer than so many seconds it is ended, and subprocess.TimeoutExpired is raised."""
     other = shutil.which("0install")
     if not other:
         return None
     env = dict(os.environ, HOME=folder, XDG_CONFIG_HOME=folder, XDG_CACHE_HOME=folder)
-    taken, _ = timed_with_peak([other, "select", "--offline", "--command=", "--xml", root], runs, wanted, env=env)
+    taken, _ = timed_with_peak([other, "select", "--offline", "--command=", "--xml", root], runs, wanted, env=env, seconds=seconds)
     return taken

@@ -3,7 +3,7 @@
 
 First come certificates by hand, over feeds by hand. Then the program crates/zi/out/zi is asked for those of random programs and of the
 demonstration (programs.py), where it writes any yet: each is to exclude for the best choice by the rules, or to refute where no choice is valid,
-and with one hint changed the program's own judgement, where it has the command for it, is to be the checker's. A number on the command
+its lemmas, which are the log of the search, are to be fresh and lean, and with one hint changed the program's own judgement, where it has the command for it, is to be the checker's. A number on the command
 line asks for as many. The status is 1 where something is wrong.
 """
 import os
@@ -18,7 +18,7 @@ from programs import NS, Demonstration, Program, tag
 from universes import Asked
 
 TOP = os.path.dirname(os.path.dirname(os.path.abspath(__file__)))
-PROGRAM = os.path.join(TOP, "crates", "zi", "out", "zi")
+PROGRAM = os.environ.get("ZI_PROGRAM", os.path.join(TOP, "crates", "zi", "out", "zi"))
 DONE, USAGE, NO_SOLUTION, REJECTED, NOT_BUILT = 0, 64, 73, 78, 95
 DEMONSTRATIONS = (1, 10, 40)
 SECONDS = 300
@@ -138,6 +138,11 @@ def wrong_of(asked, options, choice, folder):
         return f"status {status}"
     if not judge(universe, asked, choice, text):
         return f"not accepted: {text}"
+    formula, (lemmas, _) = universes.formula(universe, asked), proofs.read(text)
+    if not proofs.are_fresh(formula, lemmas):
+        return f"not fresh: {text}"
+    if not proofs.are_lean(formula, lemmas):
+        return f"not lean: {text}"
     if choice is not None and not checks_choices():
         return None
     for other in filter(None, [text, *(changed(text, chance) for _ in range(3))]):
