@@ -162,7 +162,7 @@ module _ {T W : Type 0} (r : Rules T W) (lawful : IsLawful r) where
   event_keeps old new (CrashIn i) inv (a, is, call, makes, c, none, after) =
       subst (λ y. Inv r new.shelf y) (sym after) (crash_keeps old.shelf new.shelf old.adders inv (keeps_within old.shelf new.shelf inv.sound inv.pending (r.works a.name a.tree) a.name a.phase call makes c) none)
 
-  start_inv : (w : World T) → IsStart r w → Inv r w.shelf w.adders
+  pub start_inv : (w : World T) → IsStart r w → Inv r w.shelf w.adders
   start_inv w s = subst (λ y. Inv r w.shelf y) (sym s.adders) (record {
     sound = s.sound;
     pending = record { renamed = λ a b i. absurd (none_pending w.shelf (Renamed a b) s.pending i); removed = λ n e i. absurd (none_pending w.shelf (Removed n e) s.pending i) };
@@ -170,11 +170,11 @@ module _ {T W : Type 0} (r : Rules T W) (lawful : IsLawful r) where
     apart = λ i j a b n ha hb oa ob. absurd (cc ha);
   })
 
-  run_keeps : (events : List (Event T)) (start w : World T) → Inv r start.shelf start.adders → Runs r start events w → Inv r w.shelf w.adders
+  pub run_keeps : (events : List (Event T)) (start w : World T) → Inv r start.shelf start.adders → Runs r start events w → Inv r w.shelf w.adders
   run_keeps [] start w inv is = subst (λ (x : World T). Inv r x.shelf x.adders) (sym is) inv
   run_keeps (e ∷ es) start w inv (mid, first, rest) = run_keeps es mid w (event_keeps start mid e inv first) rest
 
-  added_fits : (w : World T) (i : ℕ) (name : Name) → Inv r w.shelf w.adders → HasAdded w i name → IsSome (w.shelf.tops name) × IsQuiet w.shelf name
+  pub added_fits : (w : World T) (i : ℕ) (name : Name) → Inv r w.shelf w.adders → HasAdded w i name → IsSome (w.shelf.tops name) × IsQuiet w.shelf name
   added_fits w i name inv (a, is, named, ended) =
       let fits = inv.each i a is in
       let at : IsSome (w.shelf.tops a.name) × IsQuiet w.shelf a.name = elim ended [
@@ -183,14 +183,14 @@ module _ {T W : Type 0} (r : Rules T W) (lawful : IsLawful r) where
       ] in
       subst (λ n. IsSome (w.shelf.tops n) × IsQuiet w.shelf n) named at
 
-  keeps_there : (old new : World T) (e : Event T) → Inv r old.shelf old.adders → Leads r old e new → is_crash e ≡ false → (d : Name) (x : Top T) → r.is_digest d → old.shelf.tops d ≡ Some x → new.shelf.tops d ≡ Some x
+  pub keeps_there : (old new : World T) (e : Event T) → Inv r old.shelf old.adders → Leads r old e new → is_crash e ≡ false → (d : Name) (x : Top T) → r.is_digest d → old.shelf.tops d ≡ Some x → new.shelf.tops d ≡ Some x
   keeps_there old new (Begin name tree) inv l other d x is h = ap (λ (s : Shelved T). s.tops d) l.2 ∙ h
   keeps_there old new (Step i) inv st other d x is h = (moved_by old i new inv st).frame.kept d x is h
   keeps_there old new (Stop i) inv (a, got, same, after) other d x is h = ap (λ (s : Shelved T). s.tops d) same ∙ h
   keeps_there old new Crash inv l other d x is h = absurd (cc other)
   keeps_there old new (CrashIn i) inv l other d x is h = absurd (cc other)
 
-  keeps_through : (old new : World T) (e : Event T) → Inv r old.shelf old.adders → Leads r old e new → is_crash e ≡ true → KeepsOver r old.shelf new.shelf
+  pub keeps_through : (old new : World T) (e : Event T) → Inv r old.shelf old.adders → Leads r old e new → is_crash e ≡ true → KeepsOver r old.shelf new.shelf
   keeps_through old new (Begin name tree) inv l is = absurd (cc is)
   keeps_through old new (Step i) inv l is = absurd (cc is)
   keeps_through old new (Stop i) inv l is = absurd (cc is)

@@ -18,3 +18,4 @@ pub mod StoreLemmas
 pub mod KeepingLemmas
 pub mod AloneLemmas
 pub mod CountingLemmas
+pub mod LastingLemmas

@@ -18,9 +18,11 @@ use Rattle.zi_session.specs.Standing.{Standing}
 use Rattle.zi_session.specs.Rebuilding.{with_manifest}
 use Rattle.zi_session.specs.StoreRules.{rules, IsNamed, MayBegin}
 use Rattle.zi_session.specs.StoreWorks.{algorithm_in, store_works}
+use Rattle.zi_session.specs.Lasting.{AnswersLast}
 use Rattle.zi_session.specs.Tie.{StepIsEvent, StepKeeps, EventsKeep, CrashKeeps, StoreLaw}
 use Rattle.zi_session.proofs.Remade.{rebuilds, read_free}
 use Rattle.zi_session.proofs.KeptLemmas.{event_keeps, is_kept, is_law}
+use Rattle.zi_session.proofs.LastingLemmas.{lasts}
 
 -- the text begins with the letter `s`
 is_s : List ℕ → Bool
@@ -87,3 +89,6 @@ crash_keeps adders s t leaves settled inv =
 
 pub store_law : StoreLaw
 store_law = is_law rules lawful
+
+pub answers_last : AnswersLast
+answers_last = lasts rules lawful

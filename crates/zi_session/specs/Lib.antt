@@ -15,3 +15,4 @@ pub mod Begun
 pub mod Keeping
 pub mod Alone
 pub mod Counting
+pub mod Lasting

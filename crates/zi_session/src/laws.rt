@@ -2,6 +2,7 @@
 //! The machine stands in specs/Machine.antt, its invariant in specs/Invariant.antt, the rules of the store in
 //! specs/StoreRules.antt, and what the law says in specs/Law.antt.
 
+ghost use Rattle.zi_session.specs.Lasting.{AnswersLast};
 ghost use Rattle.zi_session.specs.Tie.{CrashKeeps, EventsKeep, StepIsEvent, StepKeeps, StoreLaw};
 
 /// A step of a session is the event step of each adder that it stands for.
@@ -27,4 +28,10 @@ pub fn crash_keeps()
 /// After every list of events the store is sound. Who answered Stored or Present has its name, also after a later crash.
 pub fn store()
     ensures { StoreLaw }
+{}
+
+/// What was answered Stored or Present lasts: after every list of later events, crashes among them, the same tree stands whole
+/// under the name.
+pub fn answers_last()
+    ensures { AnswersLast }
 {}
