@@ -1,8 +1,9 @@
 #!/usr/bin/env python3
 """Runs the proved program's commands on the store over real folders, and compares all that it prints to the byte.
 
-The program is crates/zi/out/zi; the gate leaves it there. Each row is a function with a folder of its own; one that fails
-is named, and the status is then 1. Digests are computed here, by Python's own hashes.
+The program is crates/zi/out/zi; the gate leaves it there. The variable ZI_PROGRAM names another. Each row is a function with a
+folder of its own; one that fails is named, and the status is then 1. Digests are computed here, by Python's own hashes. Crashes of the
+machine are tried where strace is installed and may be used (replay.py says how, and what is assumed of the file system).
 """
 import base64
 import hashlib
@@ -15,8 +16,10 @@ import sys
 import tempfile
 import time
 
+import replay
+
 TOP = os.path.dirname(os.path.dirname(os.path.abspath(__file__)))
-PROGRAM = os.path.join(TOP, "crates", "zi", "out", "zi")
+PROGRAM = os.path.abspath(os.environ.get("ZI_PROGRAM") or os.path.join(TOP, "crates", "zi", "out", "zi"))
 EMPTY = "sha256new_4OYMIQUY7QOBJGX36TEJS35ZEQT24QPEMSNZGTFESWMRW6CSXBKQ"
 OTHER = "sha256new_" + "A" * 52
 SECONDS = 120
@@ -267,6 +270,101 @@ def killed(folder):
         whole(folder, files)
 
 
+def recorded(words, folder):
+    """The calls of the program, and how the folder stood before; None where they can't be recorded."""
+    os.makedirs(store(folder), exist_ok=True)
+    disk = replay.Disk(store(folder))
+    record = os.path.join(folder, "record")
+    command = ["strace", "-f", "-y", "-s", "1000000", "-e", "trace=%file,%desc", "-o", record, PROGRAM] + words
+    try:
+        done = subprocess.run(command, cwd=folder, env=dict(os.environ, ZI_STORE=store(folder)), capture_output=True, timeout=SECONDS)
+    except FileNotFoundError:
+        return None
+    if done.returncode != 0 or not done.stdout:
+        return None
+    return disk, list(replay.calls(record)), done.stdout
+
+
+def is_sound(name, folder, number):
+    """The stored tree is whole, and so is its manifest."""
+    holds(f"call {number}: {name}", run(["store", "verify", name], folder)[:2] == (0, b"sound\n"))
+    with open(os.path.join(store(folder), name, ".manifest"), "rb") as file:
+        expect(run(["manifest", name.split("_")[0], name], folder), 0, file.read() + name.encode() + b"\n", b"")
+
+
+def outlives(words, name, left, answered, number):
+    """In a folder with what a crash left each name that is listed is sound, and who adds then finds the tree or stores it."""
+    with tempfile.TemporaryDirectory() as folder:
+        replay.build(store(folder), left)
+        listed = run(["store", "list"], folder)
+        names = listed[1].decode().split()
+        holds(f"call {number}: listing {listed}", listed[0] == 0 and (name in names or not answered))
+        for each in names:
+            is_sound(each, folder, number)
+        got = run(words, folder)
+        holds(f"call {number}: {got}", got[:2] == (0, b"present\n" if name in names else b"stored\n"))
+        is_sound(name, folder, number)
+        subprocess.run(["chmod", "-R", "u+w", folder], check=False)
+
+
+def survives(words, record, from_first_sync=False):
+    """After each call a crash leaves what outlives it. Where there are many files this is tried from the first sync on."""
+    disk, made, answer = record
+    synced, seen, answered = False, set(), False
+    for number, (call, arguments, result) in enumerate(made):
+        changed = disk.change(call, arguments, result)
+        synced = synced or "sync" in call
+        ends = call == "write" and replay.texts(arguments)[0] == answer
+        answered = answered or ends
+        if (changed or ends) and (synced or not from_first_sync):
+            for left in disk.outcomes():
+                if (left, answered) not in seen:
+                    seen.add((left, answered))
+                    outlives(words, words[2], left, answered, number)
+    holds("an answer", answered)
+
+
+def a_crash_after_each_call(folder):
+    words = tree(folder, {"b": b"abc", "a": b"", "c": b"x" * 70_000})
+    record = recorded(words, folder)
+    if record is None:
+        print("skipped: strace isn't installed, or may not be used")
+        return
+    survives(words, record)
+    # one that finds the name there, and a temporary name taken
+    os.makedirs(os.path.join(store(folder), "tmp-0", "f"))
+    survives(words, recorded(words, folder))
+
+
+def a_crash_with_many_files(folder):
+    words = tree(folder, {f"n{i}": b"%d" % i for i in range(150)})
+    record = recorded(words, folder)
+    if record is None:
+        print("skipped: strace isn't installed, or may not be used")
+        return
+    holds("all at once", any(call == "syncfs" for call, _, _ in record[1]))
+    survives(words, record, from_first_sync=True)
+
+
+def a_sync_left_out(folder):
+    """The rows on crashes find each sync that is left out."""
+    words = tree(folder, {"b": b"abc", "a": b""})
+    record = recorded(words, folder)
+    if record is None:
+        print("skipped: strace isn't installed, or may not be used")
+        return
+    made, answer = record[1:]
+    for number, (call, _, _) in enumerate(made):
+        if call == "fsync":
+            shutil.rmtree(store(folder), ignore_errors=True)
+            os.mkdir(store(folder))
+            try:
+                survives(words, (replay.Disk(store(folder)), made[:number] + made[number + 1 :], answer))
+            except Wrong:
+                continue
+            raise Wrong(f"call {number} was left out unseen")
+
+
 def wherever_it_is_started(folder):
     """Without programs in PATH, and under a parent that ignores how its children end, more files than are made to last one by one."""
     files = {f"n{i}": b"y" * i for i in range(200)}
@@ -331,6 +429,9 @@ ROWS = [
     wherever_it_is_started,
     pipes_and_devices_are_no_files,
     failures_are_told,
+    a_crash_after_each_call,
+    a_crash_with_many_files,
+    a_sync_left_out,
     two_at_once,
     killed,
 ]
