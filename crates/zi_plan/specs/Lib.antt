@@ -1,0 +1,6 @@
+pub mod Placed
+pub mod Chain
+pub mod Launches
+pub mod Plans
+pub mod Steps
+pub mod Laws
