@@ -8,6 +8,7 @@
 #![tactic(auto)]
 
 mod calling;
+mod crashes;
 mod kept;
 mod manifests;
 mod nodes;
@@ -47,6 +48,7 @@ fn put_told(
         "difference" => manifests::put_difference(alloc, out, rest)?,
         "begin" => sessions::put_begun(alloc, out, rest, told)?,
         "residue" => sessions::put_residue(out, rest, told)?,
+        "crashes" => crashes::put_crashes(alloc, out, rest, told.adders.as_slice())?,
         "blamed" => sessions::put_blamed(alloc, out, rest, told)?,
         _ => return Ok(false),
     }

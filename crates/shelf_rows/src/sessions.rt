@@ -9,7 +9,7 @@ use zi_shelf::Shelf;
 use zi_text::Memory;
 
 /// The number that a word is; one that no session has, for any other word.
-fn number(word: &str) -> usize {
+pub(crate) fn number(word: &str) -> usize {
     word.parse::<u32>().unwrap_or(u32::MAX) as usize
 }
 

@@ -16,6 +16,8 @@ pub(crate) struct Told {
     pub shelf: Kept,
     /// Those that began, each up to where it is asked what it is blamed for.
     pub sessions: Vec<Option<Session>>,
+    /// Whose sessions begin anew for each crash.
+    pub adders: Vec<Text>,
 }
 
 impl Told {
@@ -25,6 +27,7 @@ impl Told {
             tree: Tree::new(alloc),
             shelf: Kept::Planned(MemoryShelf::new(alloc)),
             sessions: Vec::new(alloc),
+            adders: Vec::new(alloc),
         }
     }
 
@@ -129,6 +132,7 @@ pub(crate) fn tells(
         "put" => told.put(alloc, rest)?,
         "crowd" => told.crowd(alloc, rest.parse::<u32>().unwrap_or(0))?,
         "fails" => told.fail(alloc, rest)?,
+        "adder" => told.adders.push(Text::from_str(alloc, rest)?)?,
         "crash" => told.shelf.crash(rest.parse::<u64>().unwrap_or(0))?,
         _ => return Ok(false),
     }
