@@ -2,3 +2,8 @@ pub mod Written
 pub mod Chosen
 pub mod Using
 pub mod Settings
+pub mod Read
+pub mod Notes
+pub mod Refused
+pub mod Parts
+pub mod Reading

@@ -51,8 +51,8 @@ fn digits(alloc: Global, name: &DigestName) -> Result<Text, Memory>
     }
 }
 
-// Whether a digest is by this algorithm.
-fn is_by(algorithm: Algorithm, name: &DigestName) -> bool
+/// Whether a digest is by this algorithm.
+pub fn is_by(algorithm: Algorithm, name: &DigestName) -> bool
     ensures { result ≡ is_by algorithm name.now }
 {
     name.algorithm() == algorithm

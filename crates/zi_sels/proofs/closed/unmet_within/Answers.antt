@@ -1,0 +1,29 @@
+use Rattle.std.proofs.Common.{List, Bor, filter, refl, ap, ◌∙◌}
+use Rattle.std.specs.Prelude.{option_copied}
+use Rattle.zi_elements.specs.declared.element.Element.{Element}
+use Rattle.zi_forest.specs.Forest.{elements, element_view}
+use Rattle.zi_feed.specs.Views.{views}
+use Rattle.zi_sels.specs.Refused.{asks_within}
+use Rattle.zi_sels.proofs.ClosedLaws.{part_passed, part_found, parts_end, all_known, within_step}
+use Rattle.zi_sels.proofs.closed.unmet_within.Goals as goal
+
+pub loop-part-init : goal.loop-part-init
+loop-part-init c = refl
+
+pub loop-part-preserved : goal.loop-part-preserved
+loop-part-preserved c =
+    part_passed c.args.selected.now (filter asks_within) c.as_slice-part-items.result.now c.loop-part.part-index c.part-item.result _ _ within_step
+    c.loop-part-test.true c.part-item.is c.in_ok-interface.ensures (ap option_copied c.in_default.is) c.loop-part.invariant
+
+pub returns-in-Some : goal.returns-in-Some
+returns-in-Some c =
+    all_known c.args.selected.now (filter asks_within) _ (views c.as_slice-part-items.result.now) (elements (element_view c.args.e.now).inside)
+    (ap (λ (v : List (Bor Element)). views v) c.as_slice-part-items.ensures.value ∙ c.in_ok-inside.ensures)
+    (part_found c.args.selected.now (filter asks_within) c.as_slice-part-items.result.now c.loop-part.part-index c.part-item.result _ _ c.in-Some.interface.now within_step
+    c.loop-part-test.true c.part-item.is c.in_ok-interface.ensures (ap option_copied c.in-Some.is) c.loop-part.invariant)
+
+pub returns : goal.returns
+returns c =
+    all_known c.args.selected.now (filter asks_within) _ (views c.as_slice-part-items.result.now) (elements (element_view c.args.e.now).inside)
+    (ap (λ (v : List (Bor Element)). views v) c.as_slice-part-items.ensures.value ∙ c.in_ok-inside.ensures)
+    (parts_end c.args.selected.now (filter asks_within) c.as_slice-part-items.result.now c.loop-part.part-index _ refl c.loop-part-test.false c.loop-part.invariant)

@@ -1,0 +1,16 @@
+use Rattle.zi_feed.specs.Feeds.{part_fault}
+use Rattle.zi_feed.specs.Values.{binding_of}
+use Rattle.zi_feed.specs.Means.{counts_as_binding}
+use Rattle.zi_sels.proofs.NoteLaws.{none_yet, next_read, all_read}
+use Rattle.zi_sels.proofs.parts.bindings_in.Goals as goal
+
+pub loop-e-init : goal.loop-e-init
+loop-e-init c = none_yet part_fault binding_of counts_as_binding c.args.parts.now _ _ c.new-bindings.ensures
+
+pub loop-e-preserved : goal.loop-e-preserved
+loop-e-preserved c =
+    next_read part_fault binding_of counts_as_binding c.args.parts.now c.loop-e.e-index c.e-item.result _ _ _ _ _ _
+    c.loop-e-test.true c.e-item.is c.loop-e.invariant c.in_ok-take_binding.ensures
+
+pub returns : goal.returns
+returns c = all_read part_fault binding_of counts_as_binding c.args.parts.now c.loop-e.e-index _ _ _ _ c.loop-e-test.false c.loop-e.invariant

@@ -1,0 +1,120 @@
+//! The faults of a selection itself, and of its repeated commands.
+ghost use Rattle.std.specs.Prelude.{◌≡◌, ◌++◌, ◌∷◌, [], IfOk, OnOk, codes, map, not, ◌&&◌};
+ghost use Rattle.zi_forest.specs.Forest.{element_view, attribute};
+ghost use Rattle.zi_feed.specs.Words.{is_wrong, is_amiss, repeated};
+ghost use Rattle.zi_feed.specs.Forms.{is_version};
+ghost use Rattle.zi_feed.specs.Address.{is_local};
+ghost use Rattle.zi_feed.specs.Sites.{is_unclear};
+ghost use Rattle.zi_feed.specs.Faults.{fault_at, least, share};
+ghost use Rattle.zi_feed.specs.Means.{counts_as};
+ghost use Rattle.zi_feed.specs.Views.{views};
+ghost use Rattle.zi_feed.specs.declared.fault.FeedKind.TheVariants.{BadPart};
+ghost use Rattle.zi_sels.specs.Refused.{own_kind, clear_among, second_commands};
+
+use crate::attributes::{attribute, is_unclear, is_version, value};
+use crate::faults::{fault_at, lesser_of};
+use crate::parts::children;
+use std::alloc::Global;
+use std::collections::BTreeSet;
+use zi_elements::Element;
+use zi_feed::{Fault, FeedKind, counts_as};
+use zi_text::Memory;
+
+// A selection has no version.
+fn has_no_version(alloc: Global, e: &Element) -> Result<bool, Memory>
+    ensures { IfOk result (λ b. b ≡ is_amiss is_version (attribute (codes "version") (element_view e.now))) }
+{
+    match attribute(e, "version") {
+        Some(text) => Ok(!is_version(alloc, text)?),
+        None => Ok(true),
+    }
+}
+
+// The local path of a selection doesn't begin at the top folder.
+fn has_bad_local(e: &Element) -> bool
+    ensures { result ≡ is_wrong is_local (attribute (codes "local-path") (element_view e.now)) }
+{
+    match attribute(e, "local-path") {
+        Some(path) => !path.as_bytes().starts_with(b"/"),
+        None => false,
+    }
+}
+
+/// The least kind of fault that stands at a selection itself.
+#[tactic(auto, unfolding(crate::specs::Refused::own_kind))]
+pub fn own_kind(alloc: Global, e: &Element) -> Result<Option<FeedKind>, Memory>
+    ensures { IfOk result (λ k. k ≡ own_kind (element_view e.now)) }
+{
+    if value(e, "id").is_empty() {
+        return Ok(Some(FeedKind::NoId));
+    }
+    if has_no_version(alloc, e)? {
+        return Ok(Some(FeedKind::BadVersion));
+    }
+    if attribute(e, "interface").is_none() {
+        return Ok(Some(FeedKind::NoInterface));
+    }
+    if has_bad_local(e) {
+        return Ok(Some(FeedKind::BadAddress));
+    }
+    Ok(None)
+}
+
+// Whether it is a command that counts, and whose condition is an expression.
+fn is_clear_command(alloc: Global, e: &Element) -> Result<bool, Memory>
+    ensures { IfOk result (λ b. b ≡ (counts_as (codes "command") (element_view e.now) && not (is_unclear (element_view e.now)))) }
+{
+    Ok(counts_as(alloc, e, "command")? && !is_unclear(alloc, e)?)
+}
+
+// Takes an element where it is such a command.
+fn take_clear<'a>(alloc: Global, e: &'a Element, found: &mut Vec<&'a Element>) -> Result<(), Memory>
+    ensures { OnOk result (views found.new.items ≡ views found.old.items ++ clear_among (element_view e.now ∷ [])) }
+{
+    if !is_clear_command(alloc, e)? {
+        return Ok(());
+    }
+    found.push(e)?;
+    Ok(())
+}
+
+// The commands among elements whose conditions are expressions.
+fn clear_commands<'a>(alloc: Global, parts: &[&'a Element]) -> Result<Vec<&'a Element>, Memory>
+    ensures { IfOk result (λ v. views v.items ≡ clear_among (views parts.now)) }
+{
+    let mut found = Vec::new(alloc);
+    for e in parts {
+        take_clear(alloc, e, &mut found)?;
+    }
+    Ok(found)
+}
+
+// The least fault of this kind at elements that have an attribute alike with an earlier one.
+fn least_shared(
+    alloc: Global,
+    name: &str,
+    elements: &[&Element],
+    kind: FeedKind,
+) -> Result<Option<Fault>, Memory>
+    ensures { IfOk result (λ f. f ≡ least (map (λ r. fault_at r kind) (repeated (share name.now) (views elements.now)))) }
+{
+    let mut values: BTreeSet<&str> = BTreeSet::new(alloc);
+    let mut found = None;
+    for e in elements {
+        if let Some(text) = attribute(e, name) {
+            if !values.insert(text)? {
+                found = lesser_of(found, Some(fault_at(e, kind)));
+            }
+        }
+    }
+    Ok(found)
+}
+
+/// The least fault of commands whose names earlier ones have.
+pub fn second_command(alloc: Global, e: &Element) -> Result<Option<Fault>, Memory>
+    ensures { IfOk result (λ f. f ≡ least (map (λ c. fault_at c BadPart) (second_commands (element_view e.now)))) }
+{
+    let inside = children(alloc, e)?;
+    let commands = clear_commands(alloc, inside.as_slice())?;
+    least_shared(alloc, "name", commands.as_slice(), FeedKind::BadPart)
+}

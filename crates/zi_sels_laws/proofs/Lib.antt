@@ -1,0 +1,17 @@
+mod LikeLaws
+mod FieldLaws
+mod PlainLaws
+mod CleanLaws
+mod BindingLaws
+mod DepLaws
+mod WordLaws
+mod RunnerLaws
+mod CommandLaws
+mod DigestsLaws
+mod ItemLaws
+mod AskedLaws
+mod RootLaws
+mod FreeLaws
+mod SoundLaws
+mod SaidLaws
+mod ReadBackLaws

@@ -1,0 +1,241 @@
+-- What is read of elements without a fault: parts of selections as they may be written.
+use Rattle.std.proofs.Common.{◌≡◌, ℕ, Bool, true, false, ◌&&◌, ◌||◌, ◌==◌, List, [], ◌∷◌, map, Option, Some, None, codes, refl, sym, ap, subst, ◌∙◌}
+use Rattle.std.specs.Prelude.{not, is_some, option_and_then, unwrap_or, if◌then◌else◌}
+use Rattle.std.specs.List.{list_any}
+use Rattle.zi_forest.specs.Forest.{Elem, attribute, lacks, value, text_in}
+use Rattle.zi_feed.specs.Texts.{same, is_none}
+use Rattle.zi_feed.specs.Words.{is_among, listed, is_wrong}
+use Rattle.zi_feed.specs.Forms.{mode_of, importance_of}
+use Rattle.zi_feed.specs.Sites.{is, is_ours, is_closed, parts, binding_names}
+use Rattle.zi_feed.specs.Values.{those, binding_of, bindings_of, dep_of, deps_of, ranges_of, extra_of, word_of, args_of, runner_of, command_of}
+use Rattle.zi_feed.specs.Faults.{is_bad_part, is_bad_environment, is_bad_for_each}
+use Rattle.zi_feed.specs.declared.feed.Binding.TheVariants.{Env, Unbuilt}
+use Rattle.zi_feed.specs.declared.feed.Mode.TheVariants.{Prepend}
+use Rattle.zi_feed.specs.declared.feed.Word.TheVariants.{Arg, ForEach}
+use Rattle.zi_feed.specs.declared.feed.DepKind.TheVariants.{Essential, Recommended, Restricts}
+use Rattle.zi_feed.proofs.TableLaws.{same_text, same_refl}
+use Rattle.zi_sels_laws.proofs.LikeLaws.{Each}
+use Rattle.zi_sels_laws.proofs.FieldLaws.{app}
+use Rattle.zi_sels_laws.proofs.BindingLaws.{IsProperBinding, other_names}
+use Rattle.zi_sels_laws.proofs.DepLaws.{IsProperDep, IsAsked}
+use Rattle.zi_sels_laws.proofs.WordLaws.{IsProperWord, word_names}
+use Rattle.zi_sels_laws.proofs.RunnerLaws.{IsProperRunner}
+use Rattle.zi_sels_laws.proofs.CommandLaws.{IsProperCommand, IsDir, dir_names, runner_names}
+use Rattle.zi_sels_laws.proofs.FreeLaws.{both_true, both_false, each_filter, each_weak, each_map, each_first, IsRight, IsChild, right_part, right_open, right_parts, child_own}
+
+-- Names.
+
+-- a name that is the only one of some
+pub only_name : (n m : List ℕ) → is_among (m ∷ []) n ≡ true → n ≡ m
+unfolding is_among
+only_name n m h = same_text n m (alone (same n m) h)
+  where
+    alone : (b : Bool) → (b || false) ≡ true → b ≡ true
+    alone true k = refl
+    alone false k = absurd (cc k)
+
+-- an element of a name
+pub is_name : (name : List ℕ) (c : Elem) → is name c ≡ true → (is_ours c ≡ true) × (c.name ≡ name)
+is_name name c h = let b = both_true (is_ours c) (same c.name name) h in (b.0, same_text c.name name b.1)
+
+pub is_not_name : (name : List ℕ) (c : Elem) → is_ours c ≡ true → is name c ≡ false → same c.name name ≡ false
+is_not_name name c h k = sym (ap (λ b. b && same c.name name) h) ∙ k
+
+pub is_of_name : (name : List ℕ) (c : Elem) → is_ours c ≡ true → c.name ≡ name → is name c ≡ true
+is_of_name name c h k = app (ap {B = Bool → Bool} (λ x y. x && y) h) (same_refl c.name name k)
+
+-- Bindings.
+
+-- the part that is bad by one of four causes
+first_cause : (a b c d : Bool) → (a || b || c || d) ≡ false → a ≡ false
+first_cause false false false false h = refl
+first_cause true b c d h = absurd (cc h)
+first_cause false true c d h = absurd (cc h)
+first_cause false false true d h = absurd (cc h)
+first_cause false false false true h = absurd (cc h)
+
+third_cause : (a b c d : Bool) → (a || b || c || d) ≡ false → c ≡ false
+third_cause false false false false h = refl
+third_cause true b c d h = absurd (cc h)
+third_cause false true c d h = absurd (cc h)
+third_cause false false true d h = absurd (cc h)
+third_cause false false false true h = absurd (cc h)
+
+pub second_cause : (a b c d : Bool) → (a || b || c || d) ≡ false → b ≡ false
+second_cause false false false false h = refl
+second_cause true b c d h = absurd (cc h)
+second_cause false true c d h = absurd (cc h)
+second_cause false false true d h = absurd (cc h)
+second_cause false false false true h = absurd (cc h)
+
+named_well : (c : Elem) → is (codes "environment") c ≡ true → is_bad_part c ≡ false → (is_none (value (codes "name") c) ≡ false) × (list_any (λ x. x == 61) (value (codes "name") c) ≡ false)
+named_well c h k =
+    let bad : is_bad_environment c ≡ false = sym (ap (λ b. b && is_bad_environment c) h) ∙ first_cause (is (codes "environment") c && is_bad_environment c) (is (codes "command") c && lacks (codes "name") c) (is (codes "for-each") c && is_bad_for_each c)
+    (is (codes "requires") c && is_wrong (λ t. is_some (importance_of t)) (attribute (codes "importance") c)) k in
+    five _ _ _ _ _ bad
+  where
+    five : (a b d e m : Bool) → (a || b || d || e || m) ≡ false → (a ≡ false) × (b ≡ false)
+    five false false d e m q = (refl, refl)
+    five true b d e m q = absurd (cc q)
+    five false true d e m q = absurd (cc q)
+
+other_name : (n : List ℕ) → is_among binding_names n ≡ true → same n (codes "environment") ≡ false → is_among other_names n ≡ true
+unfolding is_among
+other_name n h k = sym (ap (λ b. b || is_among other_names n) k) ∙ h
+
+pub binding_sound : (c : Elem) → is_ours c ≡ true → is_bad_part c ≡ false → is_among binding_names c.name ≡ true → IsProperBinding (binding_of c)
+unfolding binding_of
+binding_sound c ours good known = either (is (codes "environment") c) refl
+  where
+    either : (b : Bool) → is (codes "environment") c ≡ b
+        → IsProperBinding (if b then Env (value (codes "name") c) (extra_of c) (unwrap_or (option_and_then mode_of (attribute (codes "mode") c)) Prepend)
+        (unwrap_or (attribute (codes "separator") c) (codes ":")) (attribute (codes "default") c) else Unbuilt c.name)
+    either true h = named_well c h good
+    either false h = other_name c.name known (is_not_name (codes "environment") c ours h)
+
+-- a child is one of its parent's that is right
+pub bindings_sound : (e : Elem) → IsRight e → is_closed e ≡ false → Each IsProperBinding (bindings_of None e)
+bindings_sound e h open_ =
+    each_map IsProperBinding binding_of (those binding_names (parts None e))
+    (each_weak (λ c. IsChild e.name c × (is_among binding_names c.name ≡ true)) (λ c. IsProperBinding (binding_of c))
+    (λ c k. binding_sound c (child_own e.name c k.0).ours (right_part c k.0.right) k.1) (those binding_names (parts None e))
+    (each_filter (IsChild e.name) (λ c. is_among binding_names c.name) (parts None e) (right_parts e h open_)))
+
+-- Dependencies.
+
+asked : (o : Option (List ℕ)) → IsAsked (unwrap_or (option_and_then importance_of o) Essential)
+unfolding importance_of
+asked None = tt
+asked (Some t) = either (same t (codes "essential")) (same t (codes "recommended"))
+  where
+    either : (a b : Bool) → IsAsked (unwrap_or (if a then Some Essential else if b then Some Recommended else None) Essential)
+    either true b = tt
+    either false true = tt
+    either false false = tt
+
+not_restricts : same (codes "requires") (codes "restricts") ≡ false
+unfolding same
+not_restricts = refl
+
+requires_open : same (codes "requires") (codes "recipe") ≡ false
+unfolding same
+requires_open = refl
+
+pub dep_sound : (c : Elem) → IsRight c → c.name ≡ codes "requires" → IsProperDep (dep_of None c)
+unfolding dep_of ranges_of
+dep_sound c h name = record {
+  kind = subst IsAsked (sym (ap (λ b. if b then Restricts else unwrap_or (option_and_then importance_of (attribute (codes "importance") c)) Essential) (ends (is_ours c) (same c.name (codes "restricts")) (ap (λ n. same n (codes "restricts")) name ∙ not_restricts))))
+      (asked (attribute (codes "importance") c));
+  ranges = refl;
+  os = refl;
+  wanted = refl;
+  commands = refl;
+  bindings = bindings_sound c h (right_open (codes "requires") c h name requires_open);
+}
+  where
+    ends : (a b : Bool) → b ≡ false → (a && b) ≡ false
+    ends true b k = k
+    ends false b k = refl
+
+-- Arguments and loops.
+
+loop_name : (n : List ℕ) → is_among word_names n ≡ true → same n (codes "arg") ≡ false → n ≡ codes "for-each"
+unfolding is_among
+loop_name n h k = same_text n (codes "for-each") (alone (same n (codes "for-each")) (sym (ap (λ b. b || (same n (codes "for-each") || false)) k) ∙ h))
+  where
+    alone : (b : Bool) → (b || false) ≡ true → b ≡ true
+    alone true l = refl
+    alone false l = absurd (cc l)
+
+split_well : (c : Elem) → is (codes "for-each") c ≡ true → is_bad_part c ≡ false → is_none (unwrap_or (attribute (codes "separator") c) (codes ":")) ≡ false
+split_well c h k =
+    let bad : is_bad_for_each c ≡ false = sym (ap (λ b. b && is_bad_for_each c) h) ∙ third_cause (is (codes "environment") c && is_bad_environment c) (is (codes "command") c && lacks (codes "name") c) (is (codes "for-each") c && is_bad_for_each c)
+    (is (codes "requires") c && is_wrong (λ t. is_some (importance_of t)) (attribute (codes "importance") c)) k in
+    either (attribute (codes "separator") c) (both_false (lacks (codes "item-from") c) (is_wrong (λ t. not (is_none t)) (attribute (codes "separator") c)) bad).1
+  where
+    twice : (b : Bool) → not (not b) ≡ false → b ≡ false
+    twice true q = absurd (cc q)
+    twice false q = refl
+
+    either : (o : Option (List ℕ)) → is_wrong (λ (t : List ℕ). not (is_none t)) o ≡ false → is_none (unwrap_or o (codes ":")) ≡ false
+    either None q = refl
+    either (Some t) q = twice (is_none t) q
+
+pub word_sound : (c : Elem) → is_ours c ≡ true → is_bad_part c ≡ false → is_among word_names c.name ≡ true → IsProperWord (word_of None c)
+unfolding word_of
+word_sound c ours good known = either (is (codes "arg") c) refl
+  where
+    either : (b : Bool) → is (codes "arg") c ≡ b → IsProperWord (if b then Arg (text_in c.inside)
+        else ForEach (value (codes "item-from") c) (unwrap_or (attribute (codes "separator") c) (codes ":")) (map (λ (a : Elem). text_in a.inside) (parts None c)))
+    either true h = tt
+    either false h = split_well c (is_of_name (codes "for-each") c ours (loop_name c.name known (is_not_name (codes "arg") c ours h))) good
+
+pub words_sound : (e : Elem) → IsRight e → is_closed e ≡ false → Each IsProperWord (args_of None e)
+words_sound e h open_ =
+    each_map IsProperWord (word_of None) (those word_names (parts None e))
+    (each_weak (λ c. IsChild e.name c × (is_among word_names c.name ≡ true)) (λ c. IsProperWord (word_of None c))
+    (λ c k. word_sound c (child_own e.name c k.0).ours (right_part c k.0.right) k.1) (those word_names (parts None e))
+    (each_filter (IsChild e.name) (λ c. is_among word_names c.name) (parts None e) (right_parts e h open_)))
+
+-- Runners.
+
+runner_open : same (codes "runner") (codes "recipe") ≡ false
+unfolding same
+runner_open = refl
+
+pub runner_sound : (c : Elem) → IsRight c → c.name ≡ codes "runner" → IsProperRunner (runner_of None c)
+unfolding runner_of ranges_of
+runner_sound c h name = record {
+  kind = refl;
+  ranges = refl;
+  os = refl;
+  wanted = refl;
+  commands = refl;
+  bindings = bindings_sound c h (right_open (codes "runner") c h name runner_open);
+  words = words_sound c h (right_open (codes "runner") c h name runner_open);
+}
+
+-- Commands.
+
+command_open : same (codes "command") (codes "recipe") ≡ false
+unfolding same
+command_open = refl
+
+abbrev pub asked_names : List (List ℕ)
+asked_names = listed (codes "requires restricts")
+
+requires_name : (n : List ℕ) → is_among asked_names n ≡ true → is_among (listed (codes "version restricts")) n ≡ false → n ≡ codes "requires"
+unfolding is_among
+requires_name n h k = same_text n (codes "requires") (by (same n (codes "requires")) (same n (codes "version")) (same n (codes "restricts")) h k)
+  where
+    by : (a v r : Bool) → (a || (r || false)) ≡ true → (v || (r || false)) ≡ false → a ≡ true
+    by true v r p q = refl
+    by false false false p q = absurd (cc p)
+    by false false true p q = absurd (cc q)
+    by false true r p q = absurd (cc q)
+
+pub dep_child : (parent : List ℕ) (c : Elem) → IsChild parent c → is_among asked_names c.name ≡ true → c.name ≡ codes "requires"
+dep_child parent c h k = requires_name c.name k (child_own parent c h).kept
+
+pub deps_sound : (e : Elem) → IsRight e → is_closed e ≡ false → Each IsProperDep (deps_of None e)
+deps_sound e h open_ =
+    each_map IsProperDep (dep_of None) (those asked_names (parts None e))
+    (each_weak (λ c. IsChild e.name c × (is_among asked_names c.name ≡ true)) (λ c. IsProperDep (dep_of None c))
+    (λ c k. dep_sound c k.0.right (dep_child e.name c k.0 k.1)) (those asked_names (parts None e))
+    (each_filter (IsChild e.name) (λ c. is_among asked_names c.name) (parts None e) (right_parts e h open_)))
+
+pub command_sound : (c : Elem) → IsRight c → c.name ≡ codes "command" → IsProperCommand (command_of None c)
+unfolding command_of
+command_sound c h name =
+    let open_ = right_open (codes "command") c h name command_open in
+    let all = right_parts c h open_ in record {
+      words = words_sound c h open_;
+      runner = each_first IsProperRunner (runner_of None) (those runner_names (parts None c))
+          (each_weak (λ r. IsChild c.name r × (is_among runner_names r.name ≡ true)) (λ r. IsProperRunner (runner_of None r)) (λ r k. runner_sound r k.0.right (only_name r.name (codes "runner") k.1))
+          (those runner_names (parts None c)) (each_filter (IsChild c.name) (λ r. is_among runner_names r.name) (parts None c) all));
+      deps = deps_sound c h open_;
+      bindings = bindings_sound c h open_;
+      unbuilt = each_first IsDir (λ (w : Elem). w.name) (those dir_names (parts None c))
+          (each_weak (λ r. IsChild c.name r × (is_among dir_names r.name ≡ true)) (λ r. IsDir r.name) (λ r k. only_name r.name (codes "working-dir") k.1)
+          (those dir_names (parts None c)) (each_filter (IsChild c.name) (λ r. is_among dir_names r.name) (parts None c) all));
+    }
