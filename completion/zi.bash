@@ -5,11 +5,11 @@ _zi() {
     local options="--command --no-command --version --version-for --os --cpu --lang --level --network --use --rate --search --"
     COMPREPLY=()
     if [ "$COMP_CWORD" -eq 1 ]; then
-        mapfile -t COMPREPLY < <(compgen -W "select refute manifest store demo --help --version" -- "$word")
+        mapfile -t COMPREPLY < <(compgen -W "select check refute download run launch manifest store demo --help --version" -- "$word")
         return
     fi
     case ${COMP_WORDS[1]} in
-        select | refute)
+        select | check | refute | download | run)
             [ "${COMP_WORDS[1]}" = select ] && options="--proof $options"
             case $before in
                 --os) mapfile -t COMPREPLY < <(compgen -W "Linux Darwin FreeBSD Windows POSIX" -- "$word") ;;
@@ -24,6 +24,9 @@ _zi() {
                     esac
                     ;;
             esac
+            ;;
+        launch)
+            mapfile -t COMPREPLY < <(compgen -f -- "$word")
             ;;
         manifest)
             if [ "$COMP_CWORD" -eq 2 ]; then

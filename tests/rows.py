@@ -156,6 +156,16 @@ def finds_none(folder, words, feeds=None):
     expect(run(["refute"] + words + [proof], folder, feeds=feeds), 0, b"yes\n", b"")
 
 
+def certified(folder, words, document, feeds=None):
+    """The document and its certificate: what is written with `--proof` shows that the document selects the best choice."""
+    status, out, err = run(["select", "--proof"] + words, folder, feeds=feeds)
+    if status != 0 or err:
+        raise Wrong(f"{words}: {status}, {out!r}, {err!r}")
+    files = [write(folder, "document", document), write(folder, "certificate", out)]
+    expect(run(["check"] + words + files, folder, feeds=feeds), *YES)
+    return files
+
+
 CHOSEN = re.compile(r'<selection interface="([^"]*)" id="([^"]*)"')
 
 
@@ -164,6 +174,7 @@ def chosen(folder, words, feeds=None):
     status, out, err = run(["select"] + words, folder, feeds=feeds)
     if status != 0 or err:
         raise Wrong(f"{words}: {status}, {out!r}, {err!r}")
+    certified(folder, words, out, feeds)
     return {interface.rsplit("/", 1)[1].removesuffix(".xml"): id_ for interface, id_ in CHOSEN.findall(out.decode())}
 
 
@@ -323,6 +334,38 @@ def certificates(folder):
     expect(run(["refute", "--no-command", root, proof], folder), *REJECTED)
     root = feeds_of(folder, one=[impl("a", "1")])
     expect(run(SELECT + ["--proof", root], folder), 0, b"zi-proof 1\ne\n", b"")
+
+
+def selections_checked(folder):
+    """Only the document of the best choice is right, by a certificate of the same feeds; its layout and the order of its items say nothing."""
+    inside = '<environment name="A" value="1"/>' + requires("l", "version='..!3'")
+    root = feeds_of(folder, r=[needing("b", "2", requires("l", "version='4..'")), needing("a", "1", inside)], l=[impl("d", "3"), impl("c", "2"), impl("e", "1")])
+    words = ["--no-command", root]
+    text = run(["select"] + words, folder)[1]
+    document, proof = certified(folder, words, text)
+    check = ["check"] + words + [document]
+    for what, other in (('id="c"', 'id="e"'), ('version="2"', 'version="3"'), ('value="1"', 'value="2"'), ('stability="testing"', 'stability="stable"'), ('<environment name="A" value="1"/>', "")):
+        if what.encode() not in text:
+            raise Wrong(f"{what} isn't in {text!r}")
+        write(folder, "document", text.replace(what.encode(), other.encode(), 1))
+        expect(run(check + [proof], folder), *REJECTED)
+    items = re.findall(rb"  <selection .*?(?:/>\n  </selection>|/>)\n(?=  <selection|</selections)", text, re.DOTALL)
+    turned = text.replace(b"".join(items), b"".join(reversed(items))).replace(b"\n", b"\n\n").replace(b'"', b"'")
+    if len(items) != 2 or turned.count(b"<selection ") != 2:
+        raise Wrong(f"{items}")
+    write(folder, "document", turned)
+    expect(run(check + [proof], folder), *YES)
+    write(folder, "document", text)
+    expect(run(check + [write(folder, "other", b"zi-proof 1\ne\n")], folder), *REJECTED)
+    expect(run(["check", "--no-command", "--version", "..!2"] + words[1:] + [document, proof], folder), *REJECTED)
+    expect(run(["check", root, document, proof], folder), *REJECTED)
+    expect(run(check + [write(folder, "other", b"zi-proof 1\n")], folder), 77, b"", b"zi: bad proof at line 2\n")
+    expect(run(check + ["no"], folder), 75, b"", b"zi: no file no\n")
+    expect(run(["check"] + words + ["no", "no"], folder), 75, b"", b"zi: no file no\n")
+    write(folder, "document", text.replace(b"selections", b"choices"))
+    expect(run(check + ["no"], folder), 76, b"", b"zi: bad selections: fault 2\n")
+    other = write(folder, "long", b" " * (4 * 1024 * 1024 + 1))
+    expect(run(["check"] + words + [other, proof], folder), 68, b"", f"zi: {other} is longer than 4194304 bytes\n".encode())
 
 
 def three_that_differ():
@@ -824,6 +867,7 @@ ROWS = [
     the_best_that_fits,
     what_is_recommended,
     certificates,
+    selections_checked,
     searches,
     imports,
     dependencies_are_loaded_first,

@@ -1,7 +1,9 @@
 //! Whether choices are valid, certificates show them the best, and proofs refute. The lines of the proof text were told.
+ghost use Rattle.zi_universe.specs.Whole.{BeginsWith};
+
 use crate::fault::Fault;
 use crate::halves;
-use crate::told::{Told, picks_of, universe_of, want};
+use crate::told::{Asked, Told, picks_of, what_is_asked};
 use std::alloc::Global;
 use zi_check::{check_best, check_none, valid};
 use zi_choice::Choice;
@@ -13,7 +15,52 @@ fn certificate_of(alloc: Global, lines: &str) -> Result<Certificate, Fault> {
     Ok(read(alloc, text.as_bytes())?)
 }
 
-/// Adds what is said of picks: not valid, valid, or valid and by the certificate the best.
+// Whether a choice is valid.
+fn is_valid(alloc: Global, asked: &Asked, choice: &Choice) -> Result<bool, Fault>
+    requires { BeginsWith asked.now.universe asked.now.req.interface }
+{
+    Ok(valid(alloc, &asked.universe, &asked.req, choice)?)
+}
+
+// Whether a certificate shows a choice the best.
+fn is_best(
+    alloc: Global,
+    asked: &Asked,
+    choice: &Choice,
+    certificate: &Certificate,
+) -> Result<bool, Fault>
+    requires { BeginsWith asked.now.universe asked.now.req.interface }
+{
+    Ok(check_best(alloc, &asked.universe, &asked.req, choice, certificate)?)
+}
+
+// Whether a proof refutes.
+fn is_none(alloc: Global, asked: &Asked, certificate: &Certificate) -> Result<bool, Fault>
+    requires { BeginsWith asked.now.universe asked.now.req.interface }
+{
+    Ok(check_none(alloc, &asked.universe, &asked.req, &certificate.proof)?)
+}
+
+// What is said of a choice: not valid, valid, or valid and by the certificate the best.
+fn said(
+    alloc: Global,
+    asked: &Asked,
+    choice: &Choice,
+    certificate: &Certificate,
+) -> Result<&'static str, Fault>
+    requires { BeginsWith asked.now.universe asked.now.req.interface }
+{
+    let is_valid = is_valid(alloc, asked, choice)?;
+    let is_best = is_best(alloc, asked, choice, certificate)?;
+    Ok(match (is_valid, is_best) {
+        (false, false) => "no",
+        (true, false) => "valid",
+        (true, true) => "best",
+        (false, true) => "best, but not valid",
+    })
+}
+
+/// Adds what is said of picks.
 pub(crate) fn put_said(
     alloc: Global,
     out: &mut String,
@@ -21,21 +68,12 @@ pub(crate) fn put_said(
     told: &mut Told,
 ) -> Result<(), Fault> {
     let (command, picks) = halves(row);
-    let req = want(alloc, told, command)?;
-    let universe = universe_of(alloc, &req, &mut told.feeds)?;
+    let asked = what_is_asked(alloc, told, command)?;
     let choice = Choice {
         picks: picks_of(alloc, picks)?,
     };
     let certificate = certificate_of(alloc, told.proof.as_str())?;
-    let is_valid = valid(alloc, &universe, &req, &choice)?;
-    let is_best = check_best(alloc, &universe, &req, &choice, &certificate)?;
-    let said = match (is_valid, is_best) {
-        (false, false) => "no",
-        (true, false) => "valid",
-        (true, true) => "best",
-        (false, true) => "best, but not valid",
-    };
-    Ok(out.push_str(said)?)
+    Ok(out.push_str(said(alloc, &asked, &choice, &certificate)?)?)
 }
 
 /// Adds whether the proof refutes.
@@ -45,9 +83,8 @@ pub(crate) fn put_refuted(
     command: &str,
     told: &mut Told,
 ) -> Result<(), Fault> {
-    let req = want(alloc, told, command)?;
-    let universe = universe_of(alloc, &req, &mut told.feeds)?;
+    let asked = what_is_asked(alloc, told, command)?;
     let certificate = certificate_of(alloc, told.proof.as_str())?;
-    let is_none = check_none(alloc, &universe, &req, &certificate.proof)?;
+    let is_none = is_none(alloc, &asked, &certificate)?;
     Ok(out.push_str(if is_none { "yes" } else { "no" })?)
 }

@@ -4,12 +4,12 @@ ghost use Rattle.zi_choice.specs.Choice.{candidate_at};
 
 use crate::fault::Fault;
 use crate::halves;
-use crate::told::{Told, picks_of, universe_of, want};
+use crate::told::{Asked, Told, picks_of, what_is_asked};
 use std::alloc::{AllocError, Global};
 use std::fmt::Write;
 use zi_build::build;
 use zi_choice::{Names, Traced, trace_picks, variable};
-use zi_formula::Constraint;
+use zi_formula::{Constraint, Formula};
 use zi_universe::{Candidate, Universe};
 
 /// Adds a walk: each interface with what is picked, and behind `|` each used command with its interface.
@@ -27,6 +27,18 @@ fn put_traced(out: &mut String, walk: &Traced) -> Result<(), AllocError> {
     Ok(())
 }
 
+// Adds the walk of picks over what is asked about.
+fn put_walk_of(
+    alloc: Global,
+    out: &mut String,
+    asked: &Asked,
+    picks: &[Option<u32>],
+) -> Result<(), Fault> {
+    let names = Names::of(alloc, &asked.universe)?;
+    let walk = trace_picks(alloc, &names, &asked.req, picks)?;
+    Ok(put_traced(out, &walk)?)
+}
+
 /// Adds the walk of picks.
 pub(crate) fn put_walk(
     alloc: Global,
@@ -35,12 +47,9 @@ pub(crate) fn put_walk(
     told: &mut Told,
 ) -> Result<(), Fault> {
     let (command, picks) = halves(row);
-    let req = want(alloc, told, command)?;
-    let universe = universe_of(alloc, &req, &mut told.feeds)?;
-    let names = Names::of(alloc, &universe)?;
+    let asked = what_is_asked(alloc, told, command)?;
     let picks = picks_of(alloc, picks)?;
-    let walk = trace_picks(alloc, &names, &req, picks.as_slice())?;
-    Ok(put_traced(out, &walk)?)
+    put_walk_of(alloc, out, &asked, picks.as_slice())
 }
 
 /// Adds a constraint: a clause as its literals, each by its variable's number, with a sign where it is the opposite; a group
@@ -64,21 +73,25 @@ fn put_constraint(out: &mut String, c: &Constraint) -> Result<(), AllocError> {
     out.push(';')
 }
 
-/// Adds the formula: the number of its variables, and its constraints.
+// Adds a formula: the number of its variables, and its constraints.
+fn put_constraints(out: &mut String, formula: &Formula) -> Result<(), AllocError> {
+    write!(out, "{}:", formula.variables)?;
+    for c in formula.constraints.as_slice() {
+        put_constraint(out, c)?;
+    }
+    Ok(())
+}
+
+/// Adds the formula of what is asked about.
 pub(crate) fn put_formula(
     alloc: Global,
     out: &mut String,
     command: &str,
     told: &mut Told,
 ) -> Result<(), Fault> {
-    let req = want(alloc, told, command)?;
-    let universe = universe_of(alloc, &req, &mut told.feeds)?;
-    let formula = build(alloc, &universe, &req)?;
-    write!(out, "{}:", formula.variables)?;
-    for c in formula.constraints.as_slice() {
-        put_constraint(out, c)?;
-    }
-    Ok(())
+    let asked = what_is_asked(alloc, told, command)?;
+    let formula = build(alloc, &asked.universe, &asked.req)?;
+    Ok(put_constraints(out, &formula)?)
 }
 
 /// The candidate of a number, of the interface of a number.
@@ -102,12 +115,11 @@ pub(crate) fn put_number(
     row: &str,
     told: &mut Told,
 ) -> Result<(), Fault> {
-    let req = want(alloc, told, "-")?;
-    let universe = universe_of(alloc, &req, &mut told.feeds)?;
+    let asked = what_is_asked(alloc, told, "-")?;
     let (interface, candidate) = halves(row);
     let interface = interface.parse::<u32>().unwrap_or(u32::MAX);
     let candidate = candidate.parse::<u32>().unwrap_or(u32::MAX);
-    match number_of(&universe, interface, candidate) {
+    match number_of(&asked.universe, interface, candidate) {
         Some(number) => Ok(write!(out, "{number}")?),
         None => Ok(out.push('-')?),
     }

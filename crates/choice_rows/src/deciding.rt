@@ -5,7 +5,7 @@ ghost use Rattle.zi_choice.specs.Vars.{var_count};
 ghost use Rattle.zi_build.specs.Clauses.{formula, literals, most_literals};
 
 use crate::fault::Fault;
-use crate::told::{Told, universe_of, want};
+use crate::told::{Told, what_is_asked};
 use std::alloc::Global;
 use std::fmt::Write;
 use zi_build::build;
@@ -72,9 +72,8 @@ pub(crate) fn put_search(
     command: &str,
     told: &mut Told,
 ) -> Result<(), Fault> {
-    let req = want(alloc, told, command)?;
-    let universe = universe_of(alloc, &req, &mut told.feeds)?;
-    let formula = build(alloc, &universe, &req)?;
+    let asked = what_is_asked(alloc, told, command)?;
+    let formula = build(alloc, &asked.universe, &asked.req)?;
     let mut search = Search::new(alloc, &formula)?;
-    Ok(put_end(alloc, out, &universe, &req, &mut search)?)
+    Ok(put_end(alloc, out, &asked.universe, &asked.req, &mut search)?)
 }

@@ -1,7 +1,7 @@
 //! Selections documents of choices that are given by hand.
 use crate::fault::Fault;
 use crate::halves;
-use crate::told::{Told, picks_of, universe_of, want};
+use crate::told::{Asked, Told, picks_of, what_is_asked};
 use std::alloc::Global;
 use zi_choice::Choice;
 use zi_docout::WriteFault;
@@ -21,6 +21,17 @@ fn put_document(alloc: Global, out: &mut String, selections: &Selections) -> Res
     }
 }
 
+// Adds the document of a choice.
+fn put_chosen(
+    alloc: Global,
+    out: &mut String,
+    asked: &Asked,
+    choice: &Choice,
+) -> Result<(), Fault> {
+    let selections = from_choice(alloc, &asked.universe, &asked.req, choice)?;
+    put_document(alloc, out, &selections)
+}
+
 /// Adds the document of the choice of picks.
 pub(crate) fn put_selections(
     alloc: Global,
@@ -29,11 +40,9 @@ pub(crate) fn put_selections(
     told: &mut Told,
 ) -> Result<(), Fault> {
     let (command, picks) = halves(row);
-    let req = want(alloc, told, command)?;
-    let universe = universe_of(alloc, &req, &mut told.feeds)?;
+    let asked = what_is_asked(alloc, told, command)?;
     let choice = Choice {
         picks: picks_of(alloc, picks)?,
     };
-    let selections = from_choice(alloc, &universe, &req, &choice)?;
-    put_document(alloc, out, &selections)
+    put_chosen(alloc, out, &asked, &choice)
 }

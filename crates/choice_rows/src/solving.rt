@@ -3,7 +3,7 @@ ghost use Rattle.std.specs.Prelude.{◌≤◌};
 
 use crate::fault::Fault;
 use crate::halves;
-use crate::told::{Told, universe_of, want};
+use crate::told::{Told, what_is_asked};
 use std::alloc::{AllocError, Global};
 use std::fmt::Write;
 use zi_proof::Block;
@@ -54,9 +54,8 @@ fn put_within(
 ) -> Result<(), Fault>
     requires { budget ≤ 4000000000 }
 {
-    let req = want(alloc, told, command)?;
-    let universe = universe_of(alloc, &req, &mut told.feeds)?;
-    let answer = solve(alloc, &universe, &req, budget)?;
+    let asked = what_is_asked(alloc, told, command)?;
+    let answer = solve(alloc, &asked.universe, &asked.req, budget)?;
     Ok(put_answer(out, &answer)?)
 }
 

@@ -2,6 +2,7 @@
 ghost use Rattle.std.specs.Prelude.{IfOk};
 ghost use Rattle.zi_universe.specs.Whole.{BeginsWith};
 
+use crate::fault::Fault;
 use crate::halves;
 use std::alloc::Global;
 use std::fmt::Write;
@@ -81,7 +82,7 @@ pub(crate) fn tells(
 }
 
 /// The root with this command, where it isn't `-`.
-pub(crate) fn want(alloc: Global, told: &Told, command: &str) -> Result<Requirement, Memory> {
+fn want(alloc: Global, told: &Told, command: &str) -> Result<Requirement, Memory> {
     let command = if command == "-" {
         None
     } else {
@@ -107,8 +108,24 @@ fn policy(alloc: Global) -> Result<Policy, Memory> {
     })
 }
 
+/// What a row asks about: a requirement, and its universe over the feeds that were told.
+#[derive(Drop)]
+pub(crate) struct Asked {
+    pub req: Requirement,
+    pub universe: Universe,
+}
+
+/// What is asked about the root with this command, where nothing is stored.
+pub(crate) fn what_is_asked(alloc: Global, told: &mut Told, command: &str) -> Result<Asked, Fault>
+    ensures { IfOk result (λ a. BeginsWith a.universe a.req.interface) }
+{
+    let req = want(alloc, told, command)?;
+    let universe = universe_of(alloc, &req, &mut told.feeds)?;
+    Ok(Asked { req, universe })
+}
+
 /// The universe of a requirement over feeds, where nothing is stored.
-pub(crate) fn universe_of(
+fn universe_of(
     alloc: Global,
     req: &Requirement,
     feeds: &mut SureFeeds,

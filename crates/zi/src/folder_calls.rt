@@ -144,9 +144,42 @@ fn held(rt: &HostRuntime, root: &str) -> Result<File, Trouble> {
     }
 }
 
+// The folder that holds what stands under a path.
+fn folder_above(path: &str) -> &str {
+    match path.rfind('/') {
+        Some(last) => &path[..last + 1],
+        None => ".",
+    }
+}
+
+// Makes a folder where nothing stands under its path, and makes it last: what holds it is told to the disk too.
+fn make_lasting(rt: &HostRuntime, path: &str) -> Result<(), Trouble> {
+    if path.is_empty() || is_there(rt, path)? {
+        return Ok(());
+    }
+    match fs::create_dir(rt, path) {
+        Ok(()) => {}
+        // another launcher was faster
+        Err(error) if error.kind() == ErrorKind::AlreadyExists => {}
+        Err(error) => return Err(Trouble::from(error)),
+    }
+    sync_folder(rt, folder_above(path))
+}
+
+// Makes the shelf's folder and all folders on the way to it where they aren't there. Each lasts once this has ended.
+fn make_root(rt: &HostRuntime, root: &str) -> Result<(), Trouble> {
+    let mut path = String::new(rt.alloc());
+    for part in root.split('/') {
+        path.push_str(part)?;
+        make_lasting(rt, path.as_str())?;
+        path.push('/')?;
+    }
+    Ok(())
+}
+
 /// Makes a top entry, and the shelf's folder where that is missing.
 pub fn make_top(rt: &HostRuntime, root: &str, path: &str) -> Result<TopMade, Trouble> {
-    fs::create_dir_all(rt, root)?;
+    make_root(rt, root)?;
     let _folder = held(rt, root)?;
     match fs::create_dir(rt, path) {
         Ok(()) => Ok(TopMade::Made),

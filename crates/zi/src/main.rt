@@ -1,4 +1,4 @@
-//! The program: its words, its folders of feeds and of trees, and the standard streams, handed to `zi_app::run`.
+//! The program: its words, its folders of feeds and of trees, its helper, its programs and the standard streams, handed to `zi_app::run`.
 //! What these real objects do is tried, and not claimed.
 #![tactic(auto)]
 
@@ -17,11 +17,21 @@ use arguments::{TextWords, feeds_folder, log_name, store_folder, words};
 use folder_feeds::FolderFeeds;
 use folder_shelf::FolderShelf;
 use log::write_log;
+use std::alloc::Global;
 use std::process::ExitCode;
 use std_sink::StdSink;
 use zi_app::{Outcome, refuse, run};
+use zi_edge::{ChildSpawner, HelperWeb, helper, variables};
 use zi_outside::Vars;
-use zi_text::Memory;
+use zi_text::{Memory, Text};
+
+// The program that gives what is in the web, where the variables name one.
+fn named_helper(alloc: Global, vars: &Vars) -> Result<Option<Text>, Memory> {
+    match helper(vars) {
+        Some(name) => Ok(Some(name.copy(alloc)?)),
+        None => Ok(None),
+    }
+}
 
 // The program's work; Err where memory is refused before it begins.
 fn work(rt: &HostRuntime) -> Result<Outcome, Memory> {
@@ -32,9 +42,11 @@ fn work(rt: &HostRuntime) -> Result<Outcome, Memory> {
         return Ok(refuse(alloc, texts.as_slice(), &mut err));
     }
     let log_name = log_name(rt)?;
-    let vars = Vars::new(alloc);
+    let vars = variables(rt, alloc)?;
     let mut feeds = FolderFeeds::new(rt, feeds_folder(rt)?);
     let mut shelf = FolderShelf::new(*rt, store_folder(rt)?);
+    let mut web = HelperWeb::new(rt, named_helper(alloc, &vars)?);
+    let mut spawner = ChildSpawner::new(rt);
     let mut out = StdSink::new(alloc, "standard output", rt.stdout());
     let outcome = run(
         alloc,
@@ -42,12 +54,16 @@ fn work(rt: &HostRuntime) -> Result<Outcome, Memory> {
         &vars,
         &mut feeds,
         &mut shelf,
+        &mut web,
+        &mut spawner,
         &mut out,
         &mut err,
     );
     if let Some(name) = log_name {
         let _ = write_log(rt, &name, feeds.log().as_bytes());
         let _ = write_log(rt, &name, shelf.log().as_bytes());
+        let _ = write_log(rt, &name, web.log().as_bytes());
+        let _ = write_log(rt, &name, spawner.log().as_bytes());
         let _ = write_log(rt, &name, out.log().as_bytes());
         let _ = write_log(rt, &name, err.log().as_bytes());
     }
@@ -68,7 +84,6 @@ mod tests {
     use std::fs;
     use std::test::Fail;
     use zi_outside::{Feeds, FeedsFault, Got, Sink};
-    use zi_text::Text;
 
     #[test]
     fn feeds_are_files(rt: HostRuntime) -> Result<(), Fail> {

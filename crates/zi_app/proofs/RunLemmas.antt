@@ -1,11 +1,12 @@
 -- The work of the words, and its outcome.
-use Rattle.std.proofs.Common.{◌≡◌, ◌≢◌, inl, inr, List, ℕ, [], ◌∷◌, length, refl, sym, subst, Bool}
+use Rattle.std.proofs.Common.{◌≡◌, ◌≢◌, inl, inr, List, ℕ, [], ◌∷◌, length, refl, sym, ap, subst, Bool}
 use Rattle.std.proofs.lemmas.List.{append-nil}
 use Rattle.zi_text.specs.Front.{StopsAt, stops_at_end}
 use Rattle.zi_words.specs.declared.loader.Loader.{Loader}
 use Rattle.zi_words.specs.declared.loader.Loader.TheVariants as loader
 use Rattle.zi_words.specs.declared.request.Ask.{Ask}
 use Rattle.zi_outside.specs.Views.{Sinking}
+use Rattle.zi_outside.specs.declared.var.Var.{Var}
 use Rattle.zi_words.specs.declared.request.Request.{Request}
 use Rattle.zi_words.specs.declared.request.Request.TheVariants as request
 use Rattle.zi_words.specs.Words.{request_of, Loads, Right, AreRight, FaultMeans}
@@ -20,8 +21,10 @@ use Rattle.zi_app.specs.declared.checked.Checked.{Checked}
 use Rattle.zi_app.specs.declared.checked.Checked.TheVariants as checked
 use Rattle.zi_digest.specs.declared.DigestName.{DigestName}
 use Rattle.zi_outcome.specs.declared.outcome.Outcome.{Outcome}
-use Rattle.zi_outcome.specs.declared.outcome.Outcome.TheVariants.{Done, Usage}
+use Rattle.zi_outcome.specs.declared.outcome.Outcome.TheVariants.{Done, Usage, Child}
 use Rattle.zi_world.specs.World.{World}
+use Rattle.zi_world.specs.Meets.{world_of}
+use Rattle.zi_world.specs.Surroundings.{Surroundings, NothingDoneAround, meets_of}
 use Rattle.zi_outcome.specs.Writing.{PrintsThen, Prints}
 use Rattle.zi_app.specs.Showing.{ShowsText, ShowsDemo}
 use Rattle.zi_choosing.specs.Demo.{Demos}
@@ -34,11 +37,18 @@ use Rattle.zi_world.specs.Shelves.{Lasts}
 use Rattle.zi_outcome.specs.Line.{Tells}
 use Rattle.zi_store.specs.Keeping.{is_names, is_reading}
 use Rattle.zi_world.proofs.ShelvesLemmas.{untouched, nothing_done, untouched_lasts, keeps_lasts}
+use Rattle.zi_adding.specs.Gains.{KeepsTrees}
+use Rattle.zi_adding.proofs.HistoryLaws.{uses_keep, reading_keeps, told_keeps}
+use Rattle.zi_app.proofs.LaunchLemmas.{ran_in, run_right, launch_right, run_quiet, launch_quiet}
+use Rattle.zi_app.proofs.KeptLemmas.{adds_keep, uses_last, download_right}
 
 -- right words ask for files with names, for no more lemmas than there may be, and for a demonstration that there is
 abbrev IsLoading : Request → Type 0
 IsLoading (request.Select ask proof) = Unit {0}
 IsLoading (request.Refute ask proof) = Unit {0}
+IsLoading (request.Download ask) = Unit {0}
+IsLoading (request.Run ask user) = Unit {0}
+IsLoading (request.Check ask sels proof) = Unit {0}
 IsLoading other = ⊥
 
 store_form : (ws : List (List ℕ)) (r : Request) → AsksStore ws r → IsInForm r
@@ -54,10 +64,17 @@ loads_form ws r w (l, e, asks) = subst IsLoading (sym asks.asked) (of_loader l (
     of_loader : (l : Loader) (ask : Ask) (proof : Bool) (named : List Word) → IsLoading (request_of l ask proof named)
     of_loader loader.Select ask proof named = tt
     of_loader loader.Refute ask proof named = tt
+    of_loader loader.Download ask proof named = tt
+    of_loader loader.Run ask proof named = tt
+    of_loader loader.Check ask proof named = tt
 
 within_form : (r : Request) → IsWithin r → IsLoading r → IsInForm r
 within_form (request.Select ask proof) h l = h
 within_form (request.Refute ask proof) h l = tt
+within_form (request.Download ask) h l = h
+within_form (request.Run ask user) h l = h
+within_form (request.Launch file user) h l = tt
+within_form (request.Check ask sels proof) h l = tt
 within_form (request.Manifest algorithm name) h l = tt
 within_form (request.Add name files) h l = absurd l
 within_form (request.Verify name) h l = tt
@@ -76,8 +93,9 @@ in_form (w ∷ ws) r (inl loads) = within_form r (is_within (w ∷ ws) r (inl lo
 in_form (w ∷ ws) r (inr (inl (inl (e, (a, name, are, right, asked))))) = subst IsInForm (sym asked) tt
 in_form (w ∷ ws) r (inr (inl (inr (e, s)))) = store_form ws r s
 in_form (w ∷ ws) r (inr (inr (inl demo))) = demo_form ws r (is_within (w ∷ ws) r (inr (inr (inl demo)))) demo.1
-in_form (w ∷ ws) r (inr (inr (inr (are, inl (e, asked))))) = subst IsInForm (sym asked) tt
-in_form (w ∷ ws) r (inr (inr (inr (are, inr (e, asked))))) = subst IsInForm (sym asked) tt
+in_form (w ∷ ws) r (inr (inr (inr (inl (e, (file, user, are, asked)))))) = subst IsInForm (sym asked) tt
+in_form (w ∷ ws) r (inr (inr (inr (inr (are, inl (e, asked)))))) = subst IsInForm (sym asked) tt
+in_form (w ∷ ws) r (inr (inr (inr (inr (are, inr (e, asked)))))) = subst IsInForm (sym asked) tt
 
 -- Right words never come to Usage.
 no_print : (text : List ℕ) (ending : Outcome) (old new : Sinking) (index : ℕ) → ending ≢ Usage index → PrintsThen text ending old new (Usage index) → ⊥
@@ -95,10 +113,14 @@ no_check name checked.Missing old new index (e, w) = (cc e)
 no_check name (checked.BadName path) old new index (e, w) = (cc e)
 no_check name (checked.TooLarge what limit) old new index (e, w) = (cc e)
 
-never_usage : (asked : Request) (before after : World) (index : ℕ) → Does asked before after (Usage index) → ⊥
-never_usage (request.Select ask proof) before after index d = elim d.answer [ inl f ↦ f.0 | inr s ↦ s.1.2 ]
-never_usage (request.Refute ask proof) before after index d = elim d.answer [ inl f ↦ f.0 | inr s ↦ s.1.2 ]
-never_usage (request.Manifest algorithm name) before after index d = elim d.answer [
+never_usage : (asked : Request) (vars : List Var) (before after : Surroundings) (index : ℕ) → Does asked vars before after (Usage index) → ⊥
+never_usage (request.Select ask proof) vars before after index d = elim d.does.does.answer [ inl f ↦ f.0 | inr s ↦ s.1.2 ]
+never_usage (request.Run ask user) vars before after index d = run_right ask vars user before after index d
+never_usage (request.Launch file user) vars before after index d = launch_right file vars user before after index d
+never_usage (request.Check ask sels proof) vars before after index d = elim d.does.does.answer [ inl f ↦ f.0 | inr s ↦ s.1.2 ]
+never_usage (request.Refute ask proof) vars before after index d = elim d.does.does.answer [ inl f ↦ f.0 | inr s ↦ s.1.2 ]
+never_usage (request.Download ask) vars before after index d = download_right ask (meets_of before) (meets_of after) index d.does
+never_usage (request.Manifest algorithm name) vars before after index d = elim d.does.does.answer [
   | inl f ↦ f
   | inr s ↦ elim s.1 [
     | inl none ↦ none
@@ -108,26 +130,29 @@ never_usage (request.Manifest algorithm name) before after index d = elim d.answ
     ]
   ]
 ]
-never_usage (request.Add name files) before after index d = d.ended
-never_usage (request.Verify name) before after index d = elim d.answer [
+never_usage (request.Add name files) vars before after index d = d.does.does.ended
+never_usage (request.Verify name) vars before after index d = elim d.does.does.answer [
   | inl f ↦ f
   | inr s ↦ no_check name s.1.0 before.out after.out index s.1.2
 ]
-never_usage request.Names before after index d = elim d.answer [ inl f ↦ f | inr s ↦ no_show _ before.out after.out index s.1.2 ]
-never_usage (request.Demo n) before after index d = elim d.out [ inl shown ↦ shown.counts | inr m ↦ (let e = m.0 in (cc e)) ]
-never_usage request.Help before after index d = no_show _ before.out after.out index d.out
-never_usage request.Version before after index d = no_show _ before.out after.out index d.out
+never_usage request.Names vars before after index d = elim d.does.does.answer [ inl f ↦ f | inr s ↦ no_show _ before.out after.out index s.1.2 ]
+never_usage (request.Demo n) vars before after index d = elim d.does.does.out [ inl shown ↦ shown.counts | inr m ↦ (let e = m.0 in (cc e)) ]
+never_usage request.Help vars before after index d = no_show _ before.out after.out index d.does.does.out
+never_usage request.Version vars before after index d = no_show _ before.out after.out index d.does.does.out
 
-pub asked_done : (words : List (List ℕ)) (asked : Request) (before after : World) (outcome : Outcome) → Right words asked → Does asked before after outcome → Works words before after outcome
-asked_done words asked before after outcome right does =
-    inl (record { asked = asked; right = right; does = does; not_usage = λ index e. never_usage asked before after index (subst (λ x. Does asked before after x) e does) })
+pub asked_done : (words : List (List ℕ)) (asked : Request) (vars : List Var) (before after : Surroundings) (outcome : Outcome) → Right words asked → Does asked vars before after outcome → Works words vars before after outcome
+asked_done words asked vars before after outcome right does =
+    inl (record { asked = asked; right = right; does = does; not_usage = λ index e. never_usage asked vars before after index (subst (λ x. Does asked vars before after x) e does) })
 
-words_wrong : (words : List (List ℕ)) (f : WordsFault) (world : World) → FaultMeans words f → Works words world world (words_outcome f)
-words_wrong words (fault.Usage index) world (wrong, stops) = inr (inl (record { wrong = wrong; index = index; stops = stops; usage = refl; nothing = nothing_done world }))
-words_wrong words fault.Memory world means = inr (inr (refl, nothing_done world))
+nothing_met : (s : Surroundings) → NothingDoneAround s s
+nothing_met s = record { nothing = record { nothing = nothing_done (world_of (meets_of s)); web = refl }; started = refl }
 
-pub words_unread : (words : List (List ℕ)) (f : WordsFault) (world : World) (outcome : Outcome) → FaultMeans words f → outcome ≡ words_outcome f → Works words world world outcome
-words_unread words f world outcome means e = subst (λ x. Works words world world x) (sym e) (words_wrong words f world means)
+words_wrong : (words : List (List ℕ)) (vars : List Var) (f : WordsFault) (s : Surroundings) → FaultMeans words f → Works words vars s s (words_outcome f)
+words_wrong words vars (fault.Usage index) s (wrong, stops) = inr (inl (record { wrong = wrong; index = index; stops = stops; usage = refl; nothing = nothing_met s }))
+words_wrong words vars fault.Memory s means = inr (inr (refl, nothing_met s))
+
+pub words_unread : (words : List (List ℕ)) (vars : List Var) (f : WordsFault) (s : Surroundings) (outcome : Outcome) → FaultMeans words f → outcome ≡ words_outcome f → Works words vars s s outcome
+words_unread words vars f s outcome means e = subst (λ x. Works words vars s s x) (sym e) (words_wrong words vars f s means)
 
 -- the lines of a demonstration are written
 pub shows_demo : (n : ℕ) (world : World) (out : Sinking) (outcome : Outcome) → Demos n world.out out outcome
@@ -141,42 +166,123 @@ shows text shown world out outcome e p = record { feeds = refl; shelf = untouche
 
 pub ruleset answering = (nothing_done)
 
--- Feeds and shelf can be used on.
-does_last : (asked : Request) (before after : World) (outcome : Outcome) → Does asked before after outcome → Lasts before.shelf after.shelf
-does_last (request.Select ask proof) before after outcome d = keeps_lasts is_names before.shelf after.shelf d.shelf
-does_last (request.Refute ask proof) before after outcome d = keeps_lasts is_names before.shelf after.shelf d.shelf
-does_last (request.Manifest algorithm name) before after outcome d = keeps_lasts is_reading before.shelf after.shelf d.shelf
-does_last (request.Add name files) before after outcome d = d.shelf
-does_last (request.Verify name) before after outcome d = keeps_lasts is_reading before.shelf after.shelf d.shelf
-does_last request.Names before after outcome d = keeps_lasts is_names before.shelf after.shelf d.shelf
-does_last (request.Demo n) before after outcome d = untouched_lasts before.shelf after.shelf d.shelf
-does_last request.Help before after outcome d = untouched_lasts before.shelf after.shelf d.shelf
-does_last request.Version before after outcome d = untouched_lasts before.shelf after.shelf d.shelf
+-- Feeds, shelf and web can be used on.
+does_last : (asked : Request) (vars : List Var) (before after : Surroundings) (outcome : Outcome) → Does asked vars before after outcome → Lasts before.shelf after.shelf
+does_last (request.Select ask proof) vars before after outcome d = keeps_lasts is_names before.shelf after.shelf d.does.does.shelf
+does_last (request.Run ask user) vars before after outcome d = uses_last d.tried before.shelf after.shelf d.shelf
+does_last (request.Launch file user) vars before after outcome d = keeps_lasts is_reading before.shelf after.shelf d.shelf
+does_last (request.Check ask sels proof) vars before after outcome d = keeps_lasts is_names before.shelf after.shelf d.does.does.shelf
+does_last (request.Refute ask proof) vars before after outcome d = keeps_lasts is_names before.shelf after.shelf d.does.does.shelf
+does_last (request.Download ask) vars before after outcome d = uses_last d.does.tried before.shelf after.shelf d.does.shelf
+does_last (request.Manifest algorithm name) vars before after outcome d = keeps_lasts is_reading before.shelf after.shelf d.does.does.shelf
+does_last (request.Add name files) vars before after outcome d = d.does.does.shelf
+does_last (request.Verify name) vars before after outcome d = keeps_lasts is_reading before.shelf after.shelf d.does.does.shelf
+does_last request.Names vars before after outcome d = keeps_lasts is_names before.shelf after.shelf d.does.does.shelf
+does_last (request.Demo n) vars before after outcome d = untouched_lasts before.shelf after.shelf d.does.does.shelf
+does_last request.Help vars before after outcome d = untouched_lasts before.shelf after.shelf d.does.does.shelf
+does_last request.Version vars before after outcome d = untouched_lasts before.shelf after.shelf d.does.does.shelf
 
-does_stay : (asked : Request) (before after : World) (outcome : Outcome) → Does asked before after outcome → FeedsStay before.feeds after.feeds
-does_stay (request.Select ask proof) before after outcome d = d.feeds
-does_stay (request.Refute ask proof) before after outcome d = d.feeds
-does_stay (request.Manifest algorithm name) before after outcome d = unasked_stay before.feeds after.feeds d.feeds
-does_stay (request.Add name files) before after outcome d = d.feeds
-does_stay (request.Verify name) before after outcome d = unasked_stay before.feeds after.feeds d.feeds
-does_stay request.Names before after outcome d = unasked_stay before.feeds after.feeds d.feeds
-does_stay (request.Demo n) before after outcome d = unasked_stay before.feeds after.feeds d.feeds
-does_stay request.Help before after outcome d = unasked_stay before.feeds after.feeds d.feeds
-does_stay request.Version before after outcome d = unasked_stay before.feeds after.feeds d.feeds
+does_stay : (asked : Request) (vars : List Var) (before after : Surroundings) (outcome : Outcome) → Does asked vars before after outcome → FeedsStay before.feeds after.feeds
+does_stay (request.Select ask proof) vars before after outcome d = d.does.does.feeds
+does_stay (request.Run ask user) vars before after outcome d = d.feeds
+does_stay (request.Launch file user) vars before after outcome d = d.feeds
+does_stay (request.Check ask sels proof) vars before after outcome d = d.does.does.feeds
+does_stay (request.Refute ask proof) vars before after outcome d = d.does.does.feeds
+does_stay (request.Download ask) vars before after outcome d = d.does.feeds
+does_stay (request.Manifest algorithm name) vars before after outcome d = unasked_stay before.feeds after.feeds d.does.does.feeds
+does_stay (request.Add name files) vars before after outcome d = d.does.does.feeds
+does_stay (request.Verify name) vars before after outcome d = unasked_stay before.feeds after.feeds d.does.does.feeds
+does_stay request.Names vars before after outcome d = unasked_stay before.feeds after.feeds d.does.does.feeds
+does_stay (request.Demo n) vars before after outcome d = unasked_stay before.feeds after.feeds d.does.does.feeds
+does_stay request.Help vars before after outcome d = unasked_stay before.feeds after.feeds d.does.does.feeds
+does_stay request.Version vars before after outcome d = unasked_stay before.feeds after.feeds d.does.does.feeds
 
-works_stay : (words : List (List ℕ)) (before after : World) (outcome : Outcome) → Works words before after outcome → FeedsStay before.feeds after.feeds
-works_stay words before after outcome (inl done) = does_stay done.asked before after outcome done.does
-works_stay words before after outcome (inr (inl wrong)) = unasked_stay before.feeds after.feeds wrong.nothing.feeds
-works_stay words before after outcome (inr (inr (e, n))) = unasked_stay before.feeds after.feeds n.feeds
+web_stays : (asked : Request) (vars : List Var) (before after : Surroundings) (outcome : Outcome) → Does asked vars before after outcome → FeedsStay before.web after.web
+web_stays (request.Select ask proof) vars before after outcome d = unasked_stay before.web after.web d.does.web
+web_stays (request.Run ask user) vars before after outcome d = d.web
+web_stays (request.Launch file user) vars before after outcome d = unasked_stay before.web after.web d.web
+web_stays (request.Check ask sels proof) vars before after outcome d = unasked_stay before.web after.web d.does.web
+web_stays (request.Refute ask proof) vars before after outcome d = unasked_stay before.web after.web d.does.web
+web_stays (request.Download ask) vars before after outcome d = d.does.web
+web_stays (request.Manifest algorithm name) vars before after outcome d = unasked_stay before.web after.web d.does.web
+web_stays (request.Add name files) vars before after outcome d = unasked_stay before.web after.web d.does.web
+web_stays (request.Verify name) vars before after outcome d = unasked_stay before.web after.web d.does.web
+web_stays request.Names vars before after outcome d = unasked_stay before.web after.web d.does.web
+web_stays (request.Demo n) vars before after outcome d = unasked_stay before.web after.web d.does.web
+web_stays request.Help vars before after outcome d = unasked_stay before.web after.web d.does.web
+web_stays request.Version vars before after outcome d = unasked_stay before.web after.web d.does.web
 
-works_last : (words : List (List ℕ)) (before after : World) (outcome : Outcome) → Works words before after outcome → Lasts before.shelf after.shelf
-works_last words before after outcome (inl done) = does_last done.asked before after outcome done.does
-works_last words before after outcome (inr (inl wrong)) = untouched_lasts before.shelf after.shelf wrong.nothing.shelf
-works_last words before after outcome (inr (inr (e, n))) = untouched_lasts before.shelf after.shelf n.shelf
+-- The stored trees are as before, but for those that have come.
+does_keep : (asked : Request) (vars : List Var) (before after : Surroundings) (outcome : Outcome) → Does asked vars before after outcome → KeepsTrees before.shelf after.shelf
+does_keep (request.Select ask proof) vars before after outcome d = reading_keeps is_names before.shelf after.shelf d.does.does.shelf
+does_keep (request.Run ask user) vars before after outcome d = uses_keep d.tried before.shelf after.shelf d.shelf
+does_keep (request.Launch file user) vars before after outcome d = reading_keeps is_reading before.shelf after.shelf d.shelf
+does_keep (request.Check ask sels proof) vars before after outcome d = reading_keeps is_names before.shelf after.shelf d.does.does.shelf
+does_keep (request.Refute ask proof) vars before after outcome d = reading_keeps is_names before.shelf after.shelf d.does.does.shelf
+does_keep (request.Download ask) vars before after outcome d = uses_keep d.does.tried before.shelf after.shelf d.does.shelf
+does_keep (request.Manifest algorithm name) vars before after outcome d = reading_keeps is_reading before.shelf after.shelf d.does.does.shelf
+does_keep (request.Add name files) vars before after outcome d = adds_keep name files (world_of (meets_of before)) (world_of (meets_of after)) outcome d.does.does.ended
+does_keep (request.Verify name) vars before after outcome d = reading_keeps is_reading before.shelf after.shelf d.does.does.shelf
+does_keep request.Names vars before after outcome d = reading_keeps is_names before.shelf after.shelf d.does.does.shelf
+does_keep (request.Demo n) vars before after outcome d = told_keeps before.shelf after.shelf d.does.does.shelf.told
+does_keep request.Help vars before after outcome d = told_keeps before.shelf after.shelf d.does.does.shelf.told
+does_keep request.Version vars before after outcome d = told_keeps before.shelf after.shelf d.does.does.shelf.told
 
-pub works_told : (words : List (List ℕ)) (before after : World) (err_before err_after : Sinking) (work outcome : Outcome) → Works words before after work → Tells work err_before err_after outcome
-    → Runs words before after err_before err_after outcome
-works_told words before after err_before err_after work outcome done told = record { work = work; done = done; told = told; feeds = works_stay words before after work done; shelf = works_last words before after work done }
+-- After every outcome but a program's status nothing was launched.
+does_quiet : (asked : Request) (vars : List Var) (before after : Surroundings) (outcome : Outcome) → Does asked vars before after outcome → ((n : ℕ) → outcome ≢ Child n) → after.spawner.ran ≡ before.spawner.ran
+does_quiet (request.Select ask proof) vars before after outcome d ne = ap ran_in d.started
+does_quiet (request.Download ask) vars before after outcome d ne = ap ran_in d.started
+does_quiet (request.Run ask user) vars before after outcome d ne = run_quiet ask vars user before after outcome d ne
+does_quiet (request.Launch file user) vars before after outcome d ne = launch_quiet file vars user before after outcome d ne
+does_quiet (request.Check ask sels proof) vars before after outcome d ne = ap ran_in d.started
+does_quiet (request.Refute ask proof) vars before after outcome d ne = ap ran_in d.started
+does_quiet (request.Manifest algorithm name) vars before after outcome d ne = ap ran_in d.started
+does_quiet (request.Add name files) vars before after outcome d ne = ap ran_in d.started
+does_quiet (request.Verify name) vars before after outcome d ne = ap ran_in d.started
+does_quiet request.Names vars before after outcome d ne = ap ran_in d.started
+does_quiet (request.Demo n) vars before after outcome d ne = ap ran_in d.started
+does_quiet request.Help vars before after outcome d ne = ap ran_in d.started
+does_quiet request.Version vars before after outcome d ne = ap ran_in d.started
+
+-- of all words
+module _ (words : List (List ℕ)) (vars : List Var) (before after : Surroundings) (outcome : Outcome) where
+  works_stay : Works words vars before after outcome → FeedsStay before.feeds after.feeds
+  works_stay (inl done) = does_stay done.asked vars before after outcome done.does
+  works_stay (inr (inl wrong)) = unasked_stay before.feeds after.feeds wrong.nothing.nothing.nothing.feeds
+  works_stay (inr (inr (e, n))) = unasked_stay before.feeds after.feeds n.nothing.nothing.feeds
+
+  works_last : Works words vars before after outcome → Lasts before.shelf after.shelf
+  works_last (inl done) = does_last done.asked vars before after outcome done.does
+  works_last (inr (inl wrong)) = untouched_lasts before.shelf after.shelf wrong.nothing.nothing.nothing.shelf
+  works_last (inr (inr (e, n))) = untouched_lasts before.shelf after.shelf n.nothing.nothing.shelf
+
+  works_web : Works words vars before after outcome → FeedsStay before.web after.web
+  works_web (inl done) = web_stays done.asked vars before after outcome done.does
+  works_web (inr (inl wrong)) = unasked_stay before.web after.web wrong.nothing.nothing.web
+  works_web (inr (inr (e, n))) = unasked_stay before.web after.web n.nothing.web
+
+  works_keep : Works words vars before after outcome → KeepsTrees before.shelf after.shelf
+  works_keep (inl done) = does_keep done.asked vars before after outcome done.does
+  works_keep (inr (inl wrong)) = told_keeps before.shelf after.shelf wrong.nothing.nothing.nothing.shelf.told
+  works_keep (inr (inr (e, n))) = told_keeps before.shelf after.shelf n.nothing.nothing.shelf.told
+
+  works_quiet : Works words vars before after outcome → ((n : ℕ) → outcome ≢ Child n) → after.spawner.ran ≡ before.spawner.ran
+  works_quiet (inl done) ne = does_quiet done.asked vars before after outcome done.does ne
+  works_quiet (inr (inl wrong)) ne = ap ran_in wrong.nothing.started
+  works_quiet (inr (inr (e, n))) ne = ap ran_in n.started
+
+pub works_told : (words : List (List ℕ)) (vars : List Var) (before after : Surroundings) (err_before err_after : Sinking) (work outcome : Outcome) → Works words vars before after work → Tells work err_before err_after outcome
+    → ((n : ℕ) → work ≡ Child n → outcome ≡ Child n) → Runs words vars before after err_before err_after outcome
+works_told words vars before after err_before err_after work outcome done told status = record {
+  work = work;
+  done = done;
+  told = told;
+  feeds = works_stay words vars before after work done;
+  shelf = works_last words vars before after work done;
+  web = works_web words vars before after work done;
+  stored = works_keep words vars before after work done;
+  quiet = λ ne. works_quiet words vars before after work done (λ n e. ne n (status n e));
+}
 
 -- right words stop at their end
 pub right_stops : (words : List (List ℕ)) (r : Request) → Right words r → StopsAt AreRight words (length words)

@@ -2,60 +2,82 @@
 use Rattle.std.specs.Prelude.{◌≡◌, ◌≢◌, ℕ, ◌⊎◌, List}
 use Rattle.zi_text.specs.Front.{StopsAt}
 use Rattle.zi_outside.specs.Views.{Sinking}
+use Rattle.zi_outside.specs.declared.var.Var.{Var}
 use Rattle.zi_words.specs.declared.request.Request.{Request}
 use Rattle.zi_words.specs.declared.request.Request.TheVariants as request
 use Rattle.zi_words.specs.Words.{Right, AreRight}
 use Rattle.zi_outcome.specs.declared.outcome.Outcome.{Outcome}
-use Rattle.zi_outcome.specs.declared.outcome.Outcome.TheVariants.{Usage, Memory}
+use Rattle.zi_outcome.specs.declared.outcome.Outcome.TheVariants.{Usage, Memory, Child}
 use Rattle.zi_app.specs.declared.help.TheConstants.{HELP, VERSION}
 use Rattle.zi_world.specs.Asking.{FeedsStay}
 use Rattle.zi_world.specs.Shelves.{Lasts}
-use Rattle.zi_world.specs.World.{World, NothingDone}
+use Rattle.zi_world.specs.World.{World}
+use Rattle.zi_world.specs.Meets.{Meets, Within}
+use Rattle.zi_world.specs.Surroundings.{Surroundings, NothingDoneAround, Unstarted}
 use Rattle.zi_outcome.specs.Line.{Tells}
+use Rattle.zi_adding.specs.Gains.{KeepsTrees}
+use Rattle.zi_choosing.specs.Check.{ChecksBest}
 use Rattle.zi_choosing.specs.Refute.{ChecksNone}
 use Rattle.zi_choosing.specs.Select.{Selects}
+use Rattle.zi_fetching.specs.Download.{Downloads}
+use Rattle.zi_launching.specs.Run.{RunsProgram}
+use Rattle.zi_launching.specs.Opening.{LaunchesFile}
 use Rattle.zi_app.specs.ManifestCommand.{Manifests}
 use Rattle.zi_app.specs.StoreList.{Lists}
 use Rattle.zi_app.specs.StoreVerify.{VerifiesTree}
 use Rattle.zi_app.specs.Adding.{Adds}
 use Rattle.zi_app.specs.Showing.{ShowsText, ShowsDemo}
 
--- What a request asks for is done, to this outcome.
-abbrev pub Does : Request → World → World → Outcome → Type 0
-Does (request.Select ask proof) before after outcome = Selects ask proof before after outcome
-Does (request.Refute ask proof) before after outcome = ChecksNone ask proof before after outcome
-Does (request.Manifest algorithm name) before after outcome = Manifests algorithm name before after outcome
-Does (request.Add name files) before after outcome = Adds name files before after outcome
-Does (request.Verify name) before after outcome = VerifiesTree name before after outcome
-Does request.Names before after outcome = Lists before after outcome
-Does (request.Demo n) before after outcome = ShowsDemo n before after outcome
-Does request.Help before after outcome = ShowsText HELP.now before after outcome
-Does request.Version before after outcome = ShowsText VERSION.now before after outcome
+-- The work of a command that meets neither web nor spawner.
+abbrev pub Apart : (World → World → Outcome → Type 0) → Surroundings → Surroundings → Outcome → Type 0
+Apart Does before after outcome = Unstarted (λ (b a : Meets) o. Within Does b a o) before after outcome
+
+-- What a request asks for is done over these variables, to this outcome. Of all commands only `download` and `run` meet the web, and only
+-- `run` and `launch` the spawner.
+abbrev pub Does : Request → List Var → Surroundings → Surroundings → Outcome → Type 0
+Does (request.Select ask proof) vars before after outcome = Apart (Selects ask proof) before after outcome
+Does (request.Download ask) vars before after outcome = Unstarted (Downloads ask) before after outcome
+Does (request.Run ask user) vars before after outcome = RunsProgram ask vars user before after outcome
+Does (request.Launch file user) vars before after outcome = LaunchesFile file vars user before after outcome
+Does (request.Check ask sels proof) vars before after outcome = Apart (ChecksBest ask sels proof) before after outcome
+Does (request.Refute ask proof) vars before after outcome = Apart (ChecksNone ask proof) before after outcome
+Does (request.Manifest algorithm name) vars before after outcome = Apart (Manifests algorithm name) before after outcome
+Does (request.Add name files) vars before after outcome = Apart (Adds name files) before after outcome
+Does (request.Verify name) vars before after outcome = Apart (VerifiesTree name) before after outcome
+Does request.Names vars before after outcome = Apart Lists before after outcome
+Does (request.Demo n) vars before after outcome = Apart (ShowsDemo n) before after outcome
+Does request.Help vars before after outcome = Apart (ShowsText HELP.now) before after outcome
+Does request.Version vars before after outcome = Apart (ShowsText VERSION.now) before after outcome
 
 -- The words are right, and what they ask for is done. It never comes to Usage.
-pub record AreDone (words : List (List ℕ)) (before after : World) (outcome : Outcome) : Type 0 where
+pub record AreDone (words : List (List ℕ)) (vars : List Var) (before after : Surroundings) (outcome : Outcome) : Type 0 where
   pub asked : Request
   pub right : Right words asked
-  pub does : Does asked before after outcome
+  pub does : Does asked vars before after outcome
   pub not_usage : (index : ℕ) → outcome ≢ Usage index
 
 -- The words aren't right: this is Usage, at the number of words in their longest front that right words begin with, and nothing is done.
-pub record AreWrong (words : List (List ℕ)) (before after : World) (outcome : Outcome) : Type 0 where
+pub record AreWrong (words : List (List ℕ)) (before after : Surroundings) (outcome : Outcome) : Type 0 where
   pub wrong : ¬ AreRight words
   pub index : ℕ
   pub stops : StopsAt AreRight words index
   pub usage : outcome ≡ Usage index
-  pub nothing : NothingDone before after
+  pub nothing : NothingDoneAround before after
 
 -- The work of any words. Where memory is refused in reading them nothing is done.
-abbrev pub Works : List (List ℕ) → World → World → Outcome → Type 0
-Works words before after outcome =
-    AreDone words before after outcome ⊎ (AreWrong words before after outcome ⊎ ((outcome ≡ Memory) × NothingDone before after))
+abbrev pub Works : List (List ℕ) → List Var → Surroundings → Surroundings → Outcome → Type 0
+Works words vars before after outcome =
+    AreDone words vars before after outcome ⊎ (AreWrong words before after outcome ⊎ ((outcome ≡ Memory) × NothingDoneAround before after))
 
--- The work is done, to an outcome of its own, and the line of that is told on err. Whatever it was, feeds and shelf can be used on.
-pub record Runs (words : List (List ℕ)) (before after : World) (err_before err_after : Sinking) (outcome : Outcome) : Type 0 where
+-- The work is done, to an outcome of its own, and the line of that is told on err. Whatever it was, feeds, shelf and web can be used on;
+-- what stood under a digest stands there, and each tree that has come under one has it; and after every outcome but a program's status
+-- nothing was launched.
+pub record Runs (words : List (List ℕ)) (vars : List Var) (before after : Surroundings) (err_before err_after : Sinking) (outcome : Outcome) : Type 0 where
   pub work : Outcome
-  pub done : Works words before after work
+  pub done : Works words vars before after work
   pub told : Tells work err_before err_after outcome
   pub feeds : FeedsStay before.feeds after.feeds
   pub shelf : Lasts before.shelf after.shelf
+  pub web : FeedsStay before.web after.web
+  pub stored : KeepsTrees before.shelf after.shelf
+  pub quiet : ((status : ℕ) → outcome ≢ Child status) → after.spawner.ran ≡ before.spawner.ran

@@ -11,8 +11,20 @@ zi select [options] ROOT
     Writes the selections document of the program whose interface has the address ROOT:
     a web address, or a path that begins with /. It selects the best implementations that
     fit together. Where none do it writes a proof of that, and the status is 73.
+zi check [options] ROOT SELS PROOF
+    Writes yes where the file SELS is the selections document of the best implementations for
+    ROOT that fit together, and the certificate in the file PROOF proves that.
 zi refute [options] ROOT PROOF
     Writes yes where the file PROOF proves that no implementations fit together for ROOT.
+zi download [options] ROOT
+    Selects as select does, fetches what is selected and isn't there into the store, each tree
+    under its digest, and writes the document.
+zi run [options] ROOT WORDS..
+    Selects and fetches as download does, writes nothing, and starts the program with WORDS,
+    whatever they look like. The status is the program's, or 255 where a signal ended it.
+zi launch FILE WORDS..
+    Starts the program of the selections document in FILE with WORDS. All that is selected has
+    to be there. The status is as of run.
 zi manifest ALGORITHM NAME
     Writes the manifest and the digest of the tree that the store has under NAME.
     ALGORITHM is sha1new, sha256 or sha256new.
@@ -34,7 +46,7 @@ zi --help
 zi --version
     Writes the name and the version.
 
-Options of select and refute, before ROOT:
+Options of select, check, refute, download and run, before ROOT:
     --command NAME              The command of the program that is wanted (default: run).
     --no-command                Needs no command of the program.
     --version RANGE             Versions of ROOT, as 1.2..!2 | 3 (default: every version).
@@ -62,6 +74,8 @@ Options of select and refute, before ROOT:
 Feeds of web addresses are files in the folder that ZI_FEEDS names (default: feeds), each
 named by its address with every byte but letters, digits, -, . and _ percent-encoded.
 Trees are stored in the folder that ZI_STORE names (default: store), each under its digest.
+ZI_FETCH names the helper that fetches: a program that is run with an address, and writes what is
+there, or ends with status 44 where nothing is.
 Where ZI_LOG names a file, the path and the system's reason of each failure are added to it,
 or written to standard error where it is -.
 
@@ -79,9 +93,15 @@ Status, and the line on standard error behind \"zi: \":
     73  no solution                   no implementations fit together
     74  search spent after N lemmas   a greater --search may find an answer
     75  no file NAME
+    76  bad selections: fault N       by the tables below
     77  bad proof at line N           lines count from 1
     78  rejected                      the proof doesn't prove it
-    83  NAME is already there         two files have one last part
+    79  cannot launch: fault N        by the tables below
+    80  cannot fetch ADDRESS          the helper failed, or there is none
+    81  nothing at ADDRESS
+    82  ADDRESS has N bytes, not N    the second is what its feed says
+    83  NAME is already there         two files go to one place
+    84  no PATH                       a step of a retrieval is about nothing
     85  expected DIGEST, found DIGEST
     86  NAME is not stored
     87  DIGEST is damaged: DIGEST     the second is the digest of what is there now
@@ -89,6 +109,7 @@ Status, and the line on standard error behind \"zi: \":
     89  tree too large: WHAT past N   WHAT is size, nodes or depth
     90  store fault at NAME
     91  N temporary names taken
+    92  cannot start the program
     93  cannot write
     94  out of memory
     96  cannot write element N
@@ -107,6 +128,17 @@ Kinds of faults of feeds:
     5  arch                          12  address
     6  digest                        13  an id twice
     7  binding, command, dependency
+
+Faults of selections:
+    1  no document                    4  two selections for one interface
+    2  the root isn't selections'     5  a selection, by the kinds of faults of feeds
+    3  nothing selected for the root  6  nothing selected for what one needs
+
+Faults of a launch:
+    1  nothing selected for a runner  5  a $ that stands for nothing
+    2  no such command                6  an element that isn't supported
+    3  no path to run                 7  a path that isn't relative, or is empty
+    4  commands that lead in a ring   8  a selection without a path or a digest
 ";
 
 /// The answer to `--version`.

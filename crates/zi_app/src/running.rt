@@ -1,6 +1,7 @@
 //! The work of any words, and the line of how it ended.
-ghost use Rattle.std.specs.Prelude.{◌≡◌};
+ghost use Rattle.std.specs.Prelude.{◌≡◌, ℕ};
 ghost use Rattle.zi_app.specs.Answers.{Does, Works, Runs};
+ghost use Rattle.zi_outcome.specs.declared.outcome.Outcome.TheVariants.{Child};
 ghost use Rattle.zi_outcome.specs.Line.{Tells};
 ghost use Rattle.zi_app.specs.Words.{IsInForm, Stops, RefusesWords, words_outcome};
 
@@ -10,9 +11,11 @@ use crate::help::{HELP, VERSION};
 use crate::manifests::manifest;
 use crate::names::list;
 use std::alloc::Global;
-use zi_choosing::{demonstrate, refute, select};
+use zi_choosing::{check, demonstrate, refute, select};
+use zi_fetching::download;
+use zi_launching::launch;
 use zi_outcome::{Outcome, put_text, tell};
-use zi_outside::{Feeds, Sink, SinkFault, Vars};
+use zi_outside::{Feeds, Sink, SinkFault, Spawner, Vars, Web};
 use zi_shelf::Shelf;
 use zi_text::Text;
 use zi_words::{Request, WordsFault};
@@ -21,21 +24,26 @@ use zi_words::{Request, WordsFault};
 ///
 /// `select` finds out which digests are stored, loads the universe that its words ask for, and writes the document of the best
 /// choice, a certificate of it, or a proof that there is none; `refute` loads it too, and says whether a proof shows that there
-/// is none; `manifest`, `store verify` and `store list` read the store and write what they say of it, and `store add` puts
-/// files there as a tree; `demo` counts what the best choice of a demonstration selects, whose feeds it makes itself; `--help`
-/// and `--version` write their texts.
-pub fn run<F: Feeds, K: Shelf, O: Sink, E: Sink>(
+/// is none, and `check` whether selections are the best choice; `download` chooses as `select` does, fetches from the web what is
+/// selected and isn't there, and writes the document; `run` fetches as `download` does and starts the program, and `launch` starts
+/// that of a document of selections, each once every stored tree in it was read and found to be what its name says;
+/// `manifest`, `store verify` and `store list` read the store and write what they say of it, and `store add` puts files there as
+/// a tree; `demo` counts what the best choice of a demonstration selects, whose feeds it makes itself; `--help` and `--version`
+/// write their texts.
+pub fn run<F: Feeds, K: Shelf, W: Web, P: Spawner, O: Sink, E: Sink>(
     alloc: Global,
     words: &[Text],
-    _vars: &Vars,
+    vars: &Vars,
     feeds: &mut F,
     shelf: &mut K,
+    web: &mut W,
+    spawner: &mut P,
     out: &mut O,
     err: &mut E,
 ) -> Outcome
-    ensures { Runs words.now (record { feeds = F.seen feeds.old; shelf = K.seen shelf.old; out = O.seen out.old }) (record { feeds = F.seen feeds.new; shelf = K.seen shelf.new; out = O.seen out.new }) (E.seen err.old) (E.seen err.new) result }
+    ensures { Runs words.now vars.now (record { feeds = F.seen feeds.old; shelf = K.seen shelf.old; web = W.seen web.old; spawner = P.seen spawner.old; out = O.seen out.old }) (record { feeds = F.seen feeds.new; shelf = K.seen shelf.new; web = W.seen web.new; spawner = P.seen spawner.new; out = O.seen out.new }) (E.seen err.old) (E.seen err.new) result }
 {
-    let outcome = work(alloc, words, feeds, shelf, out);
+    let outcome = work(alloc, words, vars, feeds, shelf, web, spawner, out);
     told(outcome, err)
 }
 
@@ -51,17 +59,20 @@ pub fn refuse<E: Sink>(alloc: Global, words: &[Text], err: &mut E) -> Outcome
 
 // The work of any words.
 #[tactic(auto, using(crate::proofs::RunLemmas::in_form))]
-fn work<F: Feeds, K: Shelf, O: Sink>(
+fn work<F: Feeds, K: Shelf, W: Web, P: Spawner, O: Sink>(
     alloc: Global,
     words: &[Text],
+    vars: &Vars,
     feeds: &mut F,
     shelf: &mut K,
+    web: &mut W,
+    spawner: &mut P,
     out: &mut O,
 ) -> Outcome
-    ensures { Works words.now (record { feeds = F.seen feeds.old; shelf = K.seen shelf.old; out = O.seen out.old }) (record { feeds = F.seen feeds.new; shelf = K.seen shelf.new; out = O.seen out.new }) result }
+    ensures { Works words.now vars.now (record { feeds = F.seen feeds.old; shelf = K.seen shelf.old; web = W.seen web.old; spawner = P.seen spawner.old; out = O.seen out.old }) (record { feeds = F.seen feeds.new; shelf = K.seen shelf.new; web = W.seen web.new; spawner = P.seen spawner.new; out = O.seen out.new }) result }
 {
     match Request::read(alloc, words) {
-        Ok(request) => answer(alloc, request, feeds, shelf, out),
+        Ok(request) => answer(alloc, request, vars, feeds, shelf, web, spawner, out),
         Err(fault) => unread(fault),
     }
 }
@@ -78,19 +89,31 @@ fn unread(fault: WordsFault) -> Outcome
 
 // The work of a request.
 #[tactic(auto, using(crate::proofs::RunLemmas::answering))]
-fn answer<F: Feeds, K: Shelf, O: Sink>(
+fn answer<F: Feeds, K: Shelf, W: Web, P: Spawner, O: Sink>(
     alloc: Global,
     request: Request,
+    vars: &Vars,
     feeds: &mut F,
     shelf: &mut K,
+    web: &mut W,
+    spawner: &mut P,
     out: &mut O,
 ) -> Outcome
     requires { IsInForm request }
-    ensures { Does request (record { feeds = F.seen feeds.old; shelf = K.seen shelf.old; out = O.seen out.old }) (record { feeds = F.seen feeds.new; shelf = K.seen shelf.new; out = O.seen out.new }) result }
+    ensures { Does request vars.now (record { feeds = F.seen feeds.old; shelf = K.seen shelf.old; web = W.seen web.old; spawner = P.seen spawner.old; out = O.seen out.old }) (record { feeds = F.seen feeds.new; shelf = K.seen shelf.new; web = W.seen web.new; spawner = P.seen spawner.new; out = O.seen out.new }) result }
 {
     match request {
         Request::Select { ask, proof } => select(alloc, ask, proof, feeds, shelf, out),
         Request::Refute { ask, proof } => refute(alloc, ask, proof, feeds, shelf, out),
+        Request::Download { ask } => download(alloc, ask, feeds, shelf, web, out),
+        Request::Run { ask, user } => {
+            let user = user.as_slice();
+            zi_launching::run(alloc, ask, user, vars, feeds, shelf, web, spawner)
+        }
+        Request::Launch { file, user } => {
+            launch(alloc, file, user.as_slice(), vars, feeds, shelf, spawner)
+        }
+        Request::Check { ask, sels, proof } => check(alloc, ask, sels, proof, feeds, shelf, out),
         Request::Manifest { algorithm, name } => manifest(alloc, algorithm, name, shelf, out),
         Request::Add { name, files } => add(alloc, name, files, feeds, shelf, out),
         Request::Verify { name } => verify_tree(alloc, name, shelf, out),
@@ -106,19 +129,22 @@ fn answer<F: Feeds, K: Shelf, O: Sink>(
 fn stopped(alloc: Global, words: &[Text]) -> Outcome
     ensures { Stops words.now result }
 {
-    match Request::read(alloc, words) {
-        Ok(_) => Outcome::Usage {
+    let Err(fault) = Request::read(alloc, words) else {
+        return Outcome::Usage {
             index: words.len() as u64,
-        },
-        Err(WordsFault::Usage { index }) => Outcome::Usage { index },
-        Err(WordsFault::Memory) => Outcome::Memory,
-    }
+        };
+    };
+    unread(fault)
 }
 
-// Tells the line of how the work ended, and answers that, or Memory where telling it lacks memory.
+// Tells the line of how the work ended, and answers that, or Memory where telling it lacks memory. A program's status has no line.
 fn told<E: Sink>(work: Outcome, err: &mut E) -> Outcome
-    ensures { Tells work (E.seen err.old) (E.seen err.new) result }
+    ensures tells { Tells work (E.seen err.old) (E.seen err.new) result }
+    ensures status { (n : ℕ) → work ≡ Child n → result ≡ Child n }
 {
+    if let Outcome::Child { .. } = &work {
+        return work;
+    }
     match tell(&work, err) {
         Ok(()) => work,
         Err(SinkFault::Failed) => work,

@@ -19,7 +19,7 @@ use Rattle.zi_proof.specs.declared.proof.Certificate.{Certificate}
 use Rattle.zi_certificate.specs.Certificates.{Excludes, Refutes}
 use Rattle.zi_solve.specs.Answers.{IsSpent}
 use Rattle.zi_outcome.specs.declared.outcome.Outcome.{Outcome}
-use Rattle.zi_outcome.specs.declared.outcome.Outcome.TheVariants.{Done, Usage, FeedRead, NoRootFeed, BadFeed, FeedTooLong, TooManyFeeds, TooManyInterfaces, TooManyCandidates, TooLarge, NoSolution, Spent, NoFile, BadProof, Rejected, Overlap, Mismatch, MissingTree, DamagedTree, BadName, TreeTooLarge, StoreFault, Crowded, Unwritable, SinkFault, Memory}
+use Rattle.zi_outcome.specs.declared.outcome.Outcome.TheVariants.{Done, Usage, FeedRead, NoRootFeed, BadFeed, FeedTooLong, TooManyFeeds, TooManyInterfaces, TooManyCandidates, TooLarge, NoSolution, Spent, NoFile, BadSels, BadProof, Rejected, Plan, FetchRead, NoRemote, WrongSize, Overlap, NoPath, Mismatch, MissingTree, DamagedTree, BadName, TreeTooLarge, StoreFault, Crowded, Unwritable, SpawnFault, SinkFault, Memory, Child}
 use Rattle.zi_outcome.specs.Refused.{outcome_of}
 use Rattle.zi_outcome.specs.Writing.{Prints}
 use Rattle.zi_choosing.specs.Wanted.{requirement_of}
@@ -96,11 +96,19 @@ module _ (before after : Lent) where
   uncounted_as u (NoFile absent) loaded why w = absurd why
   uncounted_as u (BadProof line) loaded why w = absurd why
   uncounted_as u Rejected loaded why w = absurd why
+  uncounted_as u (FetchRead href) loaded why w = absurd why
+  uncounted_as u (NoRemote href) loaded why w = absurd why
+  uncounted_as u (WrongSize href said got) loaded why w = absurd why
   uncounted_as u (Overlap path) loaded why w = absurd why
+  uncounted_as u (NoPath path) loaded why w = absurd why
   uncounted_as u (Mismatch wanted found) loaded why w = absurd why
   uncounted_as u (MissingTree missing) loaded why w = absurd why
   uncounted_as u (DamagedTree damaged found) loaded why w = absurd why
   uncounted_as u (BadName path) loaded why w = absurd why
+  uncounted_as u (Plan fault) loaded why w = absurd why
+  uncounted_as u (BadSels fault) loaded why w = absurd why
+  uncounted_as u SpawnFault loaded why w = absurd why
+  uncounted_as u (Child status) loaded why w = absurd why
   uncounted_as u (TreeTooLarge what limit) loaded why w = absurd why
   uncounted_as u (StoreFault top) loaded why w = absurd why
   uncounted_as u (Crowded tried) loaded why w = absurd why

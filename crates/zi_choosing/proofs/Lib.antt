@@ -2,3 +2,8 @@ pub mod LoadedLemmas
 pub mod RefuteLemmas
 pub mod SelectLemmas
 pub mod DemoLemmas
+pub mod FindLemmas
+pub mod SameLaws
+pub mod OwnLaws
+pub mod NamedLemmas
+pub mod CheckLemmas

@@ -14,7 +14,7 @@ use Rattle.zi_build.specs.Answers.{FaultMeans}
 use Rattle.zi_proof.specs.declared.proof.Certificate.{Certificate}
 use Rattle.zi_certificate.specs.Certificates.{Refutes}
 use Rattle.zi_outcome.specs.declared.outcome.Outcome.{Outcome}
-use Rattle.zi_outcome.specs.declared.outcome.Outcome.TheVariants.{Done, Usage, FeedRead, NoRootFeed, BadFeed, FeedTooLong, TooManyFeeds, TooManyInterfaces, TooManyCandidates, TooLarge, NoSolution, Spent, NoFile, BadProof, Rejected, Overlap, Mismatch, MissingTree, DamagedTree, BadName, TreeTooLarge, StoreFault, Crowded, Unwritable, SinkFault, Memory}
+use Rattle.zi_outcome.specs.declared.outcome.Outcome.TheVariants.{Done, Usage, FeedRead, NoRootFeed, BadFeed, FeedTooLong, TooManyFeeds, TooManyInterfaces, TooManyCandidates, TooLarge, NoSolution, Spent, NoFile, BadSels, BadProof, Rejected, Plan, FetchRead, NoRemote, WrongSize, Overlap, NoPath, Mismatch, MissingTree, DamagedTree, BadName, TreeTooLarge, StoreFault, Crowded, Unwritable, SpawnFault, SinkFault, Memory, Child}
 use Rattle.zi_outcome.specs.Refused.{outcome_of}
 use Rattle.zi_outcome.specs.Writing.{Prints}
 use Rattle.zi_world.specs.Asking.{FeedsStay}
@@ -73,11 +73,19 @@ module _ (ask : Ask) (name : List ℕ) (stored : List DigestName) (before after 
   none_as c (NoFile absent) reads why w = absurd why
   none_as c (BadProof line) reads why w = absurd why
   none_as c Rejected reads why w = (record { there = there; certificate = c; reads = reads; is = why }, w)
+  none_as c (FetchRead href) reads why w = absurd why
+  none_as c (NoRemote href) reads why w = absurd why
+  none_as c (WrongSize href said got) reads why w = absurd why
   none_as c (Overlap path) reads why w = absurd why
+  none_as c (NoPath path) reads why w = absurd why
   none_as c (Mismatch wanted found) reads why w = absurd why
   none_as c (MissingTree missing) reads why w = absurd why
   none_as c (DamagedTree damaged found) reads why w = absurd why
   none_as c (BadName path) reads why w = absurd why
+  none_as c (Plan fault) reads why w = absurd why
+  none_as c (BadSels fault) reads why w = absurd why
+  none_as c SpawnFault reads why w = absurd why
+  none_as c (Child status) reads why w = absurd why
   none_as c (TreeTooLarge what limit) reads why w = absurd why
   none_as c (StoreFault top) reads why w = absurd why
   none_as c (Crowded tried) reads why w = absurd why
@@ -102,11 +110,19 @@ module _ (ask : Ask) (name : List ℕ) (stored : List DigestName) (before after 
   bad_as bytes (NoFile absent) got why w = absurd why
   bad_as bytes (BadProof line) got why w = ((there, record { bytes = bytes; got = got; bad = why }), w)
   bad_as bytes Rejected got why w = absurd why
+  bad_as bytes (FetchRead href) got why w = absurd why
+  bad_as bytes (NoRemote href) got why w = absurd why
+  bad_as bytes (WrongSize href said size) got why w = absurd why
   bad_as bytes (Overlap path) got why w = absurd why
+  bad_as bytes (NoPath path) got why w = absurd why
   bad_as bytes (Mismatch wanted found) got why w = absurd why
   bad_as bytes (MissingTree missing) got why w = absurd why
   bad_as bytes (DamagedTree damaged found) got why w = absurd why
   bad_as bytes (BadName path) got why w = absurd why
+  bad_as bytes (Plan fault) got why w = absurd why
+  bad_as bytes (BadSels fault) got why w = absurd why
+  bad_as bytes SpawnFault got why w = absurd why
+  bad_as bytes (Child status) got why w = absurd why
   bad_as bytes (TreeTooLarge what limit) got why w = absurd why
   bad_as bytes (StoreFault top) got why w = absurd why
   bad_as bytes (Crowded tried) got why w = absurd why
@@ -130,11 +146,19 @@ module _ (ask : Ask) (name : List ℕ) (stored : List DigestName) (before after 
   no_file_as (NoFile absent) why w = (why.0, (there, why.1), w)
   no_file_as (BadProof line) why w = absurd why
   no_file_as Rejected why w = absurd why
+  no_file_as (FetchRead href) why w = absurd why
+  no_file_as (NoRemote href) why w = absurd why
+  no_file_as (WrongSize href said got) why w = absurd why
   no_file_as (Overlap path) why w = absurd why
+  no_file_as (NoPath path) why w = absurd why
   no_file_as (Mismatch wanted found) why w = absurd why
   no_file_as (MissingTree missing) why w = absurd why
   no_file_as (DamagedTree damaged found) why w = absurd why
   no_file_as (BadName path) why w = absurd why
+  no_file_as (Plan fault) why w = absurd why
+  no_file_as (BadSels fault) why w = absurd why
+  no_file_as SpawnFault why w = absurd why
+  no_file_as (Child status) why w = absurd why
   no_file_as (TreeTooLarge what limit) why w = absurd why
   no_file_as (StoreFault top) why w = absurd why
   no_file_as (Crowded tried) why w = absurd why
@@ -192,11 +216,19 @@ no_file_stays name before after (Spent proof count) why = absurd why
 no_file_stays name before after (NoFile absent) why = asks_stay _ before after why.1.0.asked
 no_file_stays name before after (BadProof line) why = absurd why
 no_file_stays name before after Rejected why = absurd why
+no_file_stays name before after (FetchRead href) why = absurd why
+no_file_stays name before after (NoRemote href) why = absurd why
+no_file_stays name before after (WrongSize href said got) why = absurd why
 no_file_stays name before after (Overlap path) why = absurd why
+no_file_stays name before after (NoPath path) why = absurd why
 no_file_stays name before after (Mismatch wanted found) why = absurd why
 no_file_stays name before after (MissingTree missing) why = absurd why
 no_file_stays name before after (DamagedTree damaged found) why = absurd why
 no_file_stays name before after (BadName path) why = absurd why
+no_file_stays name before after (Plan fault) why = absurd why
+no_file_stays name before after (BadSels fault) why = absurd why
+no_file_stays name before after SpawnFault why = absurd why
+no_file_stays name before after (Child status) why = absurd why
 no_file_stays name before after (TreeTooLarge what limit) why = absurd why
 no_file_stays name before after (StoreFault top) why = absurd why
 no_file_stays name before after (Crowded tried) why = absurd why

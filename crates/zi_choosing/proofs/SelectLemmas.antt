@@ -20,7 +20,7 @@ use Rattle.zi_sels.specs.declared.types.Selections.{Selections}
 use Rattle.zi_sels.specs.Chosen.{AreSelected}
 use Rattle.zi_sels.specs.Written.{document}
 use Rattle.zi_outcome.specs.declared.outcome.Outcome.{Outcome}
-use Rattle.zi_outcome.specs.declared.outcome.Outcome.TheVariants.{Done, Usage, FeedRead, NoRootFeed, BadFeed, FeedTooLong, TooManyFeeds, TooManyInterfaces, TooManyCandidates, TooLarge, NoSolution, Spent, NoFile, BadProof, Rejected, Overlap, Mismatch, MissingTree, DamagedTree, BadName, TreeTooLarge, StoreFault, Crowded, Unwritable, SinkFault, Memory}
+use Rattle.zi_outcome.specs.declared.outcome.Outcome.TheVariants.{Done, Usage, FeedRead, NoRootFeed, BadFeed, FeedTooLong, TooManyFeeds, TooManyInterfaces, TooManyCandidates, TooLarge, NoSolution, Spent, NoFile, BadSels, BadProof, Rejected, Plan, FetchRead, NoRemote, WrongSize, Overlap, NoPath, Mismatch, MissingTree, DamagedTree, BadName, TreeTooLarge, StoreFault, Crowded, Unwritable, SpawnFault, SinkFault, Memory, Child}
 use Rattle.zi_outcome.specs.Refused.{outcome_of}
 use Rattle.zi_outcome.specs.Writing.{Prints}
 use Rattle.zi_outcome.proofs.WritingLemmas.{nothing_put}
@@ -122,11 +122,19 @@ module _ (ask : Ask) (proof : Bool) (stored : List DigestName) (before after : L
   unshown_as u choice (NoFile absent) loaded few best why w = absurd why
   unshown_as u choice (BadProof line) loaded few best why w = absurd why
   unshown_as u choice Rejected loaded few best why w = absurd why
+  unshown_as u choice (FetchRead href) loaded few best why w = absurd why
+  unshown_as u choice (NoRemote href) loaded few best why w = absurd why
+  unshown_as u choice (WrongSize href said got) loaded few best why w = absurd why
   unshown_as u choice (Overlap path) loaded few best why w = absurd why
+  unshown_as u choice (NoPath path) loaded few best why w = absurd why
   unshown_as u choice (Mismatch wanted found) loaded few best why w = absurd why
   unshown_as u choice (MissingTree missing) loaded few best why w = absurd why
   unshown_as u choice (DamagedTree damaged found) loaded few best why w = absurd why
   unshown_as u choice (BadName path) loaded few best why w = absurd why
+  unshown_as u choice (Plan fault) loaded few best why w = absurd why
+  unshown_as u choice (BadSels fault) loaded few best why w = absurd why
+  unshown_as u choice SpawnFault loaded few best why w = absurd why
+  unshown_as u choice (Child status) loaded few best why w = absurd why
   unshown_as u choice (TreeTooLarge what limit) loaded few best why w = absurd why
   unshown_as u choice (StoreFault top) loaded few best why w = absurd why
   unshown_as u choice (Crowded tried) loaded few best why w = absurd why
@@ -172,11 +180,19 @@ module _ (ask : Ask) (proof : Bool) (stored : List DigestName) (before after : L
   nothing_as u (NoFile absent) loaded why w = absurd why
   nothing_as u (BadProof line) loaded why w = absurd why
   nothing_as u Rejected loaded why w = absurd why
+  nothing_as u (FetchRead href) loaded why w = absurd why
+  nothing_as u (NoRemote href) loaded why w = absurd why
+  nothing_as u (WrongSize href said got) loaded why w = absurd why
   nothing_as u (Overlap path) loaded why w = absurd why
+  nothing_as u (NoPath path) loaded why w = absurd why
   nothing_as u (Mismatch wanted found) loaded why w = absurd why
   nothing_as u (MissingTree missing) loaded why w = absurd why
   nothing_as u (DamagedTree damaged found) loaded why w = absurd why
   nothing_as u (BadName path) loaded why w = absurd why
+  nothing_as u (Plan fault) loaded why w = absurd why
+  nothing_as u (BadSels fault) loaded why w = absurd why
+  nothing_as u SpawnFault loaded why w = absurd why
+  nothing_as u (Child status) loaded why w = absurd why
   nothing_as u (TreeTooLarge what limit) loaded why w = absurd why
   nothing_as u (StoreFault top) loaded why w = absurd why
   nothing_as u (Crowded tried) loaded why w = absurd why

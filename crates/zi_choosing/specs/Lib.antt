@@ -3,6 +3,11 @@ pub mod Loaded
 pub mod Refute
 pub mod RefuteParts
 pub mod Select
+pub mod Finding
 pub mod SelectParts
 pub mod Demo
 pub mod DemoParts
+pub mod Named
+pub mod NamedParts
+pub mod Check
+pub mod CheckParts

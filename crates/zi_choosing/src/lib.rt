@@ -1,15 +1,23 @@
-//! The commands that load a universe: `select` finds the best choice from it, or a proof that there is none, `refute` says
-//! whether a proof shows that there is none, and `demo` counts what the best choice of a demonstration selects.
+//! The commands that load a universe: `select` finds the best choice from it, or a proof that there is none, `check` says whether
+//! selections are those of the best choice, `refute` whether a proof shows that there is none, and `demo` counts what the best
+//! choice of a demonstration selects.
+//! `find_best` is the beginning of the commands that do more with the best choice than to write it.
 //! Each command is one function over the objects outside, whose clause says what each outcome means and what became of them.
 #![tactic(auto)]
 
+mod checking;
 mod counting;
 mod demonstrating;
+mod finding;
 mod formula;
+mod named;
+mod own;
 mod refuting;
 mod selecting;
 mod wanted;
 
+pub use checking::check;
 pub use demonstrating::demonstrate;
+pub use finding::{Chosen, find_best};
 pub use refuting::refute;
-pub use selecting::select;
+pub use selecting::{put_document, select};

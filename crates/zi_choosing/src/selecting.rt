@@ -26,9 +26,9 @@ use zi_text::{List, Memory, Text};
 use zi_universe::{Requirement, Universe, load};
 use zi_words::Ask;
 
-// Writes the document of what is selected.
+/// Writes the document of what is selected. `Unwritable` comes exactly where an element of it can't be written.
 #[tactic(auto, using(crate::proofs::SelectLemmas::printing))]
-fn put_document<O: Sink>(alloc: Global, sels: &Selections, out: &mut O) -> Outcome
+pub fn put_document<O: Sink>(alloc: Global, sels: &Selections, out: &mut O) -> Outcome
     ensures { PrintsDocument sels.now (O.seen out.old) (O.seen out.new) result }
 {
     let mut text = Vec::new(alloc);

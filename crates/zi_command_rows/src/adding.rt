@@ -1,10 +1,10 @@
 //! What `store add` answers over files and a store in memory.
 
+use crate::calling::outcome_of;
 use std::alloc::Global;
 use std::process::Abort;
 use std::test::Fail;
-use zi_app::run;
-use zi_outside::{Feeds, FeedsFault, Got, MemoryFeeds, MemorySink, Vars};
+use zi_outside::{Feeds, FeedsFault, Got, MemoryFeeds, MemorySink, MemorySpawner, MemoryWeb, Vars};
 use zi_shelf::MemoryShelf;
 use zi_text::{List, Text};
 use zi_tree::{RelPath, Tree, TreeNode};
@@ -60,12 +60,16 @@ fn added<F: Feeds>(
     let mut out = MemorySink::new(alloc);
     out.fail_at(fail_out)?;
     let mut err = MemorySink::new(alloc);
-    let outcome = run(
+    let mut web = MemoryWeb::new(alloc);
+    let mut spawner = MemorySpawner::new(alloc);
+    let outcome = outcome_of(
         alloc,
         words.as_slice(),
         &vars,
         feeds,
         shelf,
+        &mut web,
+        &mut spawner,
         &mut out,
         &mut err,
     );

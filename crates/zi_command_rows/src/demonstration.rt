@@ -1,9 +1,9 @@
 //! `demo`, and `select` over the feeds of the demonstration.
+use crate::calling::outcome_of;
 use std::alloc::Global;
 use std::test::Fail;
-use zi_app::run;
 use zi_demo::universe_of;
-use zi_outside::{MemorySink, SureFeeds, Vars};
+use zi_outside::{MemorySink, MemorySpawner, MemoryWeb, SureFeeds, Vars};
 use zi_shelf::MemoryShelf;
 use zi_text::{List, Text};
 
@@ -21,12 +21,16 @@ fn ended(
     let mut shelf = MemoryShelf::new(alloc);
     let mut out = MemorySink::new(alloc);
     let mut err = MemorySink::new(alloc);
-    let outcome = run(
+    let mut web = MemoryWeb::new(alloc);
+    let mut spawner = MemorySpawner::new(alloc);
+    let outcome = outcome_of(
         alloc,
         words.as_slice(),
         &vars,
         feeds,
         &mut shelf,
+        &mut web,
+        &mut spawner,
         &mut out,
         &mut err,
     );

@@ -5,7 +5,15 @@
 #[cfg(test)]
 mod adding;
 #[cfg(test)]
+mod calling;
+#[cfg(test)]
+mod checks;
+#[cfg(test)]
 mod demonstration;
+#[cfg(test)]
+mod downloads;
+#[cfg(test)]
+mod launches;
 #[cfg(test)]
 mod running;
 #[cfg(test)]

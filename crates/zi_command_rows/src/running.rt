@@ -1,9 +1,10 @@
 //! What the program answers over feeds, a store and streams in memory: what it writes, its status and its line.
+use crate::calling::outcome_of;
 use std::alloc::Global;
 use std::process::Abort;
 use std::test::Fail;
-use zi_app::{HELP, VERSION, feed_file, refuse, run};
-use zi_outside::{MemoryFeeds, MemorySink, Vars};
+use zi_app::{HELP, VERSION, feed_file, refuse};
+use zi_outside::{MemoryFeeds, MemorySink, MemorySpawner, MemoryWeb, Vars};
 use zi_shelf::MemoryShelf;
 use zi_text::{Bytes, List, Text};
 use zi_tree::{RelPath, Tree, TreeNode};
@@ -48,12 +49,16 @@ fn called_over(
     let mut out = MemorySink::new(alloc);
     out.fail_at(fail_out)?;
     let mut err = MemorySink::new(alloc);
-    let outcome = run(
+    let mut web = MemoryWeb::new(alloc);
+    let mut spawner = MemorySpawner::new(alloc);
+    let outcome = outcome_of(
         alloc,
         words.as_slice(),
         &vars,
         feeds,
         shelf,
+        &mut web,
+        &mut spawner,
         &mut out,
         &mut err,
     );

@@ -101,6 +101,24 @@ fn shown(alloc: Global, request: &Request) -> Result<String, Fail> {
             let all = asked(alloc, ask)?;
             Ok(format!(in alloc; "refute {} {}", proof.as_str(), all.as_str())?)
         }
+        Request::Download { ask } => {
+            let all = asked(alloc, ask)?;
+            Ok(format!(in alloc; "download {}", all.as_str())?)
+        }
+        Request::Run { ask, user } => {
+            let all = asked(alloc, ask)?;
+            let user = joined(alloc, user.as_slice())?;
+            Ok(format!(in alloc; "run [{user}] {}", all.as_str())?)
+        }
+        Request::Launch { file, user } => {
+            let user = joined(alloc, user.as_slice())?;
+            Ok(format!(in alloc; "launch {} [{user}]", file.as_str())?)
+        }
+        Request::Check { ask, sels, proof } => {
+            let all = asked(alloc, ask)?;
+            let both = format!(in alloc; "{} {}", sels.as_str(), proof.as_str())?;
+            Ok(format!(in alloc; "check {both} {}", all.as_str())?)
+        }
         Request::Manifest { algorithm, name } => {
             Ok(format!(in alloc; "manifest {algorithm:?} {}", name.as_str())?)
         }
@@ -176,6 +194,24 @@ refute /a b c -> 3
 refute -- /a -> 3
 refute --proof /a b -> 1
 refute --os -> 2
+download -> 1
+download a -> 1
+download /a b -> 2
+download -- /a b -> 3
+download --proof /a -> 1
+Download /a -> 0
+run -> 1
+run a b -> 1
+run -- -> 2
+run --proof /a -> 1
+run --os x --os -> 3
+check -> 1
+check /a -> 2
+check /a b -> 3
+check a b c -> 1
+check /a b c d -> 4
+check -- /a b -> 4
+check --proof /a b c -> 1
 select --no-command --os=x /a -> 2
 select --versions 1 --no-command /a -> 1";
 
@@ -228,6 +264,13 @@ const ASKS: &str = "\
 select /a -> /a run [] Linux x86_64 [en] Stable Full [] [] 100000
 select --command --proof --proof --search 04000000000 /a -> /a --proof [] Linux x86_64 [en] Stable Full [] [] 4000000000 proof
 refute --no-command --search 0 -- /a --proof -> refute --proof /a - [] Linux x86_64 [en] Stable Full [] [] 0
+download -- /a -> download /a run [] Linux x86_64 [en] Stable Full [] [] 100000
+download --no-command --search 0 --os --cpu /a -> download /a - [] --cpu x86_64 [en] Stable Full [] [] 0
+run /a -> run [] /a run [] Linux x86_64 [en] Stable Full [] [] 100000
+run --os x /a --os _ -- --proof b -> run [--os,,--,--proof,b] /a run [] x x86_64 [en] Stable Full [] [] 100000
+run -- /a -- /b -> run [--,/b] /a run [] Linux x86_64 [en] Stable Full [] [] 100000
+check /a _ -- -> check  -- /a run [] Linux x86_64 [en] Stable Full [] [] 100000
+check --no-command -- /a --proof b -> check --proof b /a - [] Linux x86_64 [en] Stable Full [] [] 100000
 refute /a _ -> refute  /a run [] Linux x86_64 [en] Stable Full [] [] 100000
 select --no-command /a -> /a - [] Linux x86_64 [en] Stable Full [] [] 100000
 select --no-command -- http:// -> http:// - [] Linux x86_64 [en] Stable Full [] [] 100000
@@ -246,6 +289,12 @@ fn what_is_asked_stands(rt: HostRuntime) -> Result<(), Fail> {
 
 const COMMANDS: &str = "\
 Refute /a b -> 0
+launch -> 1
+Launch f -> 0
+launch f -> launch f []
+launch _ _ -> launch  []
+launch -- /a --os -- b -> launch -- [/a,--os,--,b]
+launch --no-command /a -> launch --no-command [/a]
 --help -> help
 --help --help -> 1
 --version -> version

@@ -99,3 +99,12 @@ names_line name what found = simp append_assoc
 pub told_names : (old : Sinking) (name what found : List ℕ) (r : Result (Unit {0}) SinkFault) (new : Sinking)
     → PutsAll old ((codes "zi: " ++ name) ++ (what ++ found ++ codes "\n")) r new → PutsAll old (codes "zi: " ++ (name ++ what ++ found) ++ codes "\n") r new
 told_names old name what found r new p = subst (λ t. PutsAll old t r new) (sym (names_line name what found)) p
+
+-- the line of bytes that aren't as many as was said, in its pieces
+sizes_line : (href got said : List ℕ) → codes "zi: " ++ (href ++ codes " has " ++ got ++ codes " bytes, not " ++ said) ++ codes "\n" ≡ (codes "zi: " ++ href) ++ ((codes " has " ++ got) ++ (codes " bytes, not " ++ said ++ codes "\n"))
+sizes_line href got said = simp append_assoc
+
+pub told_sizes : (old : Sinking) (href got said : List ℕ) (r : Result (Unit {0}) SinkFault) (new : Sinking)
+    → PutsAll old ((codes "zi: " ++ href) ++ ((codes " has " ++ got) ++ (codes " bytes, not " ++ said ++ codes "\n"))) r new
+    → PutsAll old (codes "zi: " ++ (href ++ codes " has " ++ got ++ codes " bytes, not " ++ said) ++ codes "\n") r new
+told_sizes old href got said r new p = subst (λ t. PutsAll old t r new) (sym (sizes_line href got said)) p

@@ -2,13 +2,15 @@
 ghost use Rattle.std.specs.Prelude.{◌≡◌, ◌<◌, ◌+◌, [], ◌∷◌, ◌++◌, codes};
 ghost use Rattle.std.specs.Fmt.{decimal};
 ghost use Rattle.zi_feed.specs.Faults.{number};
-ghost use Rattle.zi_outcome.specs.Line.{line_of, blamed, measure_of};
+ghost use Rattle.zi_outcome.specs.Line.{line_of, blamed, measure_of, number_of_sels, number_of_plan};
 ghost use Rattle.zi_outcome.specs.Writing.{PutsAll};
 
 use crate::Outcome;
 use crate::writing::put_piece;
 use zi_feed::FeedKind;
 use zi_outside::{Sink, SinkFault};
+use zi_plan::PlanFault;
+use zi_sels::SelsFault;
 use zi_text::Text;
 use zi_tree::TreeLimit;
 use zi_universe::BadFeed;
@@ -99,6 +101,17 @@ fn put_numbers<E: Sink>(a: &[u8], m: u64, b: &[u8], n: u64, err: &mut E) -> Resu
     }
 }
 
+// The line of bytes that aren't as many as was said.
+#[tactic(auto, using(crate::proofs::WritingLemmas::pieces))]
+fn put_sizes<E: Sink>(href: &Text, got: u64, said: u64, err: &mut E) -> Result<(), SinkFault>
+    ensures { PutsAll (E.seen err.old) ((codes "zi: " ++ href.now) ++ ((codes " has " ++ decimal got) ++ (codes " bytes, not " ++ decimal said ++ codes "\n"))) result (E.seen err.new) }
+{
+    match put_two(b"zi: ", href.as_str().as_bytes(), err) {
+        Ok(()) => put_numbers(b" has ", got, b" bytes, not ", said, err),
+        Err(e) => Err(e),
+    }
+}
+
 // The number of a kind of faults of a feed.
 fn number_of(kind: FeedKind) -> u8
     ensures { result ≡ number kind }
@@ -117,6 +130,38 @@ fn number_of(kind: FeedKind) -> u8
         FeedKind::BadStability => 11,
         FeedKind::BadAddress => 12,
         FeedKind::SameId => 13,
+    }
+}
+
+// The number of a fault of a document of selections.
+fn number_of_sels(fault: &SelsFault) -> u8
+    ensures { result ≡ number_of_sels fault.now }
+{
+    match fault {
+        SelsFault::Doc { .. } => 1,
+        SelsFault::NotSelections => 2,
+        SelsFault::NoRoot => 3,
+        SelsFault::Twice { .. } => 4,
+        SelsFault::Feed { .. } => 5,
+        SelsFault::Unclosed { .. } => 6,
+        SelsFault::Memory => 7,
+    }
+}
+
+// The number of a fault of a plan.
+fn number_of_plan(fault: &PlanFault) -> u8
+    ensures { result ≡ number_of_plan fault.now }
+{
+    match fault {
+        PlanFault::NoSelection { .. } => 1,
+        PlanFault::NoCommand { .. } => 2,
+        PlanFault::NoPath { .. } => 3,
+        PlanFault::Loop { .. } => 4,
+        PlanFault::Bind(_) => 5,
+        PlanFault::Unbuilt { .. } => 6,
+        PlanFault::BadPath { .. } => 7,
+        PlanFault::NoFolder { .. } => 8,
+        PlanFault::Memory => 9,
     }
 }
 
@@ -204,7 +249,7 @@ fn put_measure<E: Sink>(what: TreeLimit, limit: u64, err: &mut E) -> Result<(), 
     }
 }
 
-/// Puts the line of an outcome: `zi: `, its text and LF, and nothing for Done. Failed comes where a put failed, at a front of the
+/// Puts the line of an outcome: `zi: `, its text and LF, and nothing for Done and Child. Failed comes where a put failed, at a front of the
 /// line, and Memory where one lacked memory; it takes none of its own.
 pub fn tell<E: Sink>(outcome: &Outcome, err: &mut E) -> Result<(), SinkFault>
     ensures { PutsAll (E.seen err.old) (line_of outcome.now) result (E.seen err.new) }
@@ -231,9 +276,21 @@ pub fn tell<E: Sink>(outcome: &Outcome, err: &mut E) -> Result<(), SinkFault>
             put_around(b"zi: search spent after ", *count, b" lemmas\n", err)
         }
         Outcome::NoFile { name } => put_name(b"zi: no file ", name, b"\n", err),
+        Outcome::BadSels { fault } => {
+            let number = u64::from(number_of_sels(fault));
+            put_around(b"zi: bad selections: fault ", number, b"\n", err)
+        }
         Outcome::BadProof { line } => put_around(b"zi: bad proof at line ", *line, b"\n", err),
         Outcome::Rejected => put_piece(b"zi: rejected\n", err),
+        Outcome::Plan(fault) => {
+            let number = u64::from(number_of_plan(fault));
+            put_around(b"zi: cannot launch: fault ", number, b"\n", err)
+        }
+        Outcome::FetchRead { href } => put_name(b"zi: cannot fetch ", href, b"\n", err),
+        Outcome::NoRemote { href } => put_name(b"zi: nothing at ", href, b"\n", err),
+        Outcome::WrongSize { href, said, got } => put_sizes(href, *got, *said, err),
         Outcome::Overlap { path } => put_name(b"zi: ", path, b" is already there\n", err),
+        Outcome::NoPath { path } => put_name(b"zi: no ", path, b"\n", err),
         Outcome::Mismatch { name, found } => {
             put_names(b"zi: expected ", name, b", found ", found, err)
         }
@@ -250,7 +307,9 @@ pub fn tell<E: Sink>(outcome: &Outcome, err: &mut E) -> Result<(), SinkFault>
         Outcome::Unwritable { place } => {
             put_around(b"zi: cannot write element ", *place, b"\n", err)
         }
+        Outcome::SpawnFault => put_piece(b"zi: cannot start the program\n", err),
         Outcome::SinkFault => put_piece(b"zi: cannot write\n", err),
         Outcome::Memory => put_piece(b"zi: out of memory\n", err),
+        Outcome::Child { .. } => Ok(()),
     }
 }

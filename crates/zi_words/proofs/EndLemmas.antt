@@ -1,21 +1,22 @@
 -- The words behind the options: the root, and those that the command has behind it.
-use Rattle.std.proofs.Common.{◌≡◌, ◌≢◌, ℕ, ◌-◌, ◌<◌, true, false, List, [], ◌∷◌, ◌++◌, length, take, drop, replicate, refl, sym, ap, ◌∙◌, subst, arith, ◌⊎◌, inl, inr}
+use Rattle.std.proofs.Common.{◌≡◌, ◌≢◌, ℕ, ◌-◌, ◌<◌, Bool, true, false, List, [], ◌∷◌, ◌++◌, length, take, drop, replicate, refl, sym, ap, ◌∙◌, subst, arith, ◌⊎◌, inl, inr}
 use Rattle.std.specs.Prelude.{codes}
 use Rattle.std.proofs.lemmas.List.{append-nil, length-append, length-replicate, length-take, length-drop, take-append-drop}
 use Rattle.zi_text.specs.Front.{BeginsRight}
 use Rattle.zi_words.specs.declared.loader.Loader.{Loader}
+use Rattle.zi_words.specs.declared.loader.Loader.TheVariants as loader
 use Rattle.zi_words.specs.declared.asked.Asked.{Asked}
 use Rattle.zi_words.specs.declared.request.Request.{Request}
 use Rattle.zi_words.specs.declared.refusal.Refusal.{Refusal}
 use Rattle.zi_words.specs.declared.refusal.Refusal.TheVariants.{Left, Memory}
 use Rattle.zi_words.specs.Forms.{Word, is_address}
 use Rattle.zi_words.specs.Options.{Item, AreItems, name_of, spelled, any_clash, gathered}
-use Rattle.zi_words.specs.Words.{EndsOptions, count_of, asking, AsksLoading}
+use Rattle.zi_words.specs.Words.{EndsOptions, count_of, takes_more, AreMany, HasMany, asking, AsksLoading}
 use Rattle.zi_words.specs.Refused.{Asks, LeftAt, Refused}
 use Rattle.zi_words.specs.Taken.{NoOption, Gathers, IsEnd, PastDashes}
 use Rattle.zi_words.proofs.LeftLemmas.{behind, alike, stuck, short, stuck_with, stopped}
 use Rattle.zi_words.proofs.KindLemmas.{not_dashes, dashes_address}
-use Rattle.zi_words.proofs.OptionLemmas.{After, live, names, names_many, root_address, head_same}
+use Rattle.zi_words.proofs.OptionLemmas.{After, live, names, just_many, names_many, root_address, head_same}
 use Rattle.zi_words.proofs.TurnLemmas.{lifted}
 
 begun : (l : Loader) → BeginsRight (Asks (IsEnd l)) []
@@ -33,30 +34,49 @@ end_wrong l ws rest w e h =
     wrong : (more : List Word) (root : Word) (named : List Word) → w ∷ more ≡ root ∷ named → is_address root ≡ true → ⊥
     wrong more root named f a = let g : false ≡ true = sym h ∙ (ap is_address (head_same w root more named f).0 ∙ a) in cc
 
+-- where no more may follow they are as many as the command has
+none_more : (more : Bool) (least n : ℕ) → more ≡ false → AreMany more least n → n ≡ least
+none_more true least n e h = cc
+none_more false least n e h = h
+
+pub just_ended : (l : Loader) (named : List Word) → length named ≡ count_of l → HasMany l named
+just_ended l named e = just_many (takes_more l) (count_of l) (length named) e
+
+-- where more may follow, any number is
+pub open_ended : (l : Loader) (named : List Word) → takes_more l ≡ true → HasMany l named
+open_ended loader.Select named e = cc
+open_ended loader.Download named e = cc
+open_ended loader.Run named e = omega arith
+open_ended loader.Check named e = cc
+open_ended loader.Refute named e = cc
+
 -- words are missing
-pub end_short : (l : Loader) (ws rest : List Word) (w : Word) → ws ≡ w ∷ rest → is_address w ≡ true → length rest < count_of l → LeftAt (Asks (IsEnd l)) ws 0
-end_short l ws rest w e h few =
+pub end_short : (l : Loader) (ws rest : List Word) (w : Word) → takes_more l ≡ false → ws ≡ w ∷ rest → is_address w ≡ true → length rest < count_of l → LeftAt (Asks (IsEnd l)) ws 0
+end_short l ws rest w closed e h few =
     let P : List Word → Type 0 = λ v. LeftAt (Asks (IsEnd l)) v 0 in
     let left = replicate {A = Word} (count_of l - length rest) [] in
-    let many : length (rest ++ left) ≡ count_of l = omega (arith, few, length-append rest left, length-replicate {A = Word} (count_of l - length rest) []) in
-    subst P (sym e) (short (Asks (IsEnd l)) (w ∷ rest) (left, ((w, rest ++ left), (refl, h, many))) (λ (v, a). wrong v.0 v.1 a.0 a.2))
+    let fits : length (rest ++ left) ≡ count_of l = omega (arith, few, length-append rest left, length-replicate {A = Word} (count_of l - length rest) []) in
+    subst P (sym e) (short (Asks (IsEnd l)) (w ∷ rest) (left, ((w, rest ++ left), (refl, h, just_ended l (rest ++ left) fits))) (λ (v, a). wrong v.0 v.1 a.0 a.2))
   where
-    wrong : (root : Word) (named : List Word) → w ∷ rest ≡ root ∷ named → length named ≡ count_of l → ⊥
-    wrong root named f n = let g : length rest ≡ length named = ap length (head_same w root rest named f).1 in absurd (omega (arith, few))
+    wrong : (root : Word) (named : List Word) → w ∷ rest ≡ root ∷ named → HasMany l named → ⊥
+    wrong root named f n =
+        let g : length rest ≡ length named = ap length (head_same w root rest named f).1 in
+        let k : length named ≡ count_of l = none_more (takes_more l) (count_of l) (length named) closed n in
+        absurd (omega (arith, few, g, k))
 
 stuck_some : (back t : List Word) → 0 < length back → 0 < length (stuck_with back t)
 stuck_some [] t h = h
 stuck_some (w ∷ back) t h = omega arith
 
 -- too many words stand there
-pub end_more : (l : Loader) (ws rest : List Word) (w : Word) → ws ≡ w ∷ rest → is_address w ≡ true → count_of l < length rest
+pub end_more : (l : Loader) (ws rest : List Word) (w : Word) → takes_more l ≡ false → ws ≡ w ∷ rest → is_address w ≡ true → count_of l < length rest
     → LeftAt (Asks (IsEnd l)) ws (length rest - count_of l)
-end_more l ws rest w e h some =
+end_more l ws rest w closed e h some =
     let P : List Word → Type 0 = λ v. LeftAt (Asks (IsEnd l)) v (length rest - count_of l) in
     let Q : List Word → Type 0 = λ v. LeftAt (Asks (IsEnd l)) (w ∷ v) (length rest - count_of l) in
     let N : ℕ → Type 0 = λ n. LeftAt (Asks (IsEnd l)) (w ∷ (front ++ back)) n in
     subst P (sym e) (subst Q (take-append-drop (count_of l) rest) (subst N (length-drop (count_of l) rest)
-    (stopped (Asks (IsEnd l)) (w ∷ front) back ([], ((w, front ++ []), (refl, h, ap length (append-nil front) ∙ taken))) (λ t (v, a). wrong t v.0 v.1 a.0 a.2))))
+    (stopped (Asks (IsEnd l)) (w ∷ front) back ([], ((w, front ++ []), (refl, h, just_ended l (front ++ []) (ap length (append-nil front) ∙ taken)))) (λ t (v, a). wrong t v.0 v.1 a.0 a.2))))
   where
     front : List Word
     front = take (count_of l) rest
@@ -67,18 +87,19 @@ end_more l ws rest w e h some =
     taken : length front ≡ count_of l
     taken = omega (arith, some, length-take (count_of l) rest)
 
-    wrong : (t : List Word) (root : Word) (named : List Word) → w ∷ (front ++ stuck_with back t) ≡ root ∷ named → length named ≡ count_of l → ⊥
+    wrong : (t : List Word) (root : Word) (named : List Word) → w ∷ (front ++ stuck_with back t) ≡ root ∷ named → HasMany l named → ⊥
     wrong t root named f n =
         let g : length (front ++ stuck_with back t) ≡ length named = ap length (head_same w root (front ++ stuck_with back t) named f).1 in
         let more = stuck_some back t (omega (arith, some, length-drop (count_of l) rest)) in
-        absurd (omega (arith, more, taken, n, g, length-append front (stuck_with back t)))
+        let k : length named ≡ count_of l = none_more (takes_more l) (count_of l) (length named) closed n in
+        absurd (omega (arith, more, taken, k, g, length-append front (stuck_with back t)))
 
 -- where no option comes next, the end does
 pub record Ends (l : Loader) (options : List Item) (u : List Word) (r : Request) : Type 0 where
   pub root : Word
   pub named : List Word
   pub address : is_address root ≡ true
-  pub many : length named ≡ count_of l
+  pub many : HasMany l named
   pub are : (u ≡ root ∷ named) ⊎ (u ≡ codes "--" ∷ root ∷ named)
   pub asked : r ≡ asking l root named (gathered options)
 
@@ -87,7 +108,7 @@ ends_are u ends root named e (inl h) = inl (e ∙ ap (λ v. v ++ root ∷ named)
 ends_are u ends root named e (inr h) = inr (e ∙ ap (λ v. v ++ root ∷ named) h)
 
 ends_by : (l : Loader) (options : List Item) (u : List Word) (r : Request) (more : List Item) (ends : List Word) (root : Word) (named : List Word) → NoOption l u
-    → u ≡ spelled more ++ (ends ++ root ∷ named) → AreItems l more → EndsOptions ends → is_address root ≡ true → length named ≡ count_of l
+    → u ≡ spelled more ++ (ends ++ root ∷ named) → AreItems l more → EndsOptions ends → is_address root ≡ true → HasMany l named
     → r ≡ asking l root named (gathered (options ++ more)) → Ends l options u r
 ends_by l options u r [] ends root named none e items h a n q = record {
   root = root;
@@ -112,7 +133,7 @@ no_option_none l k v its e = cc
 
 -- the end as the rest of right words
 end_after : (l : Loader) (options : List Item) (ends : List Word) (root : Word) (named : List Word) → any_clash options ≡ false → EndsOptions ends → is_address root ≡ true
-    → length named ≡ count_of l → Asks (After l options) (ends ++ root ∷ named)
+    → HasMany l named → Asks (After l options) (ends ++ root ∷ named)
 end_after l options ends root named apart ended a n = (
   asking l root named (gathered (options ++ [])),
   record {
@@ -137,7 +158,7 @@ module _ (l : Loader) (options : List Item) (apart : any_clash options ≡ false
   down_dashes : (u : List Word) → Asks (After l options) (codes "--" ∷ u) → Asks (IsEnd l) u
   down_dashes u (r, a) = by_ends (ends_next l options (codes "--" ∷ u) r (dashes_none u) a)
     where
-      by : (root : Word) (named : List Word) → is_address root ≡ true → length named ≡ count_of l
+      by : (root : Word) (named : List Word) → is_address root ≡ true → HasMany l named
           → (codes "--" ∷ u ≡ root ∷ named) ⊎ (codes "--" ∷ u ≡ codes "--" ∷ root ∷ named) → Asks (IsEnd l) u
       by root named h n (inl e) = let f : false ≡ true = sym dashes_address ∙ (ap is_address (head_same (codes "--") root u named e).0 ∙ h) in absurd cc
       by root named h n (inr e) = ((root, named), ((head_same (codes "--") (codes "--") u (root ∷ named) e).1, h, n))
@@ -157,7 +178,7 @@ module _ (l : Loader) (options : List Item) (apart : any_clash options ≡ false
   down_plain : (w : Word) (t u : List Word) → NoOption l (w ∷ t) → ((v : List Word) → w ∷ t ≢ codes "--" ∷ v) → Asks (After l options) (w ∷ u) → Asks (IsEnd l) (w ∷ u)
   down_plain w t u none other (r, a) = by_ends (ends_next l options (w ∷ u) r (no_option_first l w t u none) a)
     where
-      by : (root : Word) (named : List Word) → is_address root ≡ true → length named ≡ count_of l
+      by : (root : Word) (named : List Word) → is_address root ≡ true → HasMany l named
           → (w ∷ u ≡ root ∷ named) ⊎ (w ∷ u ≡ codes "--" ∷ root ∷ named) → Asks (IsEnd l) (w ∷ u)
       by root named h n (inl e) = ((root, named), (e, h, n))
       by root named h n (inr e) = absurd (other t (ap (λ x. x ∷ t) (head_same w (codes "--") u (root ∷ named) e).0))

@@ -17,7 +17,8 @@ use Rattle.zi_words.proofs.OptionLemmas.{after_none, all_in, no_option_ends, hea
 use Rattle.zi_words.proofs.EndLemmas.{ends_next}
 use Rattle.zi_words.proofs.StoreLemmas.{store_add_only, store_verify_only, store_list_only}
 use Rattle.zi_words.proofs.DemoLemmas.{one_demo}
-use Rattle.zi_words.proofs.RightLemmas.{loading_only, manifest_only, store_only, demo_only, help_only, version_only}
+use Rattle.zi_words.proofs.LaunchLemmas.{one_launch}
+use Rattle.zi_words.proofs.RightLemmas.{loading_only, manifest_only, store_only, demo_only, launch_only, help_only, version_only}
 
 -- the root of an end, and what stands behind it
 one_end : (ends : List Word) (root other : Word) (named others : List Word) → EndsOptions ends → is_address root ≡ true → is_address other ≡ true
@@ -92,7 +93,9 @@ module _ (one : (x y : DigestName) → IsDigest x → IsDigest y → spelling x 
       let P : Word → Type 0 = λ v. Right (v ∷ ws) b in one_store ws a b x.1 (store_only ws b (subst P x.0 y))
   one_right (w ∷ ws) a b (inr (inr (inl x))) y =
       let P : Word → Type 0 = λ v. Right (v ∷ ws) b in one_demo ws a b x.1 (demo_only ws b (subst P x.0 y))
-  one_right (w ∷ ws) a b (inr (inr (inr (n, inl x)))) y =
+  one_right (w ∷ ws) a b (inr (inr (inr (inl x)))) y =
+      let P : Word → Type 0 = λ v. Right (v ∷ ws) b in one_launch ws a b x.1 (launch_only ws b (subst P x.0 y))
+  one_right (w ∷ ws) a b (inr (inr (inr (inr (n, inl x))))) y =
       let P : Word → Type 0 = λ v. Right (v ∷ ws) b in x.1 ∙ sym (help_only ws b (subst P x.0 y)).1
-  one_right (w ∷ ws) a b (inr (inr (inr (n, inr x)))) y =
+  one_right (w ∷ ws) a b (inr (inr (inr (inr (n, inr x))))) y =
       let P : Word → Type 0 = λ v. Right (v ∷ ws) b in x.1 ∙ sym (version_only ws b (subst P x.0 y)).1

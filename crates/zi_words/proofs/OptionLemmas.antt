@@ -1,5 +1,5 @@
 -- What goes on behind some options, and that something does.
-use Rattle.std.proofs.Common.{◌≡◌, true, false, List, [], ◌∷◌, ◌++◌, length, replicate, refl, sym, ap, ◌∙◌, subst, append_assoc, arith, inl, inr}
+use Rattle.std.proofs.Common.{◌≡◌, ℕ, Bool, true, false, List, [], ◌∷◌, ◌++◌, length, replicate, refl, sym, ap, ◌∙◌, subst, append_assoc, arith, inl, inr}
 use Rattle.std.specs.Prelude.{codes}
 use Rattle.std.specs.List.{list_any}
 use Rattle.std.specs.Str.{chars}
@@ -12,7 +12,7 @@ use Rattle.zi_words.specs.declared.asked.Asked.{Asked}
 use Rattle.zi_words.specs.declared.request.Request.{Request}
 use Rattle.zi_words.specs.Forms.{Word, Form, Are, is_address, is_carried}
 use Rattle.zi_words.specs.Options.{Item, IsItem, AreItems, name_of, forms, spelled, clash, any_clash, set, nothing, gathered}
-use Rattle.zi_words.specs.Words.{EndsOptions, count_of, asking, AsksLoading}
+use Rattle.zi_words.specs.Words.{EndsOptions, count_of, takes_more, AreMany, HasMany, asking, AsksLoading}
 use Rattle.zi_words.specs.Refused.{Asks}
 use Rattle.zi_words.proofs.ClashLemmas.{clash_push}
 use Rattle.zi_words.proofs.KindLemmas.{same_name, not_dashes, not_address}
@@ -28,7 +28,7 @@ pub record After (l : Loader) (before : List Item) (ws : List Word) (r : Request
   pub apart : any_clash (before ++ more) ≡ false
   pub ended : EndsOptions ends
   pub address : is_address root ≡ true
-  pub many : length named ≡ count_of l
+  pub many : HasMany l named
   pub asked : r ≡ asking l root named (gathered (before ++ more))
 
 pub after_none : (l : Loader) (ws : List Word) (r : Request) → AsksLoading l ws r → After l [] ws r
@@ -103,7 +103,7 @@ items_snoc before i others = append_assoc before (i ∷ []) others
 
 first_by : (l : Loader) (before : List Item) (k : Kind) (u ends : List Word) (root : Word) (named : List Word) (r : Request) (more : List Item)
     → name_of k ∷ u ≡ spelled more ++ (ends ++ root ∷ named) → AreItems l more → any_clash (before ++ more) ≡ false
-    → EndsOptions ends → is_address root ≡ true → length named ≡ count_of l → r ≡ asking l root named (gathered (before ++ more)) → First l before k u r
+    → EndsOptions ends → is_address root ≡ true → HasMany l named → r ≡ asking l root named (gathered (before ++ more)) → First l before k u r
 first_by l before k u ends root named r [] e items apart ended address many asked = absurd (no_option_ends k u ends root named e ended address)
 first_by l before k u ends root named r (j ∷ js) e items apart ended address many asked =
     let h = head_same (name_of k) (name_of j.kind) u ((j.arguments ++ spelled js) ++ (ends ++ root ∷ named)) e in
@@ -193,8 +193,13 @@ root_address = refl
 abbrev pub names : Loader → List Word
 names l = replicate (count_of l) []
 
-pub names_many : (l : Loader) → length (names l) ≡ count_of l
-names_many l = length-replicate {A = Word} (count_of l) []
+-- no more than the command has there are as many
+pub just_many : (more : Bool) (least n : ℕ) → n ≡ least → AreMany more least n
+just_many true least n e = omega (arith, e)
+just_many false least n e = e
+
+pub names_many : (l : Loader) → HasMany l (names l)
+names_many l = just_many (takes_more l) (count_of l) (length (names l)) (length-replicate {A = Word} (count_of l) [])
 
 -- options that may stand together go on
 pub live : (l : Loader) (before : List Item) → any_clash before ≡ false → BeginsRight (Asks (After l before)) []

@@ -1,6 +1,6 @@
 -- All words, by the first.
-use Rattle.std.proofs.Common.{◌≡◌, ◌≢◌, List, [], ◌∷◌, length, refl, sym, ap, ◌∙◌, subst, arith, ◌⊎◌, inl, inr, Result, Ok, Err}
-use Rattle.std.specs.Prelude.{codes, MatchResult}
+use Rattle.std.proofs.Common.{◌≡◌, ◌≢◌, List, [], ◌∷◌, length, refl, sym, ap, ◌∙◌, subst, arith, ◌⊎◌, inl, inr, Option, Some, None, Result, Ok, Err}
+use Rattle.std.specs.Prelude.{if◌then◌else◌, bytes_eq, codes, MatchResult}
 use Rattle.zi_text.specs.Front.{BeginsRight}
 use Rattle.zi_words.specs.declared.loader.Loader.{Loader}
 use Rattle.zi_words.specs.declared.loader.Loader.TheVariants as loader
@@ -11,6 +11,7 @@ use Rattle.zi_words.specs.declared.refusal.Refusal.TheVariants.{Left, Memory}
 use Rattle.zi_words.specs.Forms.{Word}
 use Rattle.zi_words.specs.Store.{AsksManifest, AsksStore, InStore}
 use Rattle.zi_words.specs.Demo.{AsksDemo, Demonstrates}
+use Rattle.zi_words.specs.Launch.{AsksLaunch, Launches}
 use Rattle.zi_words.specs.Words.{loader_word, AsksLoading, Loads, Alone, Right}
 use Rattle.zi_words.specs.Refused.{Asks, LeftAt, Refused}
 use Rattle.zi_words.specs.Taken.{IsEnded}
@@ -18,93 +19,146 @@ use Rattle.zi_words.proofs.KindLemmas.{not_same}
 use Rattle.zi_words.proofs.LeftLemmas.{behind, stuck, short}
 
 begins : BeginsRight (Asks Right) []
-begins = (codes "--help" ∷ [], (request.Help, inr (inr (inr (refl, inl (refl, refl))))))
+begins = (codes "--help" ∷ [], (request.Help, inr (inr (inr (inr (refl, inl (refl, refl)))))))
 
 pub right_none : (ws : List Word) → length ws ≡ 0 → LeftAt (Asks Right) ws 0
 right_none [] e = short (Asks Right) [] begins (λ (r, h). h)
 right_none (w ∷ ws) e = absurd (omega arith)
 
-pub right_unknown : (ws rest : List Word) (w : Word) → ws ≡ w ∷ rest → w ≢ codes "select" → w ≢ codes "refute" → w ≢ codes "manifest" → w ≢ codes "store" → w ≢ codes "demo" → w ≢ codes "--help" → w ≢ codes "--version"
+-- a word that is that of no command that loads feeds
+pub by_loaders : (w : Word) → w ≢ codes "select" → w ≢ codes "download" → w ≢ codes "run" → w ≢ codes "check" → w ≢ codes "refute" → (l : Loader) → w ≢ loader_word l
+by_loaders w ns nd nu nc nr loader.Select = ns
+by_loaders w ns nd nu nc nr loader.Download = nd
+by_loaders w ns nd nu nc nr loader.Run = nu
+by_loaders w ns nd nu nc nr loader.Check = nc
+by_loaders w ns nd nu nc nr loader.Refute = nr
+
+pub right_unknown : (ws rest : List Word) (w : Word) → ws ≡ w ∷ rest → ((l : Loader) → w ≢ loader_word l) → w ≢ codes "manifest" → w ≢ codes "store" → w ≢ codes "demo" → w ≢ codes "launch" → w ≢ codes "--help" → w ≢ codes "--version"
     → LeftAt (Asks Right) ws (length ws)
-right_unknown ws rest w e ns nr nm nt nd nh nv =
+right_unknown ws rest w e nl nm nt nd na nh nv =
     let P : List Word → Type 0 = λ v. LeftAt (Asks Right) v (length v) in
     subst P (sym e) (stuck (Asks Right) [] w rest begins (λ (more, (r, h)). wrong more r h))
   where
-    wrong : (more : List Word) (r : Request) → Loads w more r ⊎ (InStore w more r ⊎ (Demonstrates w more r ⊎ Alone w more r)) → ⊥
-    wrong more r (inl (loader.Select, h, a)) = ns h
-    wrong more r (inl (loader.Refute, h, a)) = nr h
+    wrong : (more : List Word) (r : Request) → Loads w more r ⊎ (InStore w more r ⊎ (Demonstrates w more r ⊎ (Launches w more r ⊎ Alone w more r))) → ⊥
+    wrong more r (inl (l, h, a)) = nl l h
     wrong more r (inr (inl (inl h))) = nm h.0
     wrong more r (inr (inl (inr h))) = nt h.0
     wrong more r (inr (inr (inl h))) = nd h.0
-    wrong more r (inr (inr (inr (e, inl h)))) = nh h.0
-    wrong more r (inr (inr (inr (e, inr h)))) = nv h.0
+    wrong more r (inr (inr (inr (inl h)))) = na h.0
+    wrong more r (inr (inr (inr (inr (e, inl h))))) = nh h.0
+    wrong more r (inr (inr (inr (inr (e, inr h))))) = nv h.0
 
-pub select_only : (u : List Word) (r : Request) → Right (codes "select" ∷ u) r → AsksLoading loader.Select u r
-select_only u r (inl (loader.Select, h, a)) = a
-select_only u r (inl (loader.Refute, h, a)) = absurd (not_same (codes "select") (codes "refute") refl h)
-select_only u r (inr (inl (inl h))) = absurd (not_same (codes "select") (codes "manifest") refl h.0)
-select_only u r (inr (inl (inr h))) = absurd (not_same (codes "select") (codes "store") refl h.0)
-select_only u r (inr (inr (inl h))) = absurd (not_same (codes "select") (codes "demo") refl h.0)
-select_only u r (inr (inr (inr (n, inl h)))) = absurd (not_same (codes "select") (codes "--help") refl h.0)
-select_only u r (inr (inr (inr (n, inr h)))) = absurd (not_same (codes "select") (codes "--version") refl h.0)
+-- the command of a word, where it is that of one that loads feeds
+loader_at : Word → Option Loader
+loader_at w =
+    if bytes_eq w (loader_word loader.Select) then Some loader.Select
+    else if bytes_eq w (loader_word loader.Download) then Some loader.Download
+    else if bytes_eq w (loader_word loader.Run) then Some loader.Run
+    else if bytes_eq w (loader_word loader.Check) then Some loader.Check
+    else if bytes_eq w (loader_word loader.Refute) then Some loader.Refute
+    else None
 
-pub refute_only : (u : List Word) (r : Request) → Right (codes "refute" ∷ u) r → AsksLoading loader.Refute u r
-refute_only u r (inl (loader.Select, h, a)) = absurd (not_same (codes "refute") (codes "select") refl h)
-refute_only u r (inl (loader.Refute, h, a)) = a
-refute_only u r (inr (inl (inl h))) = absurd (not_same (codes "refute") (codes "manifest") refl h.0)
-refute_only u r (inr (inl (inr h))) = absurd (not_same (codes "refute") (codes "store") refl h.0)
-refute_only u r (inr (inr (inl h))) = absurd (not_same (codes "refute") (codes "demo") refl h.0)
-refute_only u r (inr (inr (inr (n, inl h)))) = absurd (not_same (codes "refute") (codes "--help") refl h.0)
-refute_only u r (inr (inr (inr (n, inr h)))) = absurd (not_same (codes "refute") (codes "--version") refl h.0)
+at_word : (l : Loader) → loader_at (loader_word l) ≡ Some l
+unfolding loader_at
+at_word loader.Select = refl
+at_word loader.Download = refl
+at_word loader.Run = refl
+at_word loader.Check = refl
+at_word loader.Refute = refl
+
+same_loader : (l m : Loader) → loader_word l ≡ loader_word m → l ≡ m
+same_loader l m e = let f : Some l ≡ Some m = sym (at_word l) ∙ (ap loader_at e ∙ at_word m) in cc
+
+-- another word isn't that of one
+no_loader : (w : Word) (l : Loader) → loader_at w ≡ None → w ≡ loader_word l → ⊥
+no_loader w l n e = let f : None ≡ Some l = sym n ∙ (ap loader_at e ∙ at_word l) in cc
+
+at_manifest : loader_at (codes "manifest") ≡ None
+unfolding loader_at
+at_manifest = refl
 
 pub manifest_only : (u : List Word) (r : Request) → Right (codes "manifest" ∷ u) r → AsksManifest u r
-manifest_only u r (inl (loader.Select, h, a)) = absurd (not_same (codes "manifest") (codes "select") refl h)
-manifest_only u r (inl (loader.Refute, h, a)) = absurd (not_same (codes "manifest") (codes "refute") refl h)
+manifest_only u r (inl (l, h, a)) = absurd (no_loader (codes "manifest") l at_manifest h)
 manifest_only u r (inr (inl (inl h))) = h.1
 manifest_only u r (inr (inl (inr h))) = absurd (not_same (codes "manifest") (codes "store") refl h.0)
 manifest_only u r (inr (inr (inl h))) = absurd (not_same (codes "manifest") (codes "demo") refl h.0)
-manifest_only u r (inr (inr (inr (n, inl h)))) = absurd (not_same (codes "manifest") (codes "--help") refl h.0)
-manifest_only u r (inr (inr (inr (n, inr h)))) = absurd (not_same (codes "manifest") (codes "--version") refl h.0)
+manifest_only u r (inr (inr (inr (inl h)))) = absurd (not_same (codes "manifest") (codes "launch") refl h.0)
+manifest_only u r (inr (inr (inr (inr (n, inl h))))) = absurd (not_same (codes "manifest") (codes "--help") refl h.0)
+manifest_only u r (inr (inr (inr (inr (n, inr h))))) = absurd (not_same (codes "manifest") (codes "--version") refl h.0)
+
+at_store : loader_at (codes "store") ≡ None
+unfolding loader_at
+at_store = refl
 
 pub store_only : (u : List Word) (r : Request) → Right (codes "store" ∷ u) r → AsksStore u r
-store_only u r (inl (loader.Select, h, a)) = absurd (not_same (codes "store") (codes "select") refl h)
-store_only u r (inl (loader.Refute, h, a)) = absurd (not_same (codes "store") (codes "refute") refl h)
+store_only u r (inl (l, h, a)) = absurd (no_loader (codes "store") l at_store h)
 store_only u r (inr (inl (inl h))) = absurd (not_same (codes "store") (codes "manifest") refl h.0)
 store_only u r (inr (inl (inr h))) = h.1
 store_only u r (inr (inr (inl h))) = absurd (not_same (codes "store") (codes "demo") refl h.0)
-store_only u r (inr (inr (inr (n, inl h)))) = absurd (not_same (codes "store") (codes "--help") refl h.0)
-store_only u r (inr (inr (inr (n, inr h)))) = absurd (not_same (codes "store") (codes "--version") refl h.0)
+store_only u r (inr (inr (inr (inl h)))) = absurd (not_same (codes "store") (codes "launch") refl h.0)
+store_only u r (inr (inr (inr (inr (n, inl h))))) = absurd (not_same (codes "store") (codes "--help") refl h.0)
+store_only u r (inr (inr (inr (inr (n, inr h))))) = absurd (not_same (codes "store") (codes "--version") refl h.0)
+
+at_demo : loader_at (codes "demo") ≡ None
+unfolding loader_at
+at_demo = refl
 
 pub demo_only : (u : List Word) (r : Request) → Right (codes "demo" ∷ u) r → AsksDemo u r
-demo_only u r (inl (loader.Select, h, a)) = absurd (not_same (codes "demo") (codes "select") refl h)
-demo_only u r (inl (loader.Refute, h, a)) = absurd (not_same (codes "demo") (codes "refute") refl h)
+demo_only u r (inl (l, h, a)) = absurd (no_loader (codes "demo") l at_demo h)
 demo_only u r (inr (inl (inl h))) = absurd (not_same (codes "demo") (codes "manifest") refl h.0)
 demo_only u r (inr (inl (inr h))) = absurd (not_same (codes "demo") (codes "store") refl h.0)
 demo_only u r (inr (inr (inl h))) = h.1
-demo_only u r (inr (inr (inr (n, inl h)))) = absurd (not_same (codes "demo") (codes "--help") refl h.0)
-demo_only u r (inr (inr (inr (n, inr h)))) = absurd (not_same (codes "demo") (codes "--version") refl h.0)
+demo_only u r (inr (inr (inr (inl h)))) = absurd (not_same (codes "demo") (codes "launch") refl h.0)
+demo_only u r (inr (inr (inr (inr (n, inl h))))) = absurd (not_same (codes "demo") (codes "--help") refl h.0)
+demo_only u r (inr (inr (inr (inr (n, inr h))))) = absurd (not_same (codes "demo") (codes "--version") refl h.0)
+
+at_launch : loader_at (codes "launch") ≡ None
+unfolding loader_at
+at_launch = refl
+
+pub launch_only : (u : List Word) (r : Request) → Right (codes "launch" ∷ u) r → AsksLaunch u r
+launch_only u r (inl (l, h, a)) = absurd (no_loader (codes "launch") l at_launch h)
+launch_only u r (inr (inl (inl h))) = absurd (not_same (codes "launch") (codes "manifest") refl h.0)
+launch_only u r (inr (inl (inr h))) = absurd (not_same (codes "launch") (codes "store") refl h.0)
+launch_only u r (inr (inr (inl h))) = absurd (not_same (codes "launch") (codes "demo") refl h.0)
+launch_only u r (inr (inr (inr (inl h)))) = h.1
+launch_only u r (inr (inr (inr (inr (n, inl h))))) = absurd (not_same (codes "launch") (codes "--help") refl h.0)
+launch_only u r (inr (inr (inr (inr (n, inr h))))) = absurd (not_same (codes "launch") (codes "--version") refl h.0)
+
+at_help : loader_at (codes "--help") ≡ None
+unfolding loader_at
+at_help = refl
 
 pub help_only : (u : List Word) (r : Request) → Right (codes "--help" ∷ u) r → (u ≡ []) × (r ≡ request.Help)
-help_only u r (inl (loader.Select, h, a)) = absurd (not_same (codes "--help") (codes "select") refl h)
-help_only u r (inl (loader.Refute, h, a)) = absurd (not_same (codes "--help") (codes "refute") refl h)
+help_only u r (inl (l, h, a)) = absurd (no_loader (codes "--help") l at_help h)
 help_only u r (inr (inl (inl h))) = absurd (not_same (codes "--help") (codes "manifest") refl h.0)
 help_only u r (inr (inl (inr h))) = absurd (not_same (codes "--help") (codes "store") refl h.0)
 help_only u r (inr (inr (inl h))) = absurd (not_same (codes "--help") (codes "demo") refl h.0)
-help_only u r (inr (inr (inr (n, inl h)))) = (n, h.1)
-help_only u r (inr (inr (inr (n, inr h)))) = absurd (not_same (codes "--help") (codes "--version") refl h.0)
+help_only u r (inr (inr (inr (inl h)))) = absurd (not_same (codes "--help") (codes "launch") refl h.0)
+help_only u r (inr (inr (inr (inr (n, inl h))))) = (n, h.1)
+help_only u r (inr (inr (inr (inr (n, inr h))))) = absurd (not_same (codes "--help") (codes "--version") refl h.0)
+
+at_version : loader_at (codes "--version") ≡ None
+unfolding loader_at
+at_version = refl
 
 pub version_only : (u : List Word) (r : Request) → Right (codes "--version" ∷ u) r → (u ≡ []) × (r ≡ request.Version)
-version_only u r (inl (loader.Select, h, a)) = absurd (not_same (codes "--version") (codes "select") refl h)
-version_only u r (inl (loader.Refute, h, a)) = absurd (not_same (codes "--version") (codes "refute") refl h)
+version_only u r (inl (l, h, a)) = absurd (no_loader (codes "--version") l at_version h)
 version_only u r (inr (inl (inl h))) = absurd (not_same (codes "--version") (codes "manifest") refl h.0)
 version_only u r (inr (inl (inr h))) = absurd (not_same (codes "--version") (codes "store") refl h.0)
 version_only u r (inr (inr (inl h))) = absurd (not_same (codes "--version") (codes "demo") refl h.0)
-version_only u r (inr (inr (inr (n, inl h)))) = absurd (not_same (codes "--version") (codes "--help") refl h.0)
-version_only u r (inr (inr (inr (n, inr h)))) = (n, h.1)
+version_only u r (inr (inr (inr (inl h)))) = absurd (not_same (codes "--version") (codes "launch") refl h.0)
+version_only u r (inr (inr (inr (inr (n, inl h))))) = absurd (not_same (codes "--version") (codes "--help") refl h.0)
+version_only u r (inr (inr (inr (inr (n, inr h))))) = (n, h.1)
 
 pub loading_only : (l : Loader) (u : List Word) (r : Request) → Right (loader_word l ∷ u) r → AsksLoading l u r
-loading_only loader.Select u r h = select_only u r h
-loading_only loader.Refute u r h = refute_only u r h
+loading_only l u r (inl (m, h, a)) = let P : Loader → Type 0 = λ v. AsksLoading v u r in subst P (sym (same_loader l m h)) a
+loading_only l u r (inr (inl (inl h))) = absurd (no_loader (codes "manifest") l at_manifest (sym h.0))
+loading_only l u r (inr (inl (inr h))) = absurd (no_loader (codes "store") l at_store (sym h.0))
+loading_only l u r (inr (inr (inl h))) = absurd (no_loader (codes "demo") l at_demo (sym h.0))
+loading_only l u r (inr (inr (inr (inl h)))) = absurd (no_loader (codes "launch") l at_launch (sym h.0))
+loading_only l u r (inr (inr (inr (inr (n, inl h))))) = absurd (no_loader (codes "--help") l at_help (sym h.0))
+loading_only l u r (inr (inr (inr (inr (n, inr h))))) = absurd (no_loader (codes "--version") l at_version (sym h.0))
 
 -- a command whose words are read apart
 module _ (name : Word) (Rel : List Word → Request → Type 0) (down : (u : List Word) (r : Request) → Right (name ∷ u) r → Rel u r) (up : (u : List Word) (r : Request) → Rel u r → Right (name ∷ u) r) where
@@ -147,10 +201,14 @@ pub right_demo : (ws rest : List Word) (w : Word) (result : Result Request Refus
     → MatchResult result (Right ws) (Refused Right ws)
 right_demo = command (codes "demo") AsksDemo demo_only (λ u r a. inr (inr (inl (refl, a))))
 
+pub right_launch : (ws rest : List Word) (w : Word) (result : Result Request Refusal) → ws ≡ w ∷ rest → w ≡ codes "launch" → MatchResult result (AsksLaunch rest) (Refused AsksLaunch rest)
+    → MatchResult result (Right ws) (Refused Right ws)
+right_launch = command (codes "launch") AsksLaunch launch_only (λ u r a. inr (inr (inr (inl (refl, a)))))
+
 pub right_help : (ws rest : List Word) (w : Word) (result : Result Request Refusal) → ws ≡ w ∷ rest → w ≡ codes "--help" → IsEnded request.Help rest result
     → MatchResult result (Right ws) (Refused Right ws)
-right_help = single (codes "--help") request.Help help_only (inr (inr (inr (refl, inl (refl, refl)))))
+right_help = single (codes "--help") request.Help help_only (inr (inr (inr (inr (refl, inl (refl, refl))))))
 
 pub right_version : (ws rest : List Word) (w : Word) (result : Result Request Refusal) → ws ≡ w ∷ rest → w ≡ codes "--version" → IsEnded request.Version rest result
     → MatchResult result (Right ws) (Refused Right ws)
-right_version = single (codes "--version") request.Version version_only (inr (inr (inr (refl, inr (refl, refl)))))
+right_version = single (codes "--version") request.Version version_only (inr (inr (inr (inr (refl, inr (refl, refl))))))

@@ -84,12 +84,18 @@ number_is w = between_is (numeral w)
 -- the number of lemmas of a request isn't past the greatest, and that of a demonstration is one
 abbrev pub IsWithin : Request → Type 0
 IsWithin (request.Select ask proof) = ask.search ≤ most_lemmas
+IsWithin (request.Download ask) = ask.search ≤ most_lemmas
+IsWithin (request.Run ask user) = ask.search ≤ most_lemmas
+IsWithin (request.Check ask sels proof) = ask.search ≤ most_lemmas
 IsWithin (request.Refute ask proof) = ask.search ≤ most_lemmas
 IsWithin (request.Demo n) = (1 ≤ n) × (n ≤ 1000)
 IsWithin other = Unit {0}
 
 of_loader : (l : Loader) (ask : Ask) (proof : Bool) (named : List Word) → ask.search ≤ most_lemmas → IsWithin (request_of l ask proof named)
 of_loader loader.Select ask proof named h = h
+of_loader loader.Download ask proof named h = h
+of_loader loader.Run ask proof named h = h
+of_loader loader.Check ask proof named h = h
 of_loader loader.Refute ask proof named h = h
 
 pub is_within : (ws : List Word) (r : Request) → Right ws r → IsWithin r
@@ -109,5 +115,6 @@ is_within (w ∷ ws) r (inr (inr (inl (e, (word, n, f, number, is))))) =
     let P : Request → Type 0 = λ v. IsWithin v in
     let Q : Option ℕ → Type 0 = λ o. IsNumber o in
     subst P (sym is) (subst Q number (number_is word))
-is_within (w ∷ ws) r (inr (inr (inr (n, inl (e, is))))) = let P : Request → Type 0 = λ v. IsWithin v in subst P (sym is) tt
-is_within (w ∷ ws) r (inr (inr (inr (n, inr (e, is))))) = let P : Request → Type 0 = λ v. IsWithin v in subst P (sym is) tt
+is_within (w ∷ ws) r (inr (inr (inr (inl (e, (file, user, f, is)))))) = let P : Request → Type 0 = λ v. IsWithin v in subst P (sym is) tt
+is_within (w ∷ ws) r (inr (inr (inr (inr (n, inl (e, is)))))) = let P : Request → Type 0 = λ v. IsWithin v in subst P (sym is) tt
+is_within (w ∷ ws) r (inr (inr (inr (inr (n, inr (e, is)))))) = let P : Request → Type 0 = λ v. IsWithin v in subst P (sym is) tt

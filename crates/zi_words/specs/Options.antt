@@ -36,6 +36,12 @@ name_of kind.Proof = codes "--proof"
 -- the options that a command has: `--proof` is of `select` alone
 abbrev pub has_option : Loader → Kind → Bool
 has_option loader.Select k = true
+has_option loader.Download kind.Proof = false
+has_option loader.Download k = true
+has_option loader.Run kind.Proof = false
+has_option loader.Run k = true
+has_option loader.Check kind.Proof = false
+has_option loader.Check k = true
 has_option loader.Refute kind.Proof = false
 has_option loader.Refute k = true
 

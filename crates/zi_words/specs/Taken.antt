@@ -18,7 +18,7 @@ use Rattle.zi_words.specs.declared.refusal.Refusal.{Refusal}
 use Rattle.zi_words.specs.declared.refusal.Refusal.TheVariants.{Left, Memory}
 use Rattle.zi_words.specs.Forms.{Word, Form, Address, Rating, Is, Are, is_address}
 use Rattle.zi_words.specs.Store.{is_file}
-use Rattle.zi_words.specs.Words.{count_of}
+use Rattle.zi_words.specs.Words.{HasMany}
 use Rattle.zi_words.specs.Options.{Rule, Once, OncePerPair, Often, Item, AreItems, name_of, has_option, forms, rule_of, spelled, first, second, any_clash, set, gathered}
 
 -- the first word is missing, or isn't of this form
@@ -117,9 +117,9 @@ pub record Gathers (l : Loader) (ws : List Word) (asked : Asked) (left : List Wo
   pub set_by : asked ≡ gathered options
   pub last : NoOption l left
 
--- what is left is an address, and as many words as the command has behind it
+-- what is left is an address, and as many words as the command may have behind it
 abbrev pub IsEnd : Loader → List Word → Word × List Word → Type 0
-IsEnd l ws v = (ws ≡ v.0 ∷ v.1) × (is_address v.0 ≡ true) × (length v.1 ≡ count_of l)
+IsEnd l ws v = (ws ≡ v.0 ∷ v.1) × (is_address v.0 ≡ true) × HasMany l v.1
 
 -- what is left behind a `--` at the front, or all
 abbrev pub PastDashes : List Word → List Word → Type 0

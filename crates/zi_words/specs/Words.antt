@@ -1,5 +1,5 @@
 -- Which words are right, and what they ask for.
-use Rattle.std.specs.Prelude.{◌≡◌, ℕ, Bool, true, false, List, [], ◌∷◌, ◌++◌, length, codes, ◌⊎◌}
+use Rattle.std.specs.Prelude.{◌≡◌, ℕ, ◌≤◌, Bool, true, false, List, [], ◌∷◌, ◌++◌, length, codes, ◌⊎◌}
 use Rattle.zi_text.specs.Front.{StopsAt}
 use Rattle.zi_words.specs.declared.asked.Asked.{Asked}
 use Rattle.zi_words.specs.declared.loader.Loader.{Loader}
@@ -10,9 +10,10 @@ use Rattle.zi_words.specs.declared.request.Request.TheVariants as request
 use Rattle.zi_words.specs.declared.request.WordsFault.{WordsFault}
 use Rattle.zi_words.specs.declared.request.WordsFault.TheVariants as fault
 use Rattle.zi_words.specs.Forms.{Word, is_address}
-use Rattle.zi_words.specs.Options.{Item, AreItems, spelled, any_clash, first, gathered, ask_of}
+use Rattle.zi_words.specs.Options.{Item, AreItems, spelled, any_clash, first, second, gathered, ask_of}
 use Rattle.zi_words.specs.Store.{InStore}
 use Rattle.zi_words.specs.Demo.{Demonstrates}
+use Rattle.zi_words.specs.Launch.{Launches}
 
 -- what may end the options: nothing, or `--`
 abbrev pub EndsOptions : List Word → Type 0
@@ -21,23 +22,49 @@ EndsOptions ws = (ws ≡ []) ⊎ (ws ≡ codes "--" ∷ [])
 -- the word of a command that loads feeds
 abbrev pub loader_word : Loader → Word
 loader_word loader.Select = codes "select"
+loader_word loader.Download = codes "download"
+loader_word loader.Run = codes "run"
+loader_word loader.Check = codes "check"
 loader_word loader.Refute = codes "refute"
 
--- how many words it has behind the root
+-- how many words it has behind the root, at least
 abbrev pub count_of : Loader → ℕ
 count_of loader.Select = 0
+count_of loader.Download = 0
+count_of loader.Run = 0
+count_of loader.Check = 2
 count_of loader.Refute = 1
+
+-- any number of words may follow those: they are the program's
+abbrev pub takes_more : Loader → Bool
+takes_more loader.Select = false
+takes_more loader.Download = false
+takes_more loader.Run = true
+takes_more loader.Check = false
+takes_more loader.Refute = false
+
+-- so many words are as many as these, or where more may follow at least as many
+abbrev pub AreMany : Bool → ℕ → ℕ → Type 0
+AreMany true least n = least ≤ n
+AreMany false least n = n ≡ least
+
+-- as many words as the command may have behind the root
+abbrev pub HasMany : Loader → List Word → Type 0
+HasMany l named = AreMany (takes_more l) (count_of l) (length named)
 
 -- what it asks for with them
 abbrev pub request_of : Loader → Ask → Bool → List Word → Request
 request_of loader.Select ask proof named = request.Select ask proof
+request_of loader.Download ask proof named = request.Download ask
+request_of loader.Run ask proof named = request.Run ask named
+request_of loader.Check ask proof named = request.Check ask (first named) (second named)
 request_of loader.Refute ask proof named = request.Refute ask (first named)
 
 abbrev pub asking : Loader → Word → List Word → Asked → Request
 asking l root named a = request_of l (ask_of root a) a.proof named
 
 -- Behind a command that loads feeds: options that it has, each with its arguments; then maybe `--`; then the root, an address; then
--- as many words as it has there. Options that may not stand together don't.
+-- as many words as it may have there. Options that may not stand together don't.
 pub record AsksLoading (l : Loader) (ws : List Word) (r : Request) : Type 0 where
   pub options : List Item
   pub ends : List Word
@@ -48,7 +75,7 @@ pub record AsksLoading (l : Loader) (ws : List Word) (r : Request) : Type 0 wher
   pub apart : any_clash options ≡ false
   pub ended : EndsOptions ends
   pub address : is_address root ≡ true
-  pub many : length named ≡ count_of l
+  pub many : HasMany l named
   pub asked : r ≡ asking l root named (gathered options)
 
 -- the commands that load feeds: their word, and the words behind it
@@ -62,7 +89,7 @@ Alone w ws r = (ws ≡ []) × (((w ≡ codes "--help") × (r ≡ request.Help)) 
 -- These words are right, and ask for this.
 abbrev pub Right : List Word → Request → Type 0
 Right [] r = ⊥
-Right (w ∷ ws) r = Loads w ws r ⊎ (InStore w ws r ⊎ (Demonstrates w ws r ⊎ Alone w ws r))
+Right (w ∷ ws) r = Loads w ws r ⊎ (InStore w ws r ⊎ (Demonstrates w ws r ⊎ (Launches w ws r ⊎ Alone w ws r)))
 
 -- these words are right
 abbrev pub AreRight : List Word → Type 0

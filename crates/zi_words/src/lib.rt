@@ -7,6 +7,7 @@ mod arguments;
 mod asked;
 mod demo;
 mod kind;
+mod launch;
 pub mod laws;
 mod loader;
 mod loading;

@@ -1,6 +1,6 @@
 ghost use Rattle.std.specs.Prelude.{◌≡◌};
 ghost use Rattle.zi_words.specs.Options.{has_option};
-ghost use Rattle.zi_words.specs.Words.{count_of};
+ghost use Rattle.zi_words.specs.Words.{takes_more, count_of};
 
 use crate::kind::Kind;
 
@@ -9,6 +9,12 @@ use crate::kind::Kind;
 pub enum Loader {
     /// `select [options] ROOT`, which alone has `--proof`.
     Select,
+    /// `download [options] ROOT`.
+    Download,
+    /// `run [options] ROOT WORDS..`.
+    Run,
+    /// `check [options] ROOT SELS PROOF`.
+    Check,
     /// `refute [options] ROOT PROOF`.
     Refute,
 }
@@ -20,20 +26,28 @@ impl Loader {
     {
         match self {
             Loader::Select => true,
-            Loader::Refute => match kind {
+            Loader::Download | Loader::Run | Loader::Check | Loader::Refute => match kind {
                 Kind::Proof => false,
                 _ => true,
             },
         }
     }
 
-    /// How many words it has behind the root.
+    /// Whether any number of words may follow those that it has behind the root.
+    pub fn takes_more(self) -> bool
+        ensures { result ≡ takes_more self }
+    {
+        matches!(self, Loader::Run)
+    }
+
+    /// How many words it has behind the root, at least.
     pub fn count(self) -> usize
         ensures { result ≡ count_of self }
     {
         match self {
-            Loader::Select => 0,
+            Loader::Select | Loader::Download | Loader::Run => 0,
             Loader::Refute => 1,
+            Loader::Check => 2,
         }
     }
 }

@@ -1,8 +1,8 @@
 //! The words of the commands that load feeds.
 
-ghost use Rattle.std.specs.Prelude.{◌≡◌, map, length, unwrap_or, Some, codes, IfOk, MatchResult};
+ghost use Rattle.std.specs.Prelude.{◌≡◌, map, unwrap_or, Some, codes, IfOk, MatchResult};
 ghost use Rattle.zi_words.specs.Options.{or_english, wanted, nothing, ask_of};
-ghost use Rattle.zi_words.specs.Words.{count_of, request_of, AsksLoading};
+ghost use Rattle.zi_words.specs.Words.{HasMany, request_of, AsksLoading};
 ghost use Rattle.zi_words.specs.Refused.{Refused};
 ghost use Rattle.zi_words.specs.Taken.{PastDashes, IsEnd};
 
@@ -26,7 +26,7 @@ fn past_dashes<'a>(words: &'a [Text]) -> &'a [Text]
     }
 }
 
-// The root at the front of the words, and those behind it, as many as the command has there.
+// The root at the front of the words, and those behind it, as many as the command may have there.
 fn end<'a>(loader: Loader, words: &'a [Text]) -> Result<(&'a Text, &'a [Text]), Refusal>
     ensures { MatchResult result (λ v. IsEnd loader words.now (v.0.now, v.1.now)) (Refused (IsEnd loader) words.now) }
 {
@@ -35,6 +35,8 @@ fn end<'a>(loader: Loader, words: &'a [Text]) -> Result<(&'a Text, &'a [Text]), 
         Some((root, behind)) => {
             if !is_address(root.as_str()) {
                 Err(Refusal::Left(words.len()))
+            } else if loader.takes_more() {
+                Ok((root, behind))
             } else if behind.len() < loader.count() {
                 Err(Refusal::Left(0))
             } else if behind.len() > loader.count() {
@@ -160,6 +162,17 @@ impl Ask {
     }
 }
 
+/// The words as a list of their own.
+pub fn copied(alloc: Global, words: &[Text]) -> Result<List<Text>, Memory>
+    ensures { IfOk result (λ copy. copy ≡ words.now) }
+{
+    let mut copy = List::new(alloc);
+    for word in words {
+        copy.push(word.copy(alloc)?)?;
+    }
+    Ok(copy)
+}
+
 // What a command asks for with the words behind the root.
 fn request(
     alloc: Global,
@@ -168,11 +181,21 @@ fn request(
     proof: bool,
     named: &[Text],
 ) -> Result<Request, Memory>
-    requires { length named.now ≡ count_of loader }
+    requires { HasMany loader named.now }
     ensures { IfOk result (λ r. r ≡ request_of loader ask proof named.now) }
 {
     match loader {
         Loader::Select => Ok(Request::Select { ask, proof }),
+        Loader::Download => Ok(Request::Download { ask }),
+        Loader::Run => {
+            let user = copied(alloc, named)?;
+            Ok(Request::Run { ask, user })
+        }
+        Loader::Check => {
+            let sels = named[0].copy(alloc)?;
+            let proof = named[1].copy(alloc)?;
+            Ok(Request::Check { ask, sels, proof })
+        }
         Loader::Refute => {
             let proof = named[0].copy(alloc)?;
             Ok(Request::Refute { ask, proof })

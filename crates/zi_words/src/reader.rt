@@ -5,6 +5,7 @@ ghost use Rattle.zi_words.specs.Words.{Right, FaultMeans};
 ghost use Rattle.zi_words.specs.Refused.{Refused};
 
 use crate::demo::demo;
+use crate::launch::launch;
 use crate::loader::Loader;
 use crate::loading::loading;
 use crate::refusal::Refusal;
@@ -22,10 +23,14 @@ fn request(alloc: Global, words: &[Text]) -> Result<Request, Refusal>
     };
     match word.as_str() {
         "select" => loading(alloc, Loader::Select, behind),
+        "download" => loading(alloc, Loader::Download, behind),
+        "run" => loading(alloc, Loader::Run, behind),
+        "check" => loading(alloc, Loader::Check, behind),
         "refute" => loading(alloc, Loader::Refute, behind),
         "manifest" => manifest(alloc, behind),
         "store" => store(alloc, behind),
         "demo" => demo(behind),
+        "launch" => launch(alloc, behind),
         "--help" => ended(Request::Help, behind),
         "--version" => ended(Request::Version, behind),
         _ => Err(Refusal::Left(words.len())),
@@ -35,9 +40,11 @@ fn request(alloc: Global, words: &[Text]) -> Result<Request, Refusal>
 impl Request {
     /// What the words of a command line ask for, the program's own name left out.
     ///
-    /// Right words are `select [options] ROOT`, `refute [options] ROOT PROOF`, `manifest ALG NAME`, `store add NAME FILE..`,
-    /// `store verify NAME`, `store list`, `demo N`, and `--help` or `--version` alone. The options and what each sets are in `Kind`; they
-    /// come before ROOT, and `--` may end them. A word that looks like an option is a value where a value stands.
+    /// Right words are `select [options] ROOT`, `download [options] ROOT`, `run [options] ROOT WORDS..`,
+    /// `launch FILE WORDS..`, `check [options] ROOT SELS PROOF`, `refute [options] ROOT PROOF`, `manifest ALG NAME`,
+    /// `store add NAME FILE..`, `store verify NAME`, `store list`, `demo N`, and `--help` or `--version` alone. The options and what
+    /// each sets are in `Kind`; they come before ROOT, and `--` may end them. A word that looks like an option is a value where a
+    /// value stands. All words behind ROOT of `run` and behind FILE of `launch` are the program's, whatever they look like.
     ///
     /// `Usage` is answered exactly where no request is right for the words. Its index counts from 0: it is the number of
     /// words in their longest front that is also a front of some right list of words. `Memory` is answered where memory was

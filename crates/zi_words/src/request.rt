@@ -34,6 +34,14 @@ pub struct Ask {
 pub enum Request {
     /// `select`: the selections of a program, or with `proof` the proof that they are the best.
     Select { ask: Ask, proof: bool },
+    /// `download`: what the selections of a program need, in the store.
+    Download { ask: Ask },
+    /// `run`: the program, started with these words, once what its selections need is in the store.
+    Run { ask: Ask, user: List<Text> },
+    /// `launch`: the program of the selections in the file of this name, started with these words.
+    Launch { file: Text, user: List<Text> },
+    /// `check`: whether the proof of this name shows that the selections of that name are those of the best choice.
+    Check { ask: Ask, sels: Text, proof: Text },
     /// `refute`: whether the proof of this name shows that no choice is valid.
     Refute { ask: Ask, proof: Text },
     /// `manifest`: the manifest and the digest of a tree in the store, under its name there.

@@ -1,4 +1,6 @@
 pub mod Shelves
 pub mod Asking
 pub mod World
+pub mod Meets
 pub mod StoreRead
+pub mod Surroundings

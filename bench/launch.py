@@ -1,0 +1,88 @@
+#!/usr/bin/env python3
+"""The time from the start of `zi run` to the end of a program that ends at once, beside `0install run` of the same feed in the same run.
+
+Run it after `rt ci`, which builds the program. The program is a local shell script; the goal is at most 0.2 of 0install's time. A second
+feed has a stored tree with a file of 100 MB: what `run` takes there beside `store verify` of the same tree, since each start reads the
+tree anew. Each figure is the best of some runs.
+"""
+import base64
+import hashlib
+import os
+import pathlib
+import shutil
+import sys
+import tempfile
+
+from measure import put, timed_with_peak
+
+RUNS = 10
+SIZE = 100_000_000
+TOP = pathlib.Path(__file__).resolve().parent.parent
+PROGRAM = os.environ.get("ZI_PROGRAM") or str(TOP / "crates/zi/out/zi")
+FEED = """<interface xmlns="http://zero-install.sourceforge.net/2004/injector/interface"><name>{name}</name><summary>{name}</summary>
+{implementation}</interface>"""
+
+
+def script(path):
+    path.write_text("#!/bin/sh\n")
+    path.chmod(0o755)
+    os.utime(path, (0, 0))
+
+
+def local(work):
+    """A feed of a program in its own folder."""
+    script(work / "main")
+    feed = work / "app.xml"
+    feed.write_text(FEED.format(name="app", implementation='<implementation id="." version="1" local-path="."><command name="run" path="main"/></implementation>'))
+    return str(feed)
+
+
+def stored(work):
+    """A feed of a program in a stored tree with a large file beside it, and the name of that tree."""
+    tree = work / "store" / "t"
+    tree.mkdir(parents=True)
+    put(tree / "large", b"a" * SIZE)
+    script(tree / "main")
+    data = {"large": ("F", (tree / "large").read_bytes()), "main": ("X", (tree / "main").read_bytes())}
+    lines = [f"{kind} {hashlib.sha256(it).hexdigest()} 0 {len(it)} {name}\n" for name, (kind, it) in data.items()]
+    digest = base64.b32encode(hashlib.sha256("".join(lines).encode()).digest()).decode().rstrip("=")
+    (tree / ".manifest").write_text("".join(lines))
+    tree.rename(tree.parent / f"sha256new_{digest}")
+    feed = work / "stored.xml"
+    inside = f'<implementation id="x" version="1"><manifest-digest sha256new="{digest}"/><command name="run" path="main"/></implementation>'
+    feed.write_text(FEED.format(name="stored", implementation=inside))
+    return str(feed), f"sha256new_{digest}"
+
+
+def theirs(work, feed):
+    """0install's time, in a home of its own; None where it isn't installed."""
+    if not shutil.which("0install"):
+        return None
+    env = {name: value for name, value in os.environ.items() if not name.startswith("XDG_")}
+    home = work / "home"
+    home.mkdir()
+    return timed_with_peak(["0install", "run", "--offline", feed], RUNS, env=dict(env, HOME=str(home)))[0]
+
+
+def measure(work):
+    feed = local(work)
+    env = dict(os.environ, ZI_STORE=str(work / "store"))
+    ours, _ = timed_with_peak([PROGRAM, "run", feed], RUNS, env=env)
+    other = theirs(work, feed)
+    ratio = "0install isn't installed: no ratio to it" if other is None else f"{ours / other:.3f} of 0install's time ({other * 1000:.0f} ms)"
+    print(f"a local program: {ours * 1000:.1f} ms; {ratio}", flush=True)
+    feed, name = stored(work)
+    ours, peak = timed_with_peak([PROGRAM, "run", feed], RUNS, env=env)
+    verifying, _ = timed_with_peak([PROGRAM, "store", "verify", name], RUNS, env=env)
+    print(f"a stored program beside 100 MB: {ours * 1000:.0f} ms, {peak / 1e6:.0f} MB; {ours / verifying:.2f} of the time of store verify")
+
+
+def main():
+    if not os.path.exists(PROGRAM):
+        sys.exit(f"{PROGRAM} isn't built: run `rt ci` first")
+    with tempfile.TemporaryDirectory(prefix="zi-bench-") as work:
+        measure(pathlib.Path(work))
+
+
+if __name__ == "__main__":
+    main()

@@ -1,0 +1,3 @@
+pub mod Trying
+pub mod Answers
+pub mod Gains

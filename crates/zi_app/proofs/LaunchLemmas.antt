@@ -1,0 +1,121 @@
+-- `run` and `launch`: after every outcome but a program's status nothing was launched, and they never come to Usage.
+use Rattle.std.proofs.Common.{◌≡◌, ◌≢◌, ℕ, inl, inr, List, Option, refl, ap}
+use Rattle.zi_outside.specs.Launched.{Ran, Spawning}
+use Rattle.zi_outside.specs.declared.launch.Launch.{Launch}
+use Rattle.zi_outside.specs.declared.var.Var.{Var}
+use Rattle.zi_digest.specs.declared.DigestName.{DigestName}
+use Rattle.zi_shelf.specs.Shelving.{Shelving}
+use Rattle.zi_store.specs.declared.verdicts.Verdict.{Verdict}
+use Rattle.zi_store.specs.declared.verdicts.Verdict.TheVariants as verdict
+use Rattle.zi_words.specs.declared.request.Ask.{Ask}
+use Rattle.zi_outcome.specs.declared.outcome.Outcome.{Outcome}
+use Rattle.zi_outcome.specs.declared.outcome.Outcome.TheVariants.{Done, Usage, FeedRead, NoRootFeed, BadFeed, FeedTooLong, TooManyFeeds, TooManyInterfaces, TooManyCandidates, TooLarge, NoSolution, Spent, NoFile, BadSels, BadProof, Rejected, Plan, FetchRead, NoRemote, WrongSize, Overlap, NoPath, Mismatch, MissingTree, DamagedTree, BadName, TreeTooLarge, StoreFault, Crowded, Unwritable, SpawnFault, SinkFault, Memory, Child}
+use Rattle.zi_world.specs.Surroundings.{Surroundings}
+use Rattle.zi_launching.specs.Verifying.{Condemns, FailsToVerify}
+use Rattle.zi_launching.specs.Launching.{Task, Lent, launching, PreparesNot, Starts, LaunchesOver}
+use Rattle.zi_launching.specs.Run.{RunsTo, RunsProgram}
+use Rattle.zi_launching.specs.Opening.{LaunchesTo, LaunchesFile}
+use Rattle.zi_app.proofs.KeptLemmas.{not_right}
+
+-- the launches that a spawner tells
+abbrev pub ran_in : Spawning → Option (List Ran)
+ran_in s = s.ran
+
+started_quiet : (launch : Launch) (old new : Spawning) (outcome : Outcome) → Starts launch old new outcome → ((n : ℕ) → outcome ≢ Child n) → new.ran ≡ old.ran
+started_quiet launch old new Done s ne = absurd s
+started_quiet launch old new (Usage index) s ne = absurd s
+started_quiet launch old new (FeedRead uri) s ne = absurd s
+started_quiet launch old new NoRootFeed s ne = absurd s
+started_quiet launch old new (BadFeed uri fault) s ne = absurd s
+started_quiet launch old new (FeedTooLong uri limit) s ne = absurd s
+started_quiet launch old new (TooManyFeeds limit) s ne = absurd s
+started_quiet launch old new (TooManyInterfaces limit) s ne = absurd s
+started_quiet launch old new (TooManyCandidates limit) s ne = absurd s
+started_quiet launch old new (TooLarge limit) s ne = absurd s
+started_quiet launch old new (NoSolution p) s ne = absurd s
+started_quiet launch old new (Spent p count) s ne = absurd s
+started_quiet launch old new (NoFile file) s ne = absurd s
+started_quiet launch old new (BadSels fault) s ne = absurd s
+started_quiet launch old new (BadProof line) s ne = absurd s
+started_quiet launch old new Rejected s ne = absurd s
+started_quiet launch old new (Plan fault) s ne = absurd s
+started_quiet launch old new (FetchRead href) s ne = absurd s
+started_quiet launch old new (NoRemote href) s ne = absurd s
+started_quiet launch old new (WrongSize href said got) s ne = absurd s
+started_quiet launch old new (Overlap path) s ne = absurd s
+started_quiet launch old new (NoPath path) s ne = absurd s
+started_quiet launch old new (Mismatch right found) s ne = absurd s
+started_quiet launch old new (MissingTree missing) s ne = absurd s
+started_quiet launch old new (DamagedTree damaged found) s ne = absurd s
+started_quiet launch old new (BadName path) s ne = absurd s
+started_quiet launch old new (TreeTooLarge what limit) s ne = absurd s
+started_quiet launch old new (StoreFault blame) s ne = absurd s
+started_quiet launch old new (Crowded tried) s ne = absurd s
+started_quiet launch old new (Unwritable place) s ne = absurd s
+started_quiet launch old new SpawnFault s ne = s.0.ran
+started_quiet launch old new SinkFault s ne = absurd s
+started_quiet launch old new Memory s ne = ap ran_in s
+started_quiet launch old new (Child n) s ne = absurd (ne n refl)
+
+over_quiet : (task : Task) (before after : Lent) (outcome : Outcome) → LaunchesOver task before after outcome → ((n : ℕ) → outcome ≢ Child n) → after.spawner.ran ≡ before.spawner.ran
+over_quiet task before after outcome (inl (not, same)) ne = ap ran_in same
+over_quiet task before after outcome (inr (launch, ready, starts)) ne = started_quiet launch before.spawner after.spawner outcome starts ne
+
+pub run_quiet : (ask : Ask) (vars : List Var) (user : List (List ℕ)) (before after : Surroundings) (outcome : Outcome) → RunsProgram ask vars user before after outcome → ((n : ℕ) → outcome ≢ Child n)
+    → after.spawner.ran ≡ before.spawner.ran
+run_quiet ask vars user before after outcome r ne = by r.comes
+  where
+    by : RunsTo ask vars user r.tried before after outcome → after.spawner.ran ≡ before.spawner.ran
+    by (inl (found, fetched, nothing)) = ap ran_in nothing
+    by (inr (c, chosen, inl stops)) = ap ran_in stops.nothing
+    by (inr (c, chosen, inr l)) = over_quiet _ (launching before) (launching after) outcome l.launches ne
+
+pub launch_quiet : (file : List ℕ) (vars : List Var) (user : List (List ℕ)) (before after : Surroundings) (outcome : Outcome) → LaunchesFile file vars user before after outcome → ((n : ℕ) → outcome ≢ Child n)
+    → after.spawner.ran ≡ before.spawner.ran
+launch_quiet file vars user before after outcome l ne = by l.comes
+  where
+    by : LaunchesTo file vars user before after outcome → after.spawner.ran ≡ before.spawner.ran
+    by (inl (gets, leaves)) = ap ran_in leaves.nothing
+    by (inr (sels, gets, inl (none, nothing))) = ap ran_in nothing
+    by (inr (sels, gets, inr (stored, are, over))) = over_quiet _ (launching before) (launching after) outcome over ne
+
+-- Never Usage.
+condemned_right : (d : DigestName) (v : Verdict) (index : ℕ) → Condemns d v (Usage index) → ⊥
+condemned_right d verdict.Sound index w = w
+condemned_right d verdict.Missing index w = (cc w)
+condemned_right d (verdict.Damaged found) index w = (cc w)
+condemned_right d (verdict.BadName path) index w = (cc w)
+condemned_right d (verdict.TooLarge what limit) index w = (cc w)
+
+fails_right : (d : DigestName) (before after : Shelving) (index : ℕ) → FailsToVerify d before (Usage index) after → ⊥
+fails_right d before after index (inl (v, why, calm, held)) = condemned_right d v index why
+fails_right d before after index (inr (inl (e, failed))) = (cc e)
+fails_right d before after index (inr (inr (e, calm))) = (cc e)
+
+prepares_right : (task : Task) (before after : Shelving) (index : ℕ) → PreparesNot task before (Usage index) after → ⊥
+prepares_right task before after index (inl (inl (d, m, e), calm)) = (cc e)
+prepares_right task before after index (inl (inr e, calm)) = (cc e)
+prepares_right task before after index (inr (inl (inl (fault, e, plan), calm))) = (cc e)
+prepares_right task before after index (inr (inl (inr e, calm))) = (cc e)
+prepares_right task before after index (inr (inr u)) = fails_right u.stops.name before after index u.stops.fails
+
+over_right : (task : Task) (before after : Lent) (index : ℕ) → LaunchesOver task before after (Usage index) → ⊥
+over_right task before after index (inl (not, same)) = prepares_right task before.shelf after.shelf index not
+over_right task before after index (inr (launch, ready, starts)) = starts
+
+pub run_right : (ask : Ask) (vars : List Var) (user : List (List ℕ)) (before after : Surroundings) (index : ℕ) → RunsProgram ask vars user before after (Usage index) → ⊥
+run_right ask vars user before after index r = by r.comes
+  where
+    by : RunsTo ask vars user r.tried before after (Usage index) → ⊥
+    by (inl (inl none, fetched, nothing)) = none.0
+    by (inl (inr found, fetched, nothing)) = found.1.2
+    by (inr (c, chosen, inl stops)) = not_right c before.web index r.tried after.web stops.fetches
+    by (inr (c, chosen, inr l)) = over_right _ (launching before) (launching after) index l.launches
+
+pub launch_right : (file : List ℕ) (vars : List Var) (user : List (List ℕ)) (before after : Surroundings) (index : ℕ) → LaunchesFile file vars user before after (Usage index) → ⊥
+launch_right file vars user before after index l = by l.comes
+  where
+    by : LaunchesTo file vars user before after (Usage index) → ⊥
+    by (inl (gets, leaves)) = gets
+    by (inr (sels, gets, inl (none, nothing))) = none
+    by (inr (sels, gets, inr (stored, are, over))) = over_right _ (launching before) (launching after) index over

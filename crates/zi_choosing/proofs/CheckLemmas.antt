@@ -1,0 +1,383 @@
+-- The check of selections, and what it means for the words that asked for it.
+use Rattle.std.proofs.Common.{◌≡◌, ◌≢◌, ℕ, ◌⊎◌, inl, inr, Bool, true, false, List, refl, sym, ap, subst, ◌∙◌, Decides}
+use Rattle.zi_digest.specs.declared.DigestName.{DigestName}
+use Rattle.zi_outside.specs.Views.{Feeding, Sinking}
+use Rattle.zi_words.specs.declared.request.Ask.{Ask}
+use Rattle.zi_universe.specs.declared.types.Interface.{Interface}
+use Rattle.zi_universe.specs.declared.types.Requirement.{Requirement}
+use Rattle.zi_universe.specs.declared.fault.LoadFault.{LoadFault}
+use Rattle.zi_universe.specs.declared.fault.LoadFault.TheVariants as load
+use Rattle.zi_choice.specs.Choice.{Choice}
+use Rattle.zi_choice.specs.Valid.{IsValid}
+use Rattle.zi_choice.specs.Best.{IsBest}
+use Rattle.zi_certificate.specs.Certificates.{Excludes}
+use Rattle.zi_build.specs.declared.building.BuildFault.{BuildFault}
+use Rattle.zi_build.specs.declared.building.BuildFault.TheVariants as build
+use Rattle.zi_build.specs.Answers.{FaultMeans}
+use Rattle.zi_proof.specs.declared.proof.Certificate.{Certificate}
+use Rattle.zi_proof.specs.declared.fault.ProofFault.TheVariants.{Bad}
+use Rattle.zi_proof.specs.ProofText.{IsProofText, FaultMeans as ProofFaultMeans}
+use Rattle.zi_sels.specs.declared.types.Selection.{Selection}
+use Rattle.zi_sels.specs.declared.types.Selections.{Selections}
+use Rattle.zi_sels.specs.declared.fault.SelsFault.{SelsFault}
+use Rattle.zi_sels.specs.declared.fault.SelsFault.TheVariants as fault
+use Rattle.zi_sels.specs.Reading.{Says, HasFault, FaultMeans as SelsFaultMeans}
+use Rattle.zi_outcome.specs.declared.outcome.Outcome.{Outcome}
+use Rattle.zi_outcome.specs.declared.outcome.Outcome.TheVariants.{Done, Usage, FeedRead, NoRootFeed, BadFeed, FeedTooLong, TooManyFeeds, TooManyInterfaces, TooManyCandidates, TooLarge, NoSolution, Spent, NoFile, BadSels, BadProof, Rejected, Plan, FetchRead, NoRemote, WrongSize, Overlap, NoPath, Mismatch, MissingTree, DamagedTree, BadName, TreeTooLarge, StoreFault, Crowded, Unwritable, SpawnFault, SinkFault, Memory, Child}
+use Rattle.zi_outcome.specs.Refused.{outcome_of}
+use Rattle.zi_outcome.specs.Writing.{Prints}
+use Rattle.std.proofs.lemmas.Bool.{false≢true}
+use Rattle.zi_world.specs.Asking.{FeedsStay}
+use Rattle.zi_world.proofs.AskingLemmas.{asks_stay, unasked_stay}
+use Rattle.zi_choosing.specs.Wanted.{requirement_of}
+use Rattle.zi_choosing.specs.Loaded.{Lent, IsLoaded, IsRefused, AreFew, build_outcome}
+use Rattle.zi_choosing.specs.Refute.{proof_limit, yes_line, Loads, AsksFor, Gets, IsAbsent, IsUnread}
+use Rattle.zi_choosing.specs.RefuteParts.{IsUnreadable}
+use Rattle.zi_choosing.specs.Named.{AreCandidates, choice_of, AreAskedFor, AreOwn}
+use Rattle.zi_choosing.specs.Check.{sels_limit, GetsWithin, IsLonger, ReadsSels, AreRight, AreFound, IsCertified, AreWrong, AreTooLarge, ChecksOver}
+use Rattle.zi_choosing.specs.CheckParts.{Judges, JudgesNot, AreNot, SaysOf, SaysBy, IsMissing, ChecksBy, AreUnsaid, ChecksText, ChecksFile}
+
+fails : {P : Type 0} (said : Bool) → Decides said P → said ≡ false → P → ⊥
+fails said tells e p = false≢true (sym e ∙ tells.1 p)
+
+-- The tests, in their order.
+module _ (u : List Interface) (req : Requirement) (sels : Selections) (c : Certificate) where
+  -- the first, of a universe and selections as they are lent
+  tells_candidates : (v : List Interface) (items : List Selection) (found : Bool) → v ≡ u → items ≡ sels.items → Decides found (AreCandidates v items) → Decides found (AreCandidates u sels.items)
+  tells_candidates v items found same all tells = subst (λ w. Decides found (AreCandidates w sels.items)) same (subst (λ is. Decides found (AreCandidates v is)) all tells)
+
+  pub no_candidates : (v : List Interface) (items : List Selection) (found : Bool) → v ≡ u → items ≡ sels.items → Decides found (AreCandidates v items) → found ≡ false → AreWrong u req sels c
+  no_candidates v items found same all tells e = inl (fails found (tells_candidates v items found same all tells) e)
+
+  pub not_asked : (v : List Interface) (items : List Selection) (found asked : Bool) → v ≡ u → items ≡ sels.items → Decides found (AreCandidates v items) → found ≡ true
+      → Decides asked (AreAskedFor req sels) → asked ≡ false → AreWrong u req sels c
+  not_asked v items found asked same all tells e asks f = inr (inl ((tells_candidates v items found same all tells).0 e, fails asked asks f))
+
+  pub unbuilt : (v : List Interface) (items : List Selection) (found asked : Bool) (lacks : BuildFault) → v ≡ u → items ≡ sels.items → Decides found (AreCandidates v items) → found ≡ true
+      → Decides asked (AreAskedFor req sels) → asked ≡ true → FaultMeans u req lacks → JudgesNot u req sels lacks
+  unbuilt v items found asked (build.TooLarge limit) same all tells e asks f means = (((tells_candidates v items found same all tells).0 e, asks.0 f), means)
+  unbuilt v items found asked build.Memory same all tells e asks f means = tt
+
+  -- the choice that is found is that of the selections
+  found_is : (s : Choice) (items : List Selection) → s ≡ choice_of u items → items ≡ sels.items → s ≡ choice_of u sels.items
+  found_is s items is all = is ∙ ap (choice_of u) all
+
+  pub not_certified : (v : List Interface) (items more : List Selection) (found asked best : Bool) (s : Choice) → v ≡ u → items ≡ sels.items → Decides found (AreCandidates v items) → found ≡ true
+      → Decides asked (AreAskedFor req sels) → asked ≡ true → s ≡ choice_of u more → more ≡ sels.items → AreFew u req → Decides best (IsValid u req s × Excludes u req s c) → best ≡ false → AreWrong u req sels c
+  not_certified v items more found asked best s same all tells e asks f is rest few certified g =
+      inr (inr (inl (
+        ((tells_candidates v items found same all tells).0 e, asks.0 f),
+        few,
+        fails best (subst (λ r. Decides best (IsValid u req r × Excludes u req r c)) (found_is s more is rest) certified) g,
+      )))
+
+  told : (own : Bool) → AreCandidates u sels.items → AreAskedFor req sels → AreFew u req → IsCertified u req sels c → IsBest u req (choice_of u sels.items)
+      → Decides own (AreOwn u req (choice_of u sels.items) sels) → Judges u req sels c own
+  told true are asked few certified best tells =
+      record { candidates = are; asked = asked; few = few; valid = certified.0; excludes = certified.1; best = best; own = tells.0 refl }
+  told false are asked few certified best tells = inr (inr (inr ((are, asked), few, certified, fails false tells refl)))
+
+  pub judged : (v : List Interface) (items more : List Selection) (found asked best own : Bool) (s : Choice) → v ≡ u → items ≡ sels.items → Decides found (AreCandidates v items) → found ≡ true
+      → Decides asked (AreAskedFor req sels) → asked ≡ true → s ≡ choice_of u more → more ≡ sels.items → AreFew u req → Decides best (IsValid u req s × Excludes u req s c) → best ≡ true
+      → (best ≡ true → IsBest u req s) → Decides own (AreOwn u req s sels) → Judges u req sels c own
+  judged v items more found asked best own s same all tells e asks f is rest few certified g h owns =
+      let now : s ≡ choice_of u sels.items = found_is s more is rest in
+      told own ((tells_candidates v items found same all tells).0 e) (asks.0 f) few ((subst (λ r. Decides best (IsValid u req r × Excludes u req r c)) now certified).0 g)
+      (subst (λ r. IsBest u req r) now (h g)) (subst (λ r. Decides own (AreOwn u req r sels)) now owns)
+
+  -- what they say
+  pub says_yes : (old new : Sinking) (outcome : Outcome) (said : Bool) → said ≡ true → Judges u req sels c said → Prints yes_line old new outcome → SaysOf u req sels c old new outcome
+  says_yes old new outcome said e j w = inl (subst (λ b. Judges u req sels c b) e j, w)
+
+  pub says_no : (out : Sinking) (said : Bool) → said ≡ false → Judges u req sels c said → SaysOf u req sels c out out Rejected
+  says_no out said e j = inr (subst (λ b. Judges u req sels c b) e j, refl)
+
+  pub says_none : (out : Sinking) (outcome : Outcome) (e : BuildFault) → JudgesNot u req sels e → outcome ≡ build_outcome e → SaysOf u req sels c out out outcome
+  says_none out outcome (build.TooLarge limit) why is = subst (λ x. SaysOf u req sels c out out x) (sym is) (inr (why, refl))
+  says_none out outcome build.Memory why is = subst (λ x. SaysOf u req sels c out out x) (sym is) (inr (tt, refl))
+
+-- a fault of the bytes
+pub says_fault : (bytes : List ℕ) (f : SelsFault) → SelsFaultMeans bytes f → f ≢ fault.Memory → HasFault bytes f
+says_fault bytes f (inl e) other = absurd (other e)
+says_fault bytes f (inr h) other = h
+
+-- Why nothing is written, one cause beside the other.
+abbrev Cause : Outcome → Outcome → Type 0 → Type 0
+Cause outcome ending Is = (outcome ≡ ending) × Is
+
+abbrev Missing : ℕ → List ℕ → Feeding → Feeding → Outcome → Type 0
+Missing most name before after outcome =
+    Cause outcome (NoFile name) (IsAbsent name before after)
+    ⊎ (((limit : ℕ) × Cause outcome (FeedTooLong name limit) (IsLonger most name before after limit))
+    ⊎ (Cause outcome (FeedRead name) (IsUnread name before after) ⊎ Cause outcome Memory (after ≡ before)))
+
+missing : (most : ℕ) (name : List ℕ) (before after : Feeding) (outcome : Outcome) → IsMissing most name before after outcome → Missing most name before after outcome
+missing most name before after Done why = absurd why
+missing most name before after (Usage index) why = absurd why
+missing most name before after (FeedRead uri) why = inr (inr (inl (ap FeedRead why.0, why.1)))
+missing most name before after NoRootFeed why = absurd why
+missing most name before after (BadFeed uri fault) why = absurd why
+missing most name before after (FeedTooLong uri limit) why = inr (inl (limit, (ap (λ n. FeedTooLong n limit) why.0, why.1)))
+missing most name before after (TooManyFeeds limit) why = absurd why
+missing most name before after (TooManyInterfaces limit) why = absurd why
+missing most name before after (TooManyCandidates limit) why = absurd why
+missing most name before after (TooLarge limit) why = absurd why
+missing most name before after (NoSolution refutation) why = absurd why
+missing most name before after (Spent refutation count) why = absurd why
+missing most name before after (NoFile absent) why = inl (ap NoFile why.0, why.1)
+missing most name before after (BadSels fault) why = absurd why
+missing most name before after (BadProof line) why = absurd why
+missing most name before after Rejected why = absurd why
+missing most name before after (Plan fault) why = absurd why
+missing most name before after (FetchRead href) why = absurd why
+missing most name before after (NoRemote href) why = absurd why
+missing most name before after (WrongSize href said got) why = absurd why
+missing most name before after (Overlap path) why = absurd why
+missing most name before after (NoPath path) why = absurd why
+missing most name before after (Mismatch wanted found) why = absurd why
+missing most name before after (MissingTree lost) why = absurd why
+missing most name before after (DamagedTree damaged found) why = absurd why
+missing most name before after (BadName path) why = absurd why
+missing most name before after (TreeTooLarge what limit) why = absurd why
+missing most name before after (StoreFault top) why = absurd why
+missing most name before after (Crowded tried) why = absurd why
+missing most name before after (Unwritable place) why = absurd why
+missing most name before after SpawnFault why = absurd why
+missing most name before after SinkFault why = absurd why
+missing most name before after Memory why = inr (inr (inr (refl, why)))
+missing most name before after (Child status) why = absurd why
+
+abbrev Unsaid : List ℕ → Outcome → Type 0
+Unsaid bytes outcome = ((f : SelsFault) × Cause outcome (BadSels f) (HasFault bytes f)) ⊎ (outcome ≡ Memory)
+
+unsaid : (bytes : List ℕ) (outcome : Outcome) → AreUnsaid bytes outcome → Unsaid bytes outcome
+unsaid bytes Done why = absurd why
+unsaid bytes (Usage index) why = absurd why
+unsaid bytes (FeedRead uri) why = absurd why
+unsaid bytes NoRootFeed why = absurd why
+unsaid bytes (BadFeed uri fault) why = absurd why
+unsaid bytes (FeedTooLong uri limit) why = absurd why
+unsaid bytes (TooManyFeeds limit) why = absurd why
+unsaid bytes (TooManyInterfaces limit) why = absurd why
+unsaid bytes (TooManyCandidates limit) why = absurd why
+unsaid bytes (TooLarge limit) why = absurd why
+unsaid bytes (NoSolution refutation) why = absurd why
+unsaid bytes (Spent refutation count) why = absurd why
+unsaid bytes (NoFile absent) why = absurd why
+unsaid bytes (BadSels fault) why = inl (fault, (refl, why))
+unsaid bytes (BadProof line) why = absurd why
+unsaid bytes Rejected why = absurd why
+unsaid bytes (Plan fault) why = absurd why
+unsaid bytes (FetchRead href) why = absurd why
+unsaid bytes (NoRemote href) why = absurd why
+unsaid bytes (WrongSize href said got) why = absurd why
+unsaid bytes (Overlap path) why = absurd why
+unsaid bytes (NoPath path) why = absurd why
+unsaid bytes (Mismatch wanted found) why = absurd why
+unsaid bytes (MissingTree lost) why = absurd why
+unsaid bytes (DamagedTree damaged found) why = absurd why
+unsaid bytes (BadName path) why = absurd why
+unsaid bytes (TreeTooLarge what limit) why = absurd why
+unsaid bytes (StoreFault top) why = absurd why
+unsaid bytes (Crowded tried) why = absurd why
+unsaid bytes (Unwritable place) why = absurd why
+unsaid bytes SpawnFault why = absurd why
+unsaid bytes SinkFault why = absurd why
+unsaid bytes Memory why = inr refl
+unsaid bytes (Child status) why = absurd why
+
+abbrev Unreadable : List ℕ → Outcome → Type 0
+Unreadable bytes outcome = ((line : ℕ) × Cause outcome (BadProof line) (ProofFaultMeans bytes (Bad line))) ⊎ (outcome ≡ Memory)
+
+unreadable : (bytes : List ℕ) (outcome : Outcome) → IsUnreadable bytes outcome → Unreadable bytes outcome
+unreadable bytes Done why = absurd why
+unreadable bytes (Usage index) why = absurd why
+unreadable bytes (FeedRead uri) why = absurd why
+unreadable bytes NoRootFeed why = absurd why
+unreadable bytes (BadFeed uri fault) why = absurd why
+unreadable bytes (FeedTooLong uri limit) why = absurd why
+unreadable bytes (TooManyFeeds limit) why = absurd why
+unreadable bytes (TooManyInterfaces limit) why = absurd why
+unreadable bytes (TooManyCandidates limit) why = absurd why
+unreadable bytes (TooLarge limit) why = absurd why
+unreadable bytes (NoSolution refutation) why = absurd why
+unreadable bytes (Spent refutation count) why = absurd why
+unreadable bytes (NoFile absent) why = absurd why
+unreadable bytes (BadSels fault) why = absurd why
+unreadable bytes (BadProof line) why = inl (line, (refl, why))
+unreadable bytes Rejected why = absurd why
+unreadable bytes (Plan fault) why = absurd why
+unreadable bytes (FetchRead href) why = absurd why
+unreadable bytes (NoRemote href) why = absurd why
+unreadable bytes (WrongSize href said got) why = absurd why
+unreadable bytes (Overlap path) why = absurd why
+unreadable bytes (NoPath path) why = absurd why
+unreadable bytes (Mismatch wanted found) why = absurd why
+unreadable bytes (MissingTree lost) why = absurd why
+unreadable bytes (DamagedTree damaged found) why = absurd why
+unreadable bytes (BadName path) why = absurd why
+unreadable bytes (TreeTooLarge what limit) why = absurd why
+unreadable bytes (StoreFault top) why = absurd why
+unreadable bytes (Crowded tried) why = absurd why
+unreadable bytes (Unwritable place) why = absurd why
+unreadable bytes SpawnFault why = absurd why
+unreadable bytes SinkFault why = absurd why
+unreadable bytes Memory why = inr refl
+unreadable bytes (Child status) why = absurd why
+
+abbrev Not : List Interface → Requirement → Selections → Certificate → Outcome → Type 0
+Not u req sels c outcome =
+    Cause outcome Rejected (AreWrong u req sels c) ⊎ (((limit : ℕ) × Cause outcome (TooLarge limit) (AreTooLarge u req sels limit)) ⊎ (outcome ≡ Memory))
+
+are_not : (u : List Interface) (req : Requirement) (sels : Selections) (c : Certificate) (outcome : Outcome) → AreNot u req sels c outcome → Not u req sels c outcome
+are_not u req sels c Done why = absurd why
+are_not u req sels c (Usage index) why = absurd why
+are_not u req sels c (FeedRead uri) why = absurd why
+are_not u req sels c NoRootFeed why = absurd why
+are_not u req sels c (BadFeed uri fault) why = absurd why
+are_not u req sels c (FeedTooLong uri limit) why = absurd why
+are_not u req sels c (TooManyFeeds limit) why = absurd why
+are_not u req sels c (TooManyInterfaces limit) why = absurd why
+are_not u req sels c (TooManyCandidates limit) why = absurd why
+are_not u req sels c (TooLarge limit) why = inr (inl (limit, (refl, why)))
+are_not u req sels c (NoSolution refutation) why = absurd why
+are_not u req sels c (Spent refutation count) why = absurd why
+are_not u req sels c (NoFile absent) why = absurd why
+are_not u req sels c (BadSels fault) why = absurd why
+are_not u req sels c (BadProof line) why = absurd why
+are_not u req sels c Rejected why = inl (refl, why)
+are_not u req sels c (Plan fault) why = absurd why
+are_not u req sels c (FetchRead href) why = absurd why
+are_not u req sels c (NoRemote href) why = absurd why
+are_not u req sels c (WrongSize href said got) why = absurd why
+are_not u req sels c (Overlap path) why = absurd why
+are_not u req sels c (NoPath path) why = absurd why
+are_not u req sels c (Mismatch wanted found) why = absurd why
+are_not u req sels c (MissingTree lost) why = absurd why
+are_not u req sels c (DamagedTree damaged found) why = absurd why
+are_not u req sels c (BadName path) why = absurd why
+are_not u req sels c (TreeTooLarge what limit) why = absurd why
+are_not u req sels c (StoreFault top) why = absurd why
+are_not u req sels c (Crowded tried) why = absurd why
+are_not u req sels c (Unwritable place) why = absurd why
+are_not u req sels c SpawnFault why = absurd why
+are_not u req sels c SinkFault why = absurd why
+are_not u req sels c Memory why = inr (inr refl)
+are_not u req sels c (Child status) why = absurd why
+
+-- Behind the loading.
+module _ (ask : Ask) (name proof : List ℕ) (stored : List DigestName) (before after : Lent) where
+  abbrev Over : Outcome → Type 0
+  Over outcome = ChecksOver ask name proof stored before after outcome
+
+  -- behind the selections
+  module _ (read : ReadsSels stored ask name before.feeds) where
+    module _ (c : Certificate) (bytes : List ℕ) (got : Gets proof read.feeds after.feeds bytes) (text : IsProofText bytes c) where
+      yes_as : (outcome : Outcome) → AreRight read.there.universe (requirement_of ask) read.sels c → Prints yes_line before.out after.out outcome → Over outcome
+      yes_as outcome right (inl (w, e)) =
+          subst Over (sym e) (record { read = read; certificate = c; reads = record { bytes = bytes; got = got; text = text }; are = right }, w)
+      yes_as outcome right (inr (inl (w, e))) =
+          subst Over (sym e) (record { read = read; certificate = c; reads = record { bytes = bytes; got = got; text = text }; are = right }, w)
+      yes_as outcome right (inr (inr (w, e))) =
+          subst Over (sym e) (inr (inr (inr (inr (record { read = read; certificate = c; reads = record { bytes = bytes; got = got; text = text }; are = right }, w)))))
+
+      not_as : (outcome : Outcome) → Not read.there.universe (requirement_of ask) read.sels c outcome → after.out ≡ before.out → Over outcome
+      not_as outcome (inl (e, wrong)) w =
+          subst Over (sym e) (record { read = read; certificate = c; reads = record { bytes = bytes; got = got; text = text }; are = wrong }, w)
+      not_as outcome (inr (inl (limit, (e, large)))) w =
+          subst Over (sym e) (record { read = read; certificate = c; reads = record { bytes = bytes; got = got; text = text }; are = large }, w)
+      not_as outcome (inr (inr e)) w = subst Over (sym e) (inr (inr (inr (inl ((read, got.asked), w)))))
+
+    bad_as : (bytes : List ℕ) (outcome : Outcome) → Gets proof read.feeds after.feeds bytes → Unreadable bytes outcome → after.out ≡ before.out → Over outcome
+    bad_as bytes outcome got (inl (line, (e, bad))) w = subst Over (sym e) ((read, record { bytes = bytes; got = got; bad = bad }), w)
+    bad_as bytes outcome got (inr e) w = subst Over (sym e) (inr (inr (inr (inl ((read, got.asked), w)))))
+
+    no_proof_as : (outcome : Outcome) → Missing proof_limit proof read.feeds after.feeds outcome → after.out ≡ before.out → Over outcome
+    no_proof_as outcome (inl (e, absent)) w = subst Over (sym e) (inr (refl, (read, absent)), w)
+    no_proof_as outcome (inr (inl (limit, (e, longer)))) w = subst Over (sym e) (inr (inr (refl, (read, longer)), w))
+    no_proof_as outcome (inr (inr (inl (e, unread)))) w = subst Over (sym e) (inr (inr (refl, (read, unread)), w))
+    no_proof_as outcome (inr (inr (inr (e, same)))) w =
+        subst Over (sym e) (inr (inr (inl ((read.there, inr (subst (λ f. AsksFor name read.there.feeds f) (sym same) read.got.asked)), w))))
+
+    by_as : (outcome : Outcome) → ChecksBy read.there.universe (requirement_of ask) read.sels proof (record { feeds = read.feeds; out = before.out }) after outcome → Over outcome
+    by_as outcome (inl (bytes, got, inl (c, text, inl (right, w)))) = yes_as c bytes got text outcome right w
+    by_as outcome (inl (bytes, got, inl (c, text, inr (why, w)))) =
+        not_as c bytes got text outcome (are_not read.there.universe (requirement_of ask) read.sels c outcome why) w
+    by_as outcome (inl (bytes, got, inr (why, w))) = bad_as bytes outcome got (unreadable bytes outcome why) w
+    by_as outcome (inr (why, w)) = no_proof_as outcome (missing proof_limit proof read.feeds after.feeds outcome why) w
+
+  module _ (there : Loads stored ask before.feeds) where
+    unsaid_as : (mid : Feeding) (bytes : List ℕ) (outcome : Outcome) → GetsWithin sels_limit name there.feeds mid bytes → Unsaid bytes outcome → after ≡ record { feeds = mid; out = before.out } → Over outcome
+    unsaid_as mid bytes outcome got (inl (f, (e, bad))) same =
+        let now : GetsWithin sels_limit name there.feeds after.feeds bytes = subst (λ g. GetsWithin sels_limit name there.feeds g bytes) (sym (ap (λ l. l.feeds) same)) got in
+        subst Over (sym e) ((there, record { bytes = bytes; got = now; bad = bad }), ap (λ l. l.out) same)
+    unsaid_as mid bytes outcome got (inr e) same =
+        let now : AsksFor name there.feeds after.feeds = subst (λ g. AsksFor name there.feeds g) (sym (ap (λ l. l.feeds) same)) got.asked in
+        subst Over (sym e) (inr (inr (inl ((there, inr now), ap (λ l. l.out) same))))
+
+    no_sels_as : (outcome : Outcome) → Missing sels_limit name there.feeds after.feeds outcome → after.out ≡ before.out → Over outcome
+    no_sels_as outcome (inl (e, absent)) w = subst Over (sym e) (inl (refl, (there, absent)), w)
+    no_sels_as outcome (inr (inl (limit, (e, longer)))) w = subst Over (sym e) (inr (inl (refl, (there, longer)), w))
+    no_sels_as outcome (inr (inr (inl (e, unread)))) w = subst Over (sym e) (inr (inl (refl, (there, unread)), w))
+    no_sels_as outcome (inr (inr (inr (e, same)))) w = subst Over (sym e) (inr (inr (inl ((there, inl same), w))))
+
+    pub file_as : (outcome : Outcome) → ChecksFile there.universe (requirement_of ask) name proof (record { feeds = there.feeds; out = before.out }) after outcome → Over outcome
+    file_as outcome (inl (mid, bytes, got, inl (sels, says, checks))) =
+        by_as (record { there = there; sels = sels; bytes = bytes; feeds = mid; got = got; says = says }) outcome checks
+    file_as outcome (inl (mid, bytes, got, inr (why, same))) = unsaid_as mid bytes outcome got (unsaid bytes outcome why) same
+    file_as outcome (inr (why, w)) = no_sels_as outcome (missing sels_limit name there.feeds after.feeds outcome why) w
+
+  -- what a loading that was refused comes to
+  pub check_refused : (e : LoadFault) (outcome : Outcome) → IsRefused stored ask before.feeds after.feeds e → after.out ≡ before.out → outcome ≡ outcome_of e → Over outcome
+  check_refused e outcome r w is = subst Over (sym is) (by e r)
+    where
+      by : (e : LoadFault) → IsRefused stored ask before.feeds after.feeds e → Over (outcome_of e)
+      by (load.FeedRead uri) r = inl (r, w)
+      by load.NoRootFeed r = (r, w)
+      by (load.BadFeed uri fault) r = (r, w)
+      by (load.FeedTooLong uri limit) r = inl (r, w)
+      by (load.TooManyFeeds limit) r = (r, w)
+      by (load.TooManyInterfaces limit) r = (r, w)
+      by (load.TooManyCandidates limit) r = (r, w)
+      by load.Memory r = inr (inl (r, w))
+
+  -- the check over the universe that was loaded
+  pub checked : (req : Requirement) (mid : Feeding) (u : List Interface) (outcome : Outcome) → req ≡ requirement_of ask → IsLoaded stored ask before.feeds mid u
+      → ChecksFile u req name proof (record { feeds = mid; out = before.out }) after outcome → Over outcome
+  checked req mid u outcome at_req loaded checks =
+      file_as (record { universe = u; feeds = mid; loaded = loaded }) outcome
+      (subst (λ r. ChecksFile u r name proof (record { feeds = mid; out = before.out }) after outcome) at_req checks)
+
+-- there was no memory for the task
+pub check_no_task : (ask : Ask) (name proof : List ℕ) (stored : List DigestName) (lent : Lent) → ChecksOver ask name proof stored lent lent Memory
+check_no_task ask name proof stored lent = inl refl
+
+-- The feeds hold what they held.
+stay_then : (before mid after : Feeding) → FeedsStay before mid → FeedsStay mid after → FeedsStay before after
+stay_then before mid after a b = record { holds = b.holds ∙ a.holds; plan = b.plan ∙ a.plan }
+
+missing_stays : (most : ℕ) (name : List ℕ) (before after : Feeding) (outcome : Outcome) → Missing most name before after outcome → FeedsStay before after
+missing_stays most name before after outcome (inl (e, absent)) = asks_stay _ before after absent.0.asked
+missing_stays most name before after outcome (inr (inl (limit, (e, longer)))) = asks_stay _ before after longer.0.asked
+missing_stays most name before after outcome (inr (inr (inl (e, unread)))) = asks_stay _ before after unread.0
+missing_stays most name before after outcome (inr (inr (inr (e, same)))) = unasked_stay before after same
+
+by_stays : (u : List Interface) (req : Requirement) (sels : Selections) (proof : List ℕ) (before after : Lent) (outcome : Outcome) → ChecksBy u req sels proof before after outcome → FeedsStay before.feeds after.feeds
+by_stays u req sels proof before after outcome (inl (bytes, got, says)) = asks_stay _ before.feeds after.feeds got.asked.asked
+by_stays u req sels proof before after outcome (inr (why, w)) =
+    missing_stays proof_limit proof before.feeds after.feeds outcome (missing proof_limit proof before.feeds after.feeds outcome why)
+
+text_stays : (u : List Interface) (req : Requirement) (bytes proof : List ℕ) (before after : Lent) (outcome : Outcome) → ChecksText u req bytes proof before after outcome → FeedsStay before.feeds after.feeds
+text_stays u req bytes proof before after outcome (inl (sels, says, checks)) = by_stays u req sels proof before after outcome checks
+text_stays u req bytes proof before after outcome (inr (why, same)) = unasked_stay before.feeds after.feeds (ap (λ l. l.feeds) same)
+
+file_stays : (u : List Interface) (req : Requirement) (name proof : List ℕ) (before after : Lent) (outcome : Outcome) → ChecksFile u req name proof before after outcome → FeedsStay before.feeds after.feeds
+file_stays u req name proof before after outcome (inl (mid, bytes, got, checks)) =
+    stay_then before.feeds mid after.feeds (asks_stay _ before.feeds mid got.asked.asked)
+    (text_stays u req bytes proof (record { feeds = mid; out = before.out }) after outcome checks)
+file_stays u req name proof before after outcome (inr (why, w)) =
+    missing_stays sels_limit name before.feeds after.feeds outcome (missing sels_limit name before.feeds after.feeds outcome why)
+
+pub check_stays : (u : List Interface) (req : Requirement) (name proof : List ℕ) (before : Feeding) (lent after : Lent) (outcome : Outcome) → FeedsStay before lent.feeds
+    → ChecksFile u req name proof lent after outcome → FeedsStay before after.feeds
+check_stays u req name proof before lent after outcome s checks = stay_then before lent.feeds after.feeds s (file_stays u req name proof lent after outcome checks)

@@ -1,0 +1,197 @@
+-- What a download comes to, stage by stage.
+use Rattle.std.proofs.Common.{◌≡◌, ℕ, suc, ◌⊎◌, inl, inr, Bool, true, false, ◌||◌, List, [], ◌∷◌, map, Option, Some, None, IsSome, is_some, refl, sym, ◌∙◌, ap, subst, arith, All, Contains, bytes_eq, Ok, Err}
+use Rattle.std.specs.List.{list_any}
+use Rattle.std.proofs.lemmas.List.Elements.{All-nil, All-cons}
+use Rattle.zi_digest.specs.declared.DigestName.{DigestName}
+use Rattle.zi_digest.specs.Name.{spelling}
+use Rattle.zi_tree.specs.Dir.{Dir}
+use Rattle.zi_outside.specs.Views.{Feeding, Sinking}
+use Rattle.zi_policy.specs.Platform.{listed}
+use Rattle.zi_shelf.specs.Names.{Name, IsIn}
+use Rattle.zi_shelf.specs.Shelved.{Top, Shelved}
+use Rattle.zi_shelf.specs.Shelving.{Shelving}
+use Rattle.zi_store.specs.Keeping.{Keeps, is_names, is_reading}
+use Rattle.zi_store.specs.Stored.{NamesStored}
+use Rattle.zi_store.proofs.KeepingLemmas.{keeps_none}
+use Rattle.zi_words.specs.declared.request.Ask.{Ask}
+use Rattle.zi_universe.specs.Naming.{with_one, joined}
+use Rattle.zi_universe.proofs.NamingLemmas.{joined_from, listed-without_repeats, listed-with_one, bytes_eq-true}
+use Rattle.zi_feed.specs.Words.{first}
+use Rattle.zi_sels.specs.declared.types.Selection.{Selection}
+use Rattle.zi_adding.specs.Trying.{Tried, IsDone, Adds, CostsAll}
+use Rattle.zi_adding.specs.Gains.{Uses, IsKept, Gains, GainsOnly}
+use Rattle.zi_adding.proofs.AddingLemmas.{adds_nothing}
+use Rattle.zi_adding.proofs.HistoryLaws.{AreDone, costs_from, uses_gain, names_only_read, reads_use}
+use Rattle.zi_outcome.specs.declared.outcome.Outcome.{Outcome}
+use Rattle.zi_world.specs.StoreRead.{AreStored}
+use Rattle.zi_choosing.specs.declared.finding.Chosen.{Chosen}
+use Rattle.zi_choosing.specs.Finding.{Sources, FindsBest}
+use Rattle.zi_choosing.specs.SelectParts.{PrintsDocument}
+use Rattle.zi_fetching.specs.Known.{Names, is_known, is_there}
+use Rattle.zi_fetching.specs.Fetching.{From, from_chosen, IsFetched, tried_names, names_in, FetchesInTurn, Fetches, FetchesAll}
+use Rattle.zi_fetching.specs.Download.{HasChosen, StandsIn, AreThere, Downloads}
+use Rattle.zi_fetching.proofs.FetchLaws.{turn_done, there_more}
+use Rattle.zi_fetching.proofs.WebLaws.{web_stays}
+use Rattle.zi_world.proofs.AskingLemmas.{feeds_same}
+
+-- What is done to the shelf.
+pub used : (tried : List Tried) (before mid after : Shelving) → Keeps is_names before mid → Adds tried mid after → Uses tried before after
+used tried before mid after k a = reads_use tried before mid after after (names_only_read before mid k) a (keeps_none is_reading after)
+
+-- Nothing was chosen.
+pub unfound : (ask : Ask) (before after : Sources) (web : Feeding) (out : Sinking) (outcome : Outcome) → FindsBest ask before after (Err outcome)
+    → Downloads ask (record { feeds = before.feeds; shelf = before.shelf; web = web; out = out }) (record { feeds = after.feeds; shelf = after.shelf; web = web; out = out }) outcome
+unfound ask before after web out outcome f =
+    let u = used [] before.shelf after.shelf after.shelf f.shelf (adds_nothing after.shelf) in
+    record {
+      feeds = f.feeds;
+      web = feeds_same web;
+      tried = [];
+      comes = inl (f.answer, (refl, refl), refl);
+      shelf = u;
+      stored = uses_gain [] before.shelf after.shelf u;
+    }
+
+-- One of the selections wasn't fetched.
+module _ (ask : Ask) (before mid : Sources) (c : Chosen) (f : FindsBest ask before mid (Ok c)) where
+  pub chosen_so : HasChosen ask before.shelf before.feeds c mid.feeds
+  chosen_so = record { stored = f.answer.1; chosen = f.answer.2 }
+
+  pub cost_so : (tried : List Tried) (after : Shelving) → Adds tried mid.shelf after → CostsAll tried before.shelf after
+  cost_so tried after a = costs_from tried before.shelf mid.shelf after f.answer.0 f.shelf.stays.sure a.cost
+
+  pub unfetched : (web then : Feeding) (after : Shelving) (out : Sinking) (outcome : Outcome) → FetchesAll c (record { web = web; shelf = mid.shelf }) (Err outcome) (record { web = then; shelf = after })
+      → Downloads ask (record { feeds = before.feeds; shelf = before.shelf; web = web; out = out }) (record { feeds = mid.feeds; shelf = after; web = then; out = out }) outcome
+  unfetched web then after out outcome g =
+      let u = used g.tried before.shelf mid.shelf after f.shelf g.adds in
+      record {
+        feeds = f.feeds;
+        web = web_stays c web (Err outcome) g.tried then g.fetches;
+        tried = g.tried;
+        comes = inr (c, chosen_so, cost_so g.tried after g.adds, inl (g.fetches, refl));
+        shelf = u;
+        stored = uses_gain g.tried before.shelf after u;
+      }
+
+-- What is there at the end.
+-- each of them is there once all were fetched
+pub turn_there : (on : From) (xs : List Selection) (stored : Names) (old : Feeding) (tried : List Tried) (new : Feeding) → FetchesInTurn on stored xs old tried new
+    → All (λ x. is_there (joined stored (tried_names tried)) x ≡ true) xs
+turn_there on [] stored old tried new t = All-nil _
+turn_there on (x ∷ xs) stored old tried new (inl (there, rest)) =
+    All-cons (λ y. is_there (joined stored (tried_names tried)) y ≡ true) x xs (there_more stored (tried_names tried) x there) (turn_there on xs stored old tried new rest)
+turn_there on (x ∷ xs) stored old tried new (inr (wanting, (a, rest, mid, is, fetched, turn))) =
+    subst (λ ts. All (λ y. is_there (joined stored (tried_names ts)) y ≡ true) (x ∷ xs)) (sym is)
+    (All-cons (λ y. is_there (joined stored (tried_names (a ∷ rest))) y ≡ true) x xs (own fetched) (turn_there on xs (with_one stored (spelling a.name)) mid rest new turn))
+  where
+    any_first : (p : DigestName → Bool) (ds : List DigestName) (d : DigestName) → first ds ≡ Some d → p d ≡ true → list_any p ds ≡ true
+    any_first p [] d e h = absurd cc
+    any_first p (y ∷ ys) d e h = let s : y ≡ d = cc in subst (λ b. (b || list_any p ys) ≡ true) (sym (ap p s ∙ h)) refl
+
+    or_right : (b c : Bool) → c ≡ true → (b || c) ≡ true
+    or_right true c h = refl
+    or_right false c h = h
+
+    own : IsFetched on x old a mid → is_there (joined stored (tried_names (a ∷ rest))) x ≡ true
+    own f =
+        there_more (with_one stored (spelling a.name)) (tried_names rest) x
+        (or_right (is_some x.local) (list_any (is_known (with_one stored (spelling a.name))) x.digests)
+        (any_first (is_known (with_one stored (spelling a.name))) x.digests a.name f.way.named (listed-with_one (spelling a.name) stored)))
+
+-- a name among those of a list is that of one of them
+among : {X : Type 0} (f : X → Name) (xs : List X) (n : Name) → listed n (map f xs) ≡ true → (x : X) × IsIn x xs × (f x ≡ n)
+among f [] n h = absurd cc
+among {X = X} f (x ∷ xs) n h = by (bytes_eq n (f x)) refl h (among f xs n)
+  where
+    by : (b : Bool) → bytes_eq n (f x) ≡ b → (b || listed n (map f xs)) ≡ true → (listed n (map f xs) ≡ true → (y : X) × IsIn y xs × (f y ≡ n)) → (y : X) × IsIn y (x ∷ xs) × (f y ≡ n)
+    by true e h go = (x, inl refl, sym (bytes_eq-true n (f x) e))
+    by false e h go = let r = go h in (r.0, inr r.1, r.2)
+
+in_all : {X : Type 0} (P : X → Type 0) (xs : List X) (x : X) → All P xs → IsIn x xs → P x
+in_all P [] x a i = absurd i
+in_all P (y ∷ ys) x a (inl e) = subst P (sym e) (a 0 y (omega arith))
+in_all P (y ∷ ys) x a (inr i) = in_all P ys x (λ k d lt. a (suc k) d (omega (arith, lt))) i
+
+all_done : (xs : List Tried) → AreDone xs → All IsDone xs
+all_done [] d = All-nil IsDone
+all_done (x ∷ xs) (d, ds) = All-cons IsDone x xs d (all_done xs ds)
+
+some_by : (o : Option (Top Dir)) (e : Top Dir) → o ≡ Some e → IsSome o
+some_by o e at = subst (λ p. IsSome p) (sym at) refl
+
+done_there : (t : Shelved Dir) (a : Tried) → IsDone a → IsKept t a a.answer → IsSome (t.tops (spelling a.name))
+done_there t a (inl e) k = some_by _ _ (subst (λ x. IsKept t a x) e k)
+done_there t a (inr e) k = subst (λ x. IsKept t a x) e k
+
+any_of : (p : DigestName → Bool) (ds : List DigestName) → list_any p ds ≡ true → (d : DigestName) × Contains ds d × (p d ≡ true)
+any_of p [] h = absurd cc
+any_of p (x ∷ xs) h = by (p x) refl h (any_of p xs)
+  where
+    by : (b : Bool) → p x ≡ b → (b || list_any p xs) ≡ true → (list_any p xs ≡ true → (d : DigestName) × Contains xs d × (p d ≡ true)) → (d : DigestName) × Contains (x ∷ xs) d × (p d ≡ true)
+    by true e h go = (x, (0, omega arith, refl), e)
+    by false e h go = let r = go h in (r.0, (suc r.1.0, omega (arith, r.1.1), r.1.2), r.2)
+
+kept_some : (o p : Option (Top Dir)) → IsSome o → ((e : Top Dir) → o ≡ Some e → p ≡ Some e) → IsSome p
+kept_some (Some e) p h k = subst (λ x. IsSome x) (sym (k e refl)) refl
+kept_some None p h k = absurd cc
+
+module _ (c : Chosen) (tried : List Tried) (s t : Shelved Dir) (done : AreDone tried) (names : NamesStored (Ok c.stored) s) (g : Gains tried s t) where
+  name_there : (n : Name) → listed n (joined (names_in c) (tried_names tried)) ≡ true → IsSome (t.tops n)
+  name_there n h = by (joined_from n (names_in c) (tried_names tried) h)
+    where
+      by : (listed n (names_in c) ≡ true) ⊎ (listed n (tried_names tried) ≡ true) → IsSome (t.tops n)
+      by (inl h) =
+          let r = among spelling c.stored n (sym (listed-without_repeats n (map spelling c.stored)) ∙ h) in
+          let was : IsSome (s.tops (spelling r.0)) = ((names.1 r.0).0 r.1).1 in
+          subst (λ m. IsSome (t.tops m)) r.2 (kept_some (s.tops (spelling r.0)) (t.tops (spelling r.0)) was (g.kept (spelling r.0)))
+      by (inr h) =
+          let r = among (λ (a : Tried). spelling a.name) tried n h in
+          subst (λ m. IsSome (t.tops m)) r.2
+          (done_there t r.0 (in_all IsDone tried r.0 (all_done tried done) r.1) (in_all (λ (a : Tried). IsKept t a a.answer) tried r.0 g.there r.1))
+
+  pub stands : (x : Selection) → is_there (joined (names_in c) (tried_names tried)) x ≡ true → StandsIn t x
+  stands x h = by x.local refl h
+    where
+      by : (o : Option (List ℕ)) → x.local ≡ o → (is_some o || list_any (is_known (joined (names_in c) (tried_names tried))) x.digests) ≡ true → StandsIn t x
+      by (Some path) e h = inl (subst (λ p. IsSome p) (sym e) refl)
+      by None e h = let r = any_of (is_known (joined (names_in c) (tried_names tried))) x.digests h in inr (r.0, r.1, name_there (spelling r.0) r.2)
+
+all_more : {X : Type 0} (P Q : X → Type 0) (xs : List X) → ((x : X) → P x → Q x) → All P xs → All Q xs
+all_more P Q xs f a = λ k d lt. f _ (a k d lt)
+
+pub all_there : (c : Chosen) (tried : List Tried) (old new : Feeding) (stored : Names) (before after : Shelving) → AreStored before c.stored → Fetches c old stored tried new → GainsOnly tried before after
+    → AreThere before after c.sels.items
+all_there c tried old new stored before after names f g = λ s h e.
+    let r = g.gains s h e in
+    let done = turn_done (from_chosen c) c.sels.items (names_in c) old tried new f.in_turn in (
+      r.0,
+      r.1,
+      all_more (λ x. is_there (joined (names_in c) (tried_names tried)) x ≡ true) (StandsIn r.0.shelf) c.sels.items
+          (stands c tried s.shelf r.0.shelf done (names s h e) r.2) (turn_there (from_chosen c) c.sels.items (names_in c) old tried new f.in_turn),
+    )
+
+-- All were fetched, and the document is printed.
+pub fetched_and_printed : (ask : Ask) (before mid : Sources) (c : Chosen) (web then : Feeding) (after : Shelving) (out written : Sinking) (stored : Names) (outcome : Outcome) → FindsBest ask before mid (Ok c)
+    → FetchesAll c (record { web = web; shelf = mid.shelf }) (Ok stored) (record { web = then; shelf = after }) → PrintsDocument c.sels out written outcome
+    → Downloads ask (record { feeds = before.feeds; shelf = before.shelf; web = web; out = out }) (record { feeds = mid.feeds; shelf = after; web = then; out = written }) outcome
+fetched_and_printed ask before mid c web then after out written stored outcome f g p =
+    let u = used g.tried before.shelf mid.shelf after f.shelf g.adds in
+    let gains = uses_gain g.tried before.shelf after u in
+    record {
+      feeds = f.feeds;
+      web = web_stays c web (Ok stored) g.tried then g.fetches;
+      tried = g.tried;
+      comes = inr (
+        c,
+        chosen_so ask before mid c f,
+        cost_so ask before mid c f g.tried after g.adds,
+        inr (record {
+          stored = stored;
+          fetched = g.fetches;
+          there = all_there c g.tried web then stored before.shelf after f.answer.1 g.fetches gains;
+          printed = p;
+        }),
+      );
+      shelf = u;
+      stored = gains;
+    }

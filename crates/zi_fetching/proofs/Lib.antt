@@ -1,0 +1,4 @@
+pub mod FetchLaws
+pub mod WebLaws
+pub mod FetchableLaws
+pub mod DownloadLaws

@@ -1,0 +1,70 @@
+-- `download`: what the best choice selects is fetched, and its document is written.
+use Rattle.std.specs.Prelude.{◌≡◌, ◌⊎◌, List, [], Some, IsSome, All, Contains, Err}
+use Rattle.zi_digest.specs.declared.DigestName.{DigestName}
+use Rattle.zi_digest.specs.Name.{spelling}
+use Rattle.zi_tree.specs.Dir.{Dir}
+use Rattle.zi_outside.specs.Views.{Feeding}
+use Rattle.zi_shelf.specs.Shelved.{Shelved}
+use Rattle.zi_shelf.specs.Shelving.{Shelving}
+use Rattle.zi_shelf.specs.Told.{Told}
+use Rattle.zi_words.specs.declared.request.Ask.{Ask}
+use Rattle.zi_sels.specs.declared.types.Selection.{Selection}
+use Rattle.zi_adding.specs.Trying.{Tried, CostsAll}
+use Rattle.zi_adding.specs.Gains.{Uses, GainsOnly}
+use Rattle.zi_outcome.specs.declared.outcome.Outcome.{Outcome}
+use Rattle.zi_world.specs.Asking.{FeedsStay}
+use Rattle.zi_world.specs.Meets.{Meets}
+use Rattle.zi_world.specs.StoreRead.{AreStored}
+use Rattle.zi_choosing.specs.declared.finding.Chosen.{Chosen}
+use Rattle.zi_choosing.specs.Finding.{Sources, IsChosen, FindsOver}
+use Rattle.zi_choosing.specs.SelectParts.{PrintsDocument}
+use Rattle.zi_fetching.specs.Known.{Names}
+use Rattle.zi_fetching.specs.Fetching.{Fetches, FetchesNot}
+
+-- what the choosing is lent of that
+abbrev pub sources : Meets → Sources
+sources m = record { feeds = m.feeds; shelf = m.shelf }
+
+-- nothing was fetched
+abbrev pub NothingFetched : List Tried → Feeding → Feeding → Type 0
+NothingFetched tried before after = (tried ≡ []) × (after ≡ before)
+
+-- The best choice was made over the names in the store.
+pub record HasChosen (ask : Ask) (shelf : Shelving) (before : Feeding) (c : Chosen) (after : Feeding) : Type 0 where
+  pub stored : AreStored shelf c.stored
+  pub chosen : IsChosen ask before c after
+
+-- what is selected has a path of its own, or a tree stands under one of its digests
+abbrev pub StandsIn : Shelved Dir → Selection → Type 0
+StandsIn s x = IsSome x.local ⊎ ((d : DigestName) × Contains x.digests d × IsSome (s.tops (spelling d)))
+
+-- so it is of all selections at the end, where an honest shelf told what it held
+abbrev pub AreThere : Shelving → Shelving → List Selection → Type 0
+AreThere before after items = (s : Told) → before.honest → before.told ≡ Some s → (t : Told) × (after.told ≡ Some t) × All (StandsIn t.shelf) items
+
+-- All that is selected was fetched, each is there at the end, and the document is printed.
+pub record FetchesAndPrints (c : Chosen) (tried : List Tried) (before after : Meets) (outcome : Outcome) : Type 0 where
+  pub stored : Names
+  pub fetched : Fetches c before.web stored tried after.web
+  pub there : AreThere before.shelf after.shelf c.sels.items
+  pub printed : PrintsDocument c.sels before.out after.out outcome
+
+-- Behind the choice: one of the selections can't be fetched, and nothing is written; or the document is printed.
+abbrev pub FetchesThen : Chosen → List Tried → Meets → Meets → Outcome → Type 0
+FetchesThen c tried before after outcome =
+    (FetchesNot c before.web outcome tried after.web × (after.out ≡ before.out)) ⊎ FetchesAndPrints c tried before after outcome
+
+-- how far it comes, to which outcome
+abbrev pub DownloadsTo : Ask → List Tried → Meets → Meets → Outcome → Type 0
+DownloadsTo ask tried before after outcome =
+    (FindsOver ask (sources before) (sources after) (Err outcome) × NothingFetched tried before.web after.web × (after.out ≡ before.out))
+    ⊎ ((c : Chosen) × HasChosen ask before.shelf before.feeds c after.feeds × CostsAll tried before.shelf after.shelf × FetchesThen c tried before after outcome)
+
+-- Whatever the outcome, feeds and web hold what they held, and the stored trees are as before but for those whose adding was begun.
+pub record Downloads (ask : Ask) (before after : Meets) (outcome : Outcome) : Type 0 where
+  pub feeds : FeedsStay before.feeds after.feeds
+  pub web : FeedsStay before.web after.web
+  pub tried : List Tried
+  pub comes : DownloadsTo ask tried before after outcome
+  pub shelf : Uses tried before.shelf after.shelf
+  pub stored : GainsOnly tried before.shelf after.shelf

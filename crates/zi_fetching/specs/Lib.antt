@@ -1,0 +1,4 @@
+pub mod Known
+pub mod Outcomes
+pub mod Fetching
+pub mod Download

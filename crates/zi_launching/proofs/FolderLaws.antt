@@ -1,0 +1,108 @@
+-- The folder of a selection, and the folders of all.
+use Rattle.std.proofs.Common.{◌≡◌, ℕ, ◌<◌, suc, zero, inl, inr, List, [], ◌∷◌, ◌++◌, ◌+◌, take, length, map, get_or, filter_map, find, is_some, Option, Some, None, option_map, refl, sym, ◌∙◌, ap, subst, arith, slice_get, Ok, Err, if◌then◌else◌, Bool, true, false, ◌||◌, cond, All}
+use Rattle.std.specs.List.{list_any, cons_option}
+use Rattle.std.proofs.lemmas.List.{map-append, take_more}
+use Rattle.zi_digest.specs.declared.DigestName.{DigestName}
+use Rattle.zi_feed.specs.Words.{first}
+use Rattle.zi_sels.specs.declared.types.Selection.{Selection}
+use Rattle.zi_outcome.specs.declared.outcome.Outcome.{Outcome}
+use Rattle.zi_fetching.specs.Known.{Names, is_known, is_there}
+use Rattle.zi_launching.specs.Folders.{stored_of, tree_of, stored_folder, folder_by, folder, missing_by, missing, first_missing, LacksFolder, FindsFolder, FindsFolders}
+
+module _ (root : List ℕ) (stored : Names) (x : Selection) where
+  pub local_found : (path copy : List ℕ) → x.local ≡ Some path → copy ≡ path → FindsFolder root stored x (Ok (Some copy))
+  local_found path copy e f = (ap (missing_by (tree_of stored x) x.digests) e, ap (λ p. Some p) f ∙ sym (ap (folder_by root (tree_of stored x)) e))
+
+  tree_is : (o : Option DigestName) → x.local ≡ None → find (is_known stored) x.digests ≡ o → tree_of stored x ≡ o
+  tree_is o e f = ap (stored_of stored x.digests) e ∙ f
+
+  missing_is : (o : Option DigestName) → x.local ≡ None → find (is_known stored) x.digests ≡ o → missing stored x ≡ (if is_some o then None else first x.digests)
+  missing_is o e f = ap (missing_by (tree_of stored x) x.digests) e ∙ ap (λ t. if is_some t then None else first x.digests) (tree_is o e f)
+
+  folder_is : (o : Option DigestName) → x.local ≡ None → find (is_known stored) x.digests ≡ o → folder root stored x ≡ option_map (stored_folder root) o
+  folder_is o e f = ap (folder_by root (tree_of stored x)) e ∙ ap (option_map (stored_folder root)) (tree_is o e f)
+
+  pub stored_found : (name : DigestName) (text : List ℕ) → x.local ≡ None → find (is_known stored) x.digests ≡ Some name → text ≡ stored_folder root name → FindsFolder root stored x (Ok (Some text))
+  stored_found name text e f g = (missing_is (Some name) e f, ap (λ p. Some p) g ∙ sym (folder_is (Some name) e f))
+
+  pub none_found : (path : Option (List ℕ)) → x.local ≡ None → find (is_known stored) x.digests ≡ None → path ≡ None → first x.digests ≡ None → FindsFolder root stored x (Ok path)
+  none_found path e f g h = (missing_is None e f ∙ h, g ∙ sym (folder_is None e f))
+
+  pub missing_found : (outcome : Outcome) → x.local ≡ None → find (is_known stored) x.digests ≡ None → LacksFolder (first x.digests) outcome → FindsFolder root stored x (Err outcome)
+  missing_found outcome e f h = subst (λ m. LacksFolder m outcome) (sym (missing_is None e f)) h
+
+pub ruleset finding = (local_found, stored_found, none_found, missing_found)
+
+-- All of them.
+
+kept_more : {X Y : Type 0} (f : X → Option Y) (xs : List X) (x : X) → filter_map f xs ≡ [] → f x ≡ None → filter_map f (xs ++ x ∷ []) ≡ []
+kept_more f [] x e g = ap (λ o. cons_option o []) g
+kept_more {Y = Y} f (y ∷ ys) x e g = by (f y) e (λ h. kept_more f ys x h g)
+  where
+    by : (o : Option Y) → cons_option o (filter_map f ys) ≡ [] → (filter_map f ys ≡ [] → filter_map f (ys ++ x ∷ []) ≡ []) → cons_option o (filter_map f (ys ++ x ∷ [])) ≡ []
+    by None e r = r e
+    by (Some z) e r = absurd cc
+
+first_at : {X Y : Type 0} (f : X → Option Y) (xs : List X) (i : ℕ) (x : X) (y : Y) → slice_get xs i ≡ Some x → filter_map f (take i xs) ≡ [] → f x ≡ Some y → first (filter_map f xs) ≡ Some y
+first_at f [] i x y e n g = absurd cc
+first_at f (z ∷ zs) zero x y e n g = let s : z ≡ x = cc in ap (λ o. first (cons_option o (filter_map f zs))) (ap f s ∙ g)
+first_at {Y = Y} f (z ∷ zs) (suc i) x y e n g = by (f z) n (λ h. first_at f zs i x y e h g)
+  where
+    by : (o : Option Y) → cons_option o (filter_map f (take i zs)) ≡ [] → (filter_map f (take i zs) ≡ [] → first (filter_map f zs) ≡ Some y) → first (cons_option o (filter_map f zs)) ≡ Some y
+    by None n r = r n
+    by (Some w) n r = absurd cc
+
+-- of the first of them none is missing a tree, and these are their folders
+pub record AreFound (root : List ℕ) (stored : Names) (items : List Selection) (folders : List (Option (List ℕ))) : Type 0 where
+  pub none : filter_map (missing stored) items ≡ []
+  pub are : folders ≡ map (folder root stored) items
+
+pub found_none : (root : List ℕ) (stored : Names) (folders : List (Option (List ℕ))) → folders ≡ [] → AreFound root stored [] folders
+found_none root stored folders e = record { none = refl; are = e }
+
+pub found_more : (root : List ℕ) (stored : Names) (items : List Selection) (i : ℕ) (x : Selection) (path : Option (List ℕ)) (old new : List (Option (List ℕ))) → i < length items → x ≡ get_or items i x
+    → AreFound root stored (take i items) old → FindsFolder root stored x (Ok path) → new ≡ old ++ path ∷ [] → AreFound root stored (take (i + 1) items) new
+found_more root stored items i x path old new lt at a (free, is) e =
+    let q = take_more items i x lt ∙ ap (λ y. take i items ++ y ∷ []) (sym at) in
+    subst (λ xs. AreFound root stored xs new) (sym q) (record {
+      none = kept_more (missing stored) (take i items) x a.none free;
+      are = e ∙ ap (λ ps. ps ++ path ∷ []) a.are ∙ ap (λ p. map (folder root stored) (take i items) ++ p ∷ []) is ∙ sym (map-append (folder root stored) (take i items) (x ∷ []));
+    })
+
+pub found_all : (root : List ℕ) (stored : Names) (items : List Selection) (folders : List (Option (List ℕ))) → AreFound root stored items folders → FindsFolders root stored items (Ok folders)
+found_all root stored items folders a = (ap first a.none, a.are)
+
+pub lacks_at : (root : List ℕ) (stored : Names) (items : List Selection) (i : ℕ) (x : Selection) (outcome : Outcome) → slice_get items i ≡ Some x → filter_map (missing stored) (take i items) ≡ []
+    → FindsFolder root stored x (Err outcome) → FindsFolders root stored items (Err outcome)
+lacks_at root stored items i x outcome here none (inl (d, e, is)) = inl (d, first_at (missing stored) items i x d here none e, is)
+lacks_at root stored items i x outcome here none (inr e) = inr e
+
+-- What is there isn't missing.
+find_any : (p : DigestName → Bool) (ds : List DigestName) → list_any p ds ≡ true → is_some (find p ds) ≡ true
+find_any p [] h = absurd cc
+find_any p (d ∷ ds) h = by (p d) h (find_any p ds)
+  where
+    by : (b : Bool) → (b || list_any p ds) ≡ true → (list_any p ds ≡ true → is_some (find p ds) ≡ true) → is_some (cond b (Some d) (find p ds)) ≡ true
+    by true h go = refl
+    by false h go = go h
+
+there_found : (stored : Names) (x : Selection) → is_there stored x ≡ true → missing stored x ≡ None
+there_found stored x h = by x.local refl h
+  where
+    some_none : (o : Option DigestName) → is_some o ≡ true → (if is_some o then None else first x.digests) ≡ None
+    some_none (Some d) h = refl
+    some_none None h = absurd cc
+
+    by : (o : Option (List ℕ)) → x.local ≡ o → (is_some o || list_any (is_known stored) x.digests) ≡ true → missing stored x ≡ None
+    by (Some path) e h = ap (missing_by (tree_of stored x) x.digests) e
+    by None e h =
+        ap (missing_by (tree_of stored x) x.digests) e
+        ∙ ap (λ t. if is_some t then None else first x.digests) (ap (stored_of stored x.digests) e)
+        ∙ some_none (find (is_known stored) x.digests) (find_any (is_known stored) x.digests h)
+
+none_kept : {X Y : Type 0} (f : X → Option Y) (xs : List X) → All (λ x. f x ≡ None) xs → filter_map f xs ≡ []
+none_kept f [] a = refl
+none_kept f (x ∷ xs) a = ap (λ o. cons_option o (filter_map f xs)) (a 0 x (omega arith)) ∙ none_kept f xs (λ k d lt. a (suc k) d (omega (arith, lt)))
+
+pub none_missing : (stored : Names) (items : List Selection) → All (λ x. is_there stored x ≡ true) items → first_missing stored items ≡ None
+none_missing stored items a = ap first (none_kept (missing stored) items (λ k d lt. there_found stored (get_or items k d) (a k d lt)))

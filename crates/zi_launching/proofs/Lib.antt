@@ -1,0 +1,6 @@
+pub mod FolderLaws
+pub mod LaunchLaws
+pub mod ReadyLaws
+pub mod MissingLaws
+pub mod RunLaws
+pub mod OpenLaws

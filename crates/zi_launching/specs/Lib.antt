@@ -1,0 +1,5 @@
+pub mod Folders
+pub mod Verifying
+pub mod Launching
+pub mod Run
+pub mod Opening

@@ -1,0 +1,57 @@
+-- `run`: what the best choice selects is fetched, and launched.
+use Rattle.std.specs.Prelude.{◌≡◌, ◌≢◌, ◌⊎◌, ℕ, List, Some, None, IsSome, All, Err}
+use Rattle.zi_outside.specs.declared.var.Var.{Var}
+use Rattle.zi_shelf.specs.Shelving.{Shelving}
+use Rattle.zi_shelf.specs.Told.{Told}
+use Rattle.zi_words.specs.declared.request.Ask.{Ask}
+use Rattle.zi_adding.specs.Trying.{Tried, CostsAll}
+use Rattle.zi_adding.specs.Gains.{Uses, GainsOnly}
+use Rattle.zi_outcome.specs.declared.outcome.Outcome.{Outcome}
+use Rattle.zi_outcome.specs.declared.outcome.Outcome.TheVariants.{MissingTree}
+use Rattle.zi_world.specs.Asking.{FeedsStay}
+use Rattle.zi_world.specs.Surroundings.{Surroundings, meets_of, NothingStarted}
+use Rattle.zi_choosing.specs.declared.finding.Chosen.{Chosen}
+use Rattle.zi_choosing.specs.Finding.{FindsOver}
+use Rattle.zi_fetching.specs.Known.{Names}
+use Rattle.zi_fetching.specs.Fetching.{Fetches, FetchesNot}
+use Rattle.zi_fetching.specs.Download.{sources, NothingFetched, HasChosen}
+use Rattle.zi_launching.specs.Folders.{folder, first_missing}
+use Rattle.zi_launching.specs.Launching.{launching, LaunchesOver}
+
+-- Behind the choice: one of the selections can't be fetched, and nothing is launched.
+pub record StopsBefore (c : Chosen) (tried : List Tried) (before after : Surroundings) (outcome : Outcome) : Type 0 where
+  pub fetches : FetchesNot c before.web outcome tried after.web
+  pub cost : CostsAll tried before.shelf after.shelf
+  pub nothing : NothingStarted before after
+
+-- an honest shelf that told what it held doesn't lack a tree
+abbrev pub NoneMissing : Shelving → Outcome → Type 0
+NoneMissing shelf outcome = (s : Told) → shelf.honest → shelf.told ≡ Some s → (name : List ℕ) → outcome ≢ MissingTree name
+
+-- Or all are fetched, so none is missing a tree and each has a folder, and then they are launched, over the digest names that are stored
+-- then. While nobody else writes the store none is found missing when it is read.
+pub record FetchesAndLaunches (c : Chosen) (vars : List Var) (user : List (List ℕ)) (tried : List Tried) (before after : Surroundings) (outcome : Outcome) : Type 0 where
+  pub stored : Names
+  pub fetched : Fetches c before.web stored tried after.web
+  pub there : first_missing stored c.sels.items ≡ None
+  pub placed : All (λ x. IsSome (folder before.shelf.root stored x)) c.sels.items
+  pub launches : LaunchesOver (record { sels = c.sels; stored = stored; vars = vars; user = user }) (launching before) (launching after) outcome
+  pub found : NoneMissing before.shelf outcome
+
+-- how far it comes, to which outcome
+abbrev pub RunsTo : Ask → List Var → List (List ℕ) → List Tried → Surroundings → Surroundings → Outcome → Type 0
+RunsTo ask vars user tried before after outcome =
+    (FindsOver ask (sources (meets_of before)) (sources (meets_of after)) (Err outcome) × NothingFetched tried before.web after.web × NothingStarted before after)
+    ⊎ ((c : Chosen) × HasChosen ask before.shelf before.feeds c after.feeds
+    × (StopsBefore c tried before after outcome ⊎ FetchesAndLaunches c vars user tried before after outcome))
+
+-- Whatever the outcome, nothing is written, feeds and web hold what they held, and the stored trees are as before but for those whose
+-- adding was begun.
+pub record RunsProgram (ask : Ask) (vars : List Var) (user : List (List ℕ)) (before after : Surroundings) (outcome : Outcome) : Type 0 where
+  pub feeds : FeedsStay before.feeds after.feeds
+  pub web : FeedsStay before.web after.web
+  pub out : after.out ≡ before.out
+  pub tried : List Tried
+  pub comes : RunsTo ask vars user tried before after outcome
+  pub shelf : Uses tried before.shelf after.shelf
+  pub stored : GainsOnly tried before.shelf after.shelf

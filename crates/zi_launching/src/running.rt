@@ -1,0 +1,42 @@
+//! The work of `run`.
+ghost use Rattle.std.specs.Prelude.{◌≤◌};
+ghost use Rattle.zi_outside.specs.Views.{Sinking};
+ghost use Rattle.zi_launching.specs.Run.{RunsProgram};
+
+use crate::launching::launch_over;
+use std::alloc::Global;
+use zi_choosing::find_best;
+use zi_fetching::fetch_all;
+use zi_outcome::Outcome;
+use zi_outside::{Feeds, Spawner, Vars, Web};
+use zi_shelf::Shelf;
+use zi_text::Text;
+use zi_words::Ask;
+
+/// Finds the best choice as `select` does, fetches what it selects and isn't there, and launches it with the user's words.
+/// Where the program ran the outcome is `Child` with its status; after every other outcome nothing was launched.
+pub fn run<F: Feeds, K: Shelf, W: Web, P: Spawner>(
+    alloc: Global,
+    ask: Ask,
+    user: &[Text],
+    vars: &Vars,
+    feeds: &mut F,
+    shelf: &mut K,
+    web: &mut W,
+    spawner: &mut P,
+) -> Outcome
+    requires { ask.search ≤ 4000000000 }
+    ensures { (out : Sinking) → RunsProgram ask vars.now user.now
+        (record { feeds = F.seen feeds.old; shelf = K.seen shelf.old; web = W.seen web.old; spawner = P.seen spawner.old; out = out })
+        (record { feeds = F.seen feeds.new; shelf = K.seen shelf.new; web = W.seen web.new; spawner = P.seen spawner.new; out = out }) result }
+{
+    let chosen = match find_best(alloc, ask, feeds, shelf) {
+        Ok(chosen) => chosen,
+        Err(outcome) => return outcome,
+    };
+    let _whole = chosen.universe.interfaces();
+    match fetch_all(alloc, &chosen, web, shelf) {
+        Ok(stored) => launch_over(alloc, &chosen.sels, &stored, vars, user, shelf, spawner),
+        Err(outcome) => outcome,
+    }
+}
