@@ -98,7 +98,7 @@ first_said g a = either (attribute (attribute_by a) g) refl
     either None h = rw h refl
     either (Some t) h = rw h refl
 
-three_said : (f : Algorithm → Option DigestName) → filter_map f algorithms ≡ optional (f Sha256new) ++ (optional (f Sha256) ++ optional (f Sha1new))
+pub three_said : (f : Algorithm → Option DigestName) → filter_map f algorithms ≡ optional (f Sha256new) ++ (optional (f Sha256) ++ optional (f Sha1new))
 three_said f = either (f Sha256new) (f Sha256) (f Sha1new) refl refl refl
   where
     either : (x y z : Option DigestName) → f Sha256new ≡ x → f Sha256 ≡ y → f Sha1new ≡ z → filter_map f algorithms ≡ optional x ++ (optional y ++ optional z)

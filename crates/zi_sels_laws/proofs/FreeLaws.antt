@@ -1,17 +1,16 @@
 -- Elements that have no fault: what that says of each that is read in them.
-use Rattle.std.proofs.Common.{◌≡◌, ℕ, Bool, true, false, cond, ◌&&◌, ◌||◌, List, [], ◌∷◌, ◌++◌, map, Option, Some, None, codes, refl, sym, ap, subst, ◌∙◌}
+use Rattle.std.proofs.Common.{◌≡◌, ℕ, Bool, true, false, cond, ◌&&◌, ◌||◌, List, [], ◌∷◌, ◌++◌, map, Option, Some, None, codes, refl, sym, ap, ◌∙◌}
 use Rattle.std.specs.Prelude.{not, filter, option_map, if◌then◌else◌}
-use Rattle.std.specs.List.{flat_map, list_any}
+use Rattle.std.specs.List.{flat_map}
 use Rattle.zi_forest.specs.Forest.{Forest, none, words, child, Elem, elements}
-use Rattle.zi_feed.specs.Texts.{same}
 use Rattle.zi_feed.specs.Words.{is_among, listed, optional, first}
-use Rattle.zi_feed.specs.Sites.{Site, here, under, path, Said, said, sites, stands, is, is_ours, is_closed, is_unclear, is_unbuilt, is_other_step, is_part, parts}
+use Rattle.zi_feed.specs.Sites.{Ways, Site, here, under, path, Said, said, sites, stands, is, is_ours, is_closed, is_unclear, is_part, parts}
 use Rattle.zi_feed.specs.Faults.{fault_at, faults_at, faults_with, kinds_at, all_kinds, has_fault, is_bad_part, repeats_in, lesser, is_first, least}
 use Rattle.zi_feed.specs.Feeds.{part_fault}
 use Rattle.zi_feed.specs.declared.fault.Fault.{Fault}
 use Rattle.zi_feed.specs.declared.fault.FeedKind.{FeedKind}
 use Rattle.zi_feed.specs.declared.fault.FeedKind.TheVariants.{BadRange, BadPart}
-use Rattle.zi_sels_laws.proofs.LikeLaws.{Each}
+use Rattle.zi_sels_laws.proofs.LikeLaws.{Each, each_append}
 use Rattle.zi_sels_laws.proofs.FieldLaws.{app}
 
 -- Small words.
@@ -29,10 +28,6 @@ pub both_false : (a b : Bool) → (a || b) ≡ false → (a ≡ false) × (b ≡
 both_false false false h = (refl, refl)
 both_false false true h = absurd (cc h)
 both_false true b h = absurd (cc h)
-
-pub not_so : (b : Bool) → not b ≡ true → b ≡ false
-not_so true h = absurd (cc h)
-not_so false h = refl
 
 pub empty_both : {A : Type 0} (xs ys : List A) → xs ++ ys ≡ [] → (xs ≡ []) × (ys ≡ [])
 empty_both [] ys e = (refl, e)
@@ -82,6 +77,17 @@ pub each_first : {A B : Type 0} (P : B → Type 0) (f : A → B) (xs : List A) �
 each_first P f [] h = tt
 each_first P f (x ∷ xs) h = (h.0, tt)
 
+pub each_of_flat : {A B : Type 0} (P : B → Type 0) (f : A → List B) (xs : List A) → Each P (flat_map f xs) → Each (λ x. Each P (f x)) xs
+each_of_flat P f [] h = tt
+each_of_flat P f (x ∷ xs) h = let r = each_front P (f x) (flat_map f xs) h in (r.0, each_of_flat P f xs r.1)
+
+pub sub_filter : {A : Type 0} (P : A → Type 0) (test : A → Bool) (xs : List A) → Each P xs → Each P (filter test xs)
+sub_filter P test xs h = each_weak (λ x. P x × (test x ≡ true)) P (λ x k. k.0) (filter test xs) (each_filter P test xs h)
+
+pub each_flat : {A B : Type 0} (P : B → Type 0) (f : A → List B) (Q : A → Type 0) → ((x : A) → Q x → Each P (f x)) → (xs : List A) → Each Q xs → Each P (flat_map f xs)
+each_flat P f Q one [] h = tt
+each_flat P f Q one (x ∷ xs) h = each_append P (f x) (flat_map f xs) (one x h.0) (each_flat P f Q one xs h.1)
+
 -- The first of faults is none.
 
 pub least_none : (fs : List Fault) → least fs ≡ None → fs ≡ []
@@ -98,84 +104,87 @@ least_none (f ∷ fs) h = absurd (some (least fs) h)
 
 -- Elements without a fault.
 
-abbrev pub IsFree : Site → Type 0
-IsFree t = (s : Said) × (faults_with None s t.element ≡ [])
+abbrev pub IsFree : Ways → Site → Type 0
+IsFree ways t = (s : Said) × (faults_with ways s t.element ≡ [])
 
-free_all : (ss : List Site) → flat_map (faults_at None) ss ≡ [] → Each IsFree ss
-free_all [] h = tt
-free_all (s ∷ ss) h =
-    let b = empty_both (faults_at None s) (flat_map (faults_at None) ss) h in
-    ((said (path s), b.0), free_all ss b.1)
+pub free_all : (ways : Ways) (ss : List Site) → flat_map (faults_at ways) ss ≡ [] → Each (IsFree ways) ss
+free_all ways [] h = tt
+free_all ways (s ∷ ss) h =
+    let b = empty_both (faults_at ways s) (flat_map (faults_at ways) ss) h in
+    ((said (path s), b.0), free_all ways ss b.1)
 
 -- what is known of an element without a fault, and of what is read in it
-pub record IsRight (e : Elem) : Type 0 where
+pub record IsRight (ways : Ways) (e : Elem) : Type 0 where
   pub said : Said
-  pub free : faults_with None said e ≡ []
-  pub inside : is_closed e ≡ false → Each IsFree (sites None e.name e.inside)
+  pub free : faults_with ways said e ≡ []
+  pub inside : is_closed e ≡ false → Each (IsFree ways) (sites ways e.name e.inside)
 
-pub free_clear : (s : Said) (e : Elem) → faults_with None s e ≡ [] → is_unclear e ≡ false
+pub free_clear : (ways : Ways) (s : Said) (e : Elem) → faults_with ways s e ≡ [] → is_unclear e ≡ false
 unfolding faults_with
-free_clear s e h = either (is_unclear e) (map (fault_at e) (kinds_at None s e) ++ map (λ r. fault_at r BadPart) (repeats_in None e)) h
+free_clear ways s e h = either (is_unclear e) (map (fault_at e) (kinds_at ways s e) ++ map (λ r. fault_at r BadPart) (repeats_in ways e)) h
   where
     either : (b : Bool) (fs : List Fault) → (if b then fault_at e BadRange ∷ [] else fs) ≡ [] → b ≡ false
     either true fs k = absurd (cc k)
     either false fs k = refl
 
-pub part_right : (e : Elem) → part_fault e ≡ None → IsRight e
+pub part_right : (e : Elem) → part_fault e ≡ None → IsRight None e
 unfolding part_fault
 part_right e h =
     let all = least_none (faults_at None (here e) ++ (if is_unclear e then [] else flat_map (faults_at None) (sites None e.name e.inside))) h in
     let b = empty_both (faults_at None (here e)) (if is_unclear e then [] else flat_map (faults_at None) (sites None e.name e.inside)) all in
-    let clear = free_clear (said (e ∷ [])) e b.0 in record {
+    let clear = free_clear None (said (e ∷ [])) e b.0 in record {
       said = said (e ∷ []);
       free = b.0;
-      inside = λ k. free_all (sites None e.name e.inside) (sym (ap (λ v. if v then [] else flat_map (faults_at None) (sites None e.name e.inside)) clear) ∙ b.1);
+      inside = λ k. free_all None (sites None e.name e.inside) (sym (ap (λ v. if v then [] else flat_map (faults_at None) (sites None e.name e.inside)) clear) ∙ b.1);
     }
 
 -- an element that is read in one of this name
-pub record IsChild (parent : List ℕ) (c : Elem) : Type 0 where
-  pub right : IsRight c
-  pub part : is_part None parent c ≡ true
+pub record IsChild (ways : Ways) (parent : List ℕ) (c : Elem) : Type 0 where
+  pub right : IsRight ways c
+  pub part : is_part ways parent c ≡ true
 
-strip : (e : Elem) (ss : List Site) → Each IsFree (map (under e) ss) → Each IsFree ss
-strip e [] h = tt
-strip e (s ∷ ss) h = (h.0, strip e ss h.1)
+pub strip : (ways : Ways) (e : Elem) (ss : List Site) → Each (IsFree ways) (map (under e) ss) → Each (IsFree ways) ss
+strip ways e [] h = tt
+strip ways e (s ∷ ss) h = (h.0, strip ways e ss h.1)
 
-pub children : (parent : List ℕ) (f : Forest) → Each IsFree (sites None parent f) → Each (IsChild parent) (filter (is_part None parent) (elements f))
-children parent none h = tt
-children parent (words t k) h = children parent k h
-children parent (child s n a f p k) h =
+pub children : (ways : Ways) (parent : List ℕ) (f : Forest) → Each (IsFree ways) (sites ways parent f) → Each (IsChild ways parent) (filter (is_part ways parent) (elements f))
+children ways parent none h = tt
+children ways parent (words t k) h = children ways parent k h
+children ways parent (child s n a f p k) h =
     let e : Elem = record { space = s; name = n; attrs = a; inside = f; place = p } in
-    either e (stands None parent e) (is_closed e) (is_unclear e) refl refl refl h (children parent k)
+    either e (stands ways parent e) (is_closed e) (is_unclear e) refl refl refl h (children ways parent k)
   where
     rest : Type 0
-    rest = Each (IsChild parent) (filter (is_part None parent) (elements k))
+    rest = Each (IsChild ways parent) (filter (is_part ways parent) (elements k))
 
-    either : (e : Elem) (b c u : Bool) → stands None parent e ≡ b → is_closed e ≡ c → is_unclear e ≡ u
-        → Each IsFree (if not b then sites None parent k else if c then here e ∷ sites None parent k else here e ∷ (map (under e) (sites None e.name e.inside) ++ sites None parent k))
-        → (Each IsFree (sites None parent k) → Each (IsChild parent) (filter (is_part None parent) (elements k)))
-        → Each (IsChild parent) (cond (b && not u) (e ∷ filter (is_part None parent) (elements k)) (filter (is_part None parent) (elements k)))
+    either : (e : Elem) (b c u : Bool) → stands ways parent e ≡ b → is_closed e ≡ c → is_unclear e ≡ u
+        → Each (IsFree ways) (if not b then sites ways parent k else if c then here e ∷ sites ways parent k else here e ∷ (map (under e) (sites ways e.name e.inside) ++ sites ways parent k))
+        → (Each (IsFree ways) (sites ways parent k) → Each (IsChild ways parent) (filter (is_part ways parent) (elements k)))
+        → Each (IsChild ways parent) (cond (b && not u) (e ∷ filter (is_part ways parent) (elements k)) (filter (is_part ways parent) (elements k)))
     either e false c u is shut unclear free more = more free
     either e true true true is shut unclear free more = more free.1
     either e true true false is shut unclear free more =
         (record { right = record { said = free.0.0; free = free.0.1; inside = λ open_. absurd (clash (is_closed e) shut open_) }; part = app (ap {B = Bool → Bool} (λ x y. x && not y) is) unclear }, more free.1)
-    either e true false true is shut unclear free more = more (each_front IsFree (map (under e) (sites None e.name e.inside)) (sites None parent k) free.1).1
+    either e true false true is shut unclear free more = more (each_front (IsFree ways) (map (under e) (sites ways e.name e.inside)) (sites ways parent k) free.1).1
     either e true false false is shut unclear free more =
-        let parts_ = each_front IsFree (map (under e) (sites None e.name e.inside)) (sites None parent k) free.1 in
-        (record { right = record { said = free.0.0; free = free.0.1; inside = λ open_. strip e (sites None e.name e.inside) parts_.0 }; part = app (ap {B = Bool → Bool} (λ x y. x && not y) is) unclear }, more parts_.1)
+        let parts_ = each_front (IsFree ways) (map (under e) (sites ways e.name e.inside)) (sites ways parent k) free.1 in
+        (record { right = record { said = free.0.0; free = free.0.1; inside = λ open_. strip ways e (sites ways e.name e.inside) parts_.0 }; part = app (ap {B = Bool → Bool} (λ x y. x && not y) is) unclear }, more parts_.1)
 
 -- the elements that count in one
-pub right_parts : (e : Elem) → IsRight e → is_closed e ≡ false → Each (IsChild e.name) (parts None e)
+pub right_parts : (ways : Ways) (e : Elem) → IsRight ways e → Each (IsChild ways e.name) (parts ways e)
 unfolding parts
-right_parts e h open_ =
-    subst (Each (IsChild e.name)) (sym (ap (λ b. if b then [] else filter (is_part None e.name) (elements e.inside)) open_)) (children e.name e.inside (h.inside open_))
+right_parts ways e h = either (is_closed e) refl
+  where
+    either : (b : Bool) → is_closed e ≡ b → Each (IsChild ways e.name) (if b then [] else filter (is_part ways e.name) (elements e.inside))
+    either true shut = tt
+    either false open_ = children ways e.name e.inside (h.inside open_)
 
 -- What an element without a fault is.
 
-pub record IsSound (s : Said) (e : Elem) : Type 0 where
+pub record IsSound (ways : Ways) (s : Said) (e : Elem) : Type 0 where
   pub clear : is_unclear e ≡ false
-  pub kinds : Each (λ k. has_fault None s k e ≡ false) all_kinds
-  pub repeats : repeats_in None e ≡ []
+  pub kinds : Each (λ k. has_fault ways s k e ≡ false) all_kinds
+  pub repeats : repeats_in ways e ≡ []
 
 none_kept : (test : FeedKind → Bool) (ks : List FeedKind) → filter test ks ≡ [] → Each (λ k. test k ≡ false) ks
 none_kept test [] h = tt
@@ -185,43 +194,42 @@ none_kept test (k ∷ ks) h = either (test k) refl h (none_kept test ks)
     either true is e more = absurd (cc e)
     either false is e more = (is, more e)
 
-pub sound : (s : Said) (e : Elem) → faults_with None s e ≡ [] → IsSound s e
+pub sound : (ways : Ways) (s : Said) (e : Elem) → faults_with ways s e ≡ [] → IsSound ways s e
 unfolding faults_with kinds_at
-sound s e h =
-    let clear = free_clear s e h in
-    let rest = sym (ap (λ b. if b then fault_at e BadRange ∷ [] else map (fault_at e) (kinds_at None s e) ++ map (λ r. fault_at r BadPart) (repeats_in None e)) clear) ∙ h in
-    let b = empty_both (map (fault_at e) (kinds_at None s e)) (map (λ r. fault_at r BadPart) (repeats_in None e)) rest in record {
+sound ways s e h =
+    let clear = free_clear ways s e h in
+    let rest = sym (ap (λ b. if b then fault_at e BadRange ∷ [] else map (fault_at e) (kinds_at ways s e) ++ map (λ r. fault_at r BadPart) (repeats_in ways e)) clear) ∙ h in
+    let b = empty_both (map (fault_at e) (kinds_at ways s e)) (map (λ r. fault_at r BadPart) (repeats_in ways e)) rest in record {
       clear = clear;
-      kinds = none_kept (λ k. has_fault None s k e) all_kinds (empty_map (fault_at e) (kinds_at None s e) b.0);
-      repeats = empty_map (λ r. fault_at r BadPart) (repeats_in None e) b.1;
+      kinds = none_kept (λ k. has_fault ways s k e) all_kinds (empty_map (fault_at e) (kinds_at ways s e) b.0);
+      repeats = empty_map (λ r. fault_at r BadPart) (repeats_in ways e) b.1;
     }
 
-pub right_sound : (e : Elem) (h : IsRight e) → IsSound h.said e
-right_sound e h = sound h.said e h.free
+pub right_sound : (ways : Ways) (e : Elem) (h : IsRight ways e) → IsSound ways h.said e
+right_sound ways e h = sound ways h.said e h.free
 
 -- it isn't a bad part
-pub right_part : (e : Elem) → IsRight e → is_bad_part e ≡ false
-right_part e h = (right_sound e h).kinds.1.1.1.1.1.1.0
+pub right_part : (ways : Ways) (e : Elem) → IsRight ways e → is_bad_part e ≡ false
+right_part ways e h = (right_sound ways e h).kinds.1.1.1.1.1.1.0
 
-pub right_clear : (e : Elem) → IsRight e → is_unclear e ≡ false
-right_clear e h = free_clear h.said e h.free
+pub right_clear : (ways : Ways) (e : Elem) → IsRight ways e → is_unclear e ≡ false
+right_clear ways e h = free_clear ways h.said e h.free
 
--- of a name that is no recipe's it is open
-pub right_open : (name : List ℕ) (e : Elem) → IsRight e → e.name ≡ name → same name (codes "recipe") ≡ false → is_closed e ≡ false
-unfolding is_unbuilt
-right_open name e h is other =
-    app (ap {B = Bool → Bool} (λ x y. x || (y && list_any is_other_step (elements e.inside))) (right_clear e h)) (ends (is_ours e) (same e.name (codes "recipe")) (ap (λ n. same n (codes "recipe")) is ∙ other))
+-- it is in the namespace of feeds
+pub child_ours : (ways : Ways) (parent : List ℕ) (c : Elem) → IsChild ways parent c → is_ours c ≡ true
+unfolding stands
+child_ours ways parent c h = by (is_ours c) _ _ _ _ refl h.part
   where
-    ends : (a b : Bool) → b ≡ false → (a && b) ≡ false
-    ends true b k = k
-    ends false b k = refl
+    by : (a b l w r : Bool) → is_ours c ≡ a → ((a && b && l && w) && r) ≡ true → is_ours c ≡ true
+    by true b l w r p e = p
+    by false b l w r p e = absurd (cc e)
 
 -- it is in the namespace of feeds, and no restriction
 pub record IsOwn (c : Elem) : Type 0 where
   pub ours : is_ours c ≡ true
   pub kept : is_among (listed (codes "version restricts")) c.name ≡ false
 
-pub child_own : (parent : List ℕ) (c : Elem) → IsChild parent c → IsOwn c
+pub child_own : (parent : List ℕ) (c : Elem) → IsChild None parent c → IsOwn c
 unfolding stands
 child_own parent c h = by (is_ours c) _ _ _ (is_among (listed (codes "version restricts")) c.name) refl refl h.part
   where

@@ -15,3 +15,14 @@ mod FreeLaws
 mod SoundLaws
 mod SaidLaws
 mod ReadBackLaws
+mod GivenLaws
+mod AlongLaws
+mod ApartLaws
+mod SpelledLaws
+mod FeedLaws
+mod EachLaws
+mod LoadedLaws
+mod SelectedLaws
+mod MadeLaws
+mod UsedLaws
+mod ChosenLaws

@@ -1,7 +1,6 @@
 -- What a document says is as it may be written, and so is read again where it was written.
 use Rattle.std.proofs.Common.{◌≡◌, ℕ, Bool, true, false, cond, ◌&&◌, ◌||◌, List, [], ◌∷◌, ◌++◌, map, Option, Some, None, codes, refl, sym, ap, subst, ◌∙◌}
 use Rattle.std.specs.Prelude.{not, filter, option_and_then, unwrap_or, if◌then◌else◌}
-use Rattle.std.specs.List.{flat_map}
 use Rattle.zi_forest.specs.Forest.{Elem, elements, attribute, value, element_view}
 use Rattle.zi_docout.specs.Amiss.{first_amiss}
 use Rattle.zi_feed.specs.Texts.{same}
@@ -28,7 +27,7 @@ use Rattle.zi_sels_laws.proofs.FieldLaws.{app}
 use Rattle.zi_sels_laws.proofs.CommandLaws.{runner_names}
 use Rattle.zi_sels_laws.proofs.AskedLaws.{IsMet, IsMetRunner, IsMetCommand, IsMetItem, IsMetWhole, IsIn}
 use Rattle.zi_sels_laws.proofs.RootLaws.{IsProper, IsWritten, written_says}
-use Rattle.zi_sels_laws.proofs.FreeLaws.{clash, empty_both, empty_option, empty_first, each_filter, each_weak, each_map, each_front, each_first, least_none, IsRight, IsChild, right_open, right_parts}
+use Rattle.zi_sels_laws.proofs.FreeLaws.{clash, empty_both, empty_option, empty_first, each_filter, each_weak, each_map, each_first, each_of_flat, sub_filter, least_none, IsRight, IsChild, right_parts}
 use Rattle.zi_sels_laws.proofs.SoundLaws.{only_name, is_of_name, asked_names, dep_child}
 use Rattle.zi_sels_laws.proofs.SaidLaws.{IsCounted, IsSound, selection_sound, item_proper}
 
@@ -42,10 +41,6 @@ each_in is (e ∷ es) h = either (is_among is (value (codes "interface") e)) ref
     either true k l more = (k, more l)
     either false k l more = absurd (cc l)
 
-each_of_flat : {A B : Type 0} (P : B → Type 0) (f : A → List B) (xs : List A) → Each P (flat_map f xs) → Each (λ x. Each P (f x)) xs
-each_of_flat P f [] h = tt
-each_of_flat P f (x ∷ xs) h = let r = each_front P (f x) (flat_map f xs) h in (r.0, each_of_flat P f xs r.1)
-
 of_filter : {A : Type 0} (P : A → Type 0) (test : A → Bool) (xs : List A) → Each P (filter test xs) → Each (λ x. test x ≡ true → P x) xs
 of_filter P test [] h = tt
 of_filter P test (x ∷ xs) h = either (test x) refl h (of_filter P test xs)
@@ -53,9 +48,6 @@ of_filter P test (x ∷ xs) h = either (test x) refl h (of_filter P test xs)
     either : (b : Bool) → test x ≡ b → Each P (cond b (x ∷ filter test xs) (filter test xs)) → (Each P (filter test xs) → Each (λ y. test y ≡ true → P y) xs) → Each (λ y. test y ≡ true → P y) (x ∷ xs)
     either true k l more = ((λ e. l.0), more l.1)
     either false k l more = ((λ e. absurd (clash (test x) e k)), more l)
-
-sub_filter : {A : Type 0} (P : A → Type 0) (test : A → Bool) (xs : List A) → Each P xs → Each P (filter test xs)
-sub_filter P test xs h = each_weak (λ x. P x × (test x ≡ true)) P (λ x k. k.0) (filter test xs) (each_filter P test xs h)
 
 -- Dependencies.
 
@@ -126,7 +118,7 @@ dep_met is c h name k essential =
 -- Commands.
 
 -- a child counts under its name
-child_counts : (parent name : List ℕ) (c : Elem) → IsChild parent c → c.name ≡ name → counts_as name c ≡ true
+child_counts : (parent name : List ℕ) (c : Elem) → IsChild None parent c → c.name ≡ name → counts_as name c ≡ true
 unfolding stands
 child_counts parent name c h k = by (is_ours c) _ (is_left_out c) _ _ refl refl h.part
   where
@@ -143,7 +135,7 @@ or_right : (a b : Bool) → b ≡ true → (a || b) ≡ true
 or_right true b h = refl
 or_right false b h = h
 
-child_dep_met : (is : List (List ℕ)) (parent : List ℕ) (d : Elem) → IsChild parent d → is_among asked_names d.name ≡ true → (asks_within d ≡ true → IsIn is d) → IsMet is (dep_of None d)
+child_dep_met : (is : List (List ℕ)) (parent : List ℕ) (d : Elem) → IsChild None parent d → is_among asked_names d.name ≡ true → (asks_within d ≡ true → IsIn is d) → IsMet is (dep_of None d)
 child_dep_met is parent d h k asked essential =
     let name = dep_child parent d h k in
     let counts = child_counts parent (codes "requires") d h name in
@@ -153,14 +145,10 @@ runner_address : (c : Elem) → (runner_of None c).dep.interface ≡ value (code
 unfolding runner_of
 runner_address c = plain_address (attribute (codes "interface") c)
 
-child_runner_met : (is : List (List ℕ)) (parent : List ℕ) (d : Elem) → IsChild parent d → is_among runner_names d.name ≡ true → (asks_within d ≡ true → IsIn is d) → IsMetRunner is (runner_of None d)
+child_runner_met : (is : List (List ℕ)) (parent : List ℕ) (d : Elem) → IsChild None parent d → is_among runner_names d.name ≡ true → (asks_within d ≡ true → IsIn is d) → IsMetRunner is (runner_of None d)
 child_runner_met is parent d h k asked =
     let counts = child_counts parent (codes "runner") d h (only_name d.name (codes "runner") k) in
     subst (λ i. is_among is i ≡ true) (sym (runner_address d)) (asked (or_right (asks d) (counts_as (codes "runner") d) counts))
-
-command_open : same (codes "command") (codes "recipe") ≡ false
-unfolding same
-command_open = refl
 
 abbrev Asked : List (List ℕ) → Elem → Type 0
 Asked is d = asks_within d ≡ true → IsIn is d
@@ -173,19 +161,18 @@ asked_parts is c h = either (is_closed c)
     either true = tt
     either false = sub_filter (Asked is) (is_part None c.name) (elements c.inside) h
 
-command_met : (is : List (List ℕ)) (c : Elem) → IsRight c → c.name ≡ codes "command" → counts_as (codes "command") c ≡ true → Each (IsIn is) (asking_at c) → IsMetCommand is (command_of None c)
+command_met : (is : List (List ℕ)) (c : Elem) → IsRight None c → c.name ≡ codes "command" → counts_as (codes "command") c ≡ true → Each (IsIn is) (asking_at c) → IsMetCommand is (command_of None c)
 unfolding command_of
 command_met is c right name counts h =
-    let open_ = right_open (codes "command") c right name command_open in
     let within = subst (Each (IsIn is)) (ap (λ b. if b then filter asks_within (elements c.inside) else if asks c then c ∷ [] else []) counts) h in
     let asked = asked_parts is c (of_filter (IsIn is) asks_within (elements c.inside) within) in
-    let all = each_both (IsChild c.name) (Asked is) (parts None c) (right_parts c right open_) asked in record {
+    let all = each_both (IsChild None c.name) (Asked is) (parts None c) (right_parts None c right) asked in record {
       deps = each_map (IsMet is) (dep_of None) (those asked_names (parts None c))
-          (each_weak (λ d. (IsChild c.name d × Asked is d) × (is_among asked_names d.name ≡ true)) (λ d. IsMet is (dep_of None d)) (λ d k. child_dep_met is c.name d k.0.0 k.1 k.0.1) (those asked_names (parts None c))
-          (each_filter (λ d. IsChild c.name d × Asked is d) (λ d. is_among asked_names d.name) (parts None c) all));
+          (each_weak (λ d. (IsChild None c.name d × Asked is d) × (is_among asked_names d.name ≡ true)) (λ d. IsMet is (dep_of None d)) (λ d k. child_dep_met is c.name d k.0.0 k.1 k.0.1) (those asked_names (parts None c))
+          (each_filter (λ d. IsChild None c.name d × Asked is d) (λ d. is_among asked_names d.name) (parts None c) all));
       runner = each_first (IsMetRunner is) (runner_of None) (those runner_names (parts None c))
-          (each_weak (λ d. (IsChild c.name d × Asked is d) × (is_among runner_names d.name ≡ true)) (λ d. IsMetRunner is (runner_of None d)) (λ d k. child_runner_met is c.name d k.0.0 k.1 k.0.1) (those runner_names (parts None c))
-          (each_filter (λ d. IsChild c.name d × Asked is d) (λ d. is_among runner_names d.name) (parts None c) all));
+          (each_weak (λ d. (IsChild None c.name d × Asked is d) × (is_among runner_names d.name ≡ true)) (λ d. IsMetRunner is (runner_of None d)) (λ d k. child_runner_met is c.name d k.0.0 k.1 k.0.1) (those runner_names (parts None c))
+          (each_filter (λ d. IsChild None c.name d × Asked is d) (λ d. is_among runner_names d.name) (parts None c) all));
     }
 
 -- Selections.

@@ -40,7 +40,7 @@ use Rattle.zi_sels_laws.proofs.SoundLaws.{is_name, is_of_name, second_cause, bin
 
 -- Parts without a fault.
 
-each_right : (es : List Elem) → faults_of part_fault es ≡ [] → Each IsRight es
+each_right : (es : List Elem) → faults_of part_fault es ≡ [] → Each (IsRight None) es
 each_right [] h = tt
 each_right (e ∷ es) h =
     let b = empty_both (optional (part_fault e)) (faults_of part_fault es) h in
@@ -48,11 +48,11 @@ each_right (e ∷ es) h =
 
 -- an element that counts, and has no fault
 pub record IsCounted (name : List ℕ) (c : Elem) : Type 0 where
-  pub right : IsRight c
+  pub right : IsRight None c
   pub ours : is_ours c ≡ true
   pub named : c.name ≡ name
 
-pub counted : (name : List ℕ) (c : Elem) → IsRight c → counts_as name c ≡ true → IsCounted name c
+pub counted : (name : List ℕ) (c : Elem) → IsRight None c → counts_as name c ≡ true → IsCounted name c
 counted name c h k =
     let n = is_name name c (both_true (is name c) (not (is_left_out c)) k).0 in
     record { right = h; ours = n.0; named = n.1 }
@@ -61,16 +61,16 @@ counted name c h k =
 passed : {A : Type 0} (test : A → Bool) (xs : List A) → Each (λ x. test x ≡ true) (filter test xs)
 passed test xs = each_weak (λ x. Unit {0} × (test x ≡ true)) (λ x. test x ≡ true) (λ x h. h.1) (filter test xs) (each_filter (λ x. Unit {0}) test xs (each_true xs))
 
-all_counted : (name : List ℕ) (es : List Elem) → Each IsRight (filter (counts_as name) es) → Each (IsCounted name) (filter (counts_as name) es)
+all_counted : (name : List ℕ) (es : List Elem) → Each (IsRight None) (filter (counts_as name) es) → Each (IsCounted name) (filter (counts_as name) es)
 all_counted name es h =
-    each_weak (λ c. IsRight c × (counts_as name c ≡ true)) (IsCounted name) (λ c k. counted name c k.0 k.1) (filter (counts_as name) es)
-    (each_both IsRight (λ c. counts_as name c ≡ true) (filter (counts_as name) es) h (passed (counts_as name) es))
+    each_weak (λ c. IsRight None c × (counts_as name c ≡ true)) (IsCounted name) (λ c k. counted name c k.0 k.1) (filter (counts_as name) es)
+    (each_both (IsRight None) (λ c. counts_as name c ≡ true) (filter (counts_as name) es) h (passed (counts_as name) es))
 
-binding_counted : (c : Elem) → IsRight c → counts_as_binding c ≡ true → IsProperBinding (binding_of c)
+binding_counted : (c : Elem) → IsRight None c → counts_as_binding c ≡ true → IsProperBinding (binding_of c)
 binding_counted c h k = by (is_ours c) (is_among binding_names c.name) (not (is_left_out c)) refl refl k
   where
     by : (a b d : Bool) → is_ours c ≡ a → is_among binding_names c.name ≡ b → (a && b && d) ≡ true → IsProperBinding (binding_of c)
-    by true true d p q e = binding_sound c p (right_part c h) q
+    by true true d p q e = binding_sound c p (right_part None c h) q
     by true false d p q e = absurd (cc e)
     by false b d p q e = absurd (cc e)
 
@@ -81,7 +81,7 @@ command_named c h = there (attribute (codes "name") c) (not_lacking (has (codes 
   where
     lacking : (not (has (codes "name") c)) ≡ false
     lacking = sym (ap (λ b. b && not (has (codes "name") c)) (is_of_name (codes "command") c h.ours h.named)) ∙ second_cause (is (codes "environment") c && is_bad_environment c) (is (codes "command") c && lacks (codes "name") c) (is (codes "for-each") c && is_bad_for_each c)
-        (is (codes "requires") c && is_wrong (λ t. is_some (importance_of t)) (attribute (codes "importance") c)) (right_part c h.right)
+        (is (codes "requires") c && is_wrong (λ t. is_some (importance_of t)) (attribute (codes "importance") c)) (right_part None c h.right)
 
     not_lacking : (b : Bool) → not b ≡ false → b ≡ true
     not_lacking true k = refl
@@ -114,7 +114,7 @@ read_named (c ∷ cs) h = (command_named c h.0, read_named cs h.1)
 stay_clear : (cs : List Elem) → Each (IsCounted (codes "command")) cs → filter (λ c. not (is_unclear c)) cs ≡ cs
 stay_clear [] h = refl
 stay_clear (c ∷ cs) h =
-    ap (λ b. cond (not b) (c ∷ filter (λ d. not (is_unclear d)) cs) (filter (λ d. not (is_unclear d)) cs)) (right_clear c h.0.right) ∙ ap (λ v. c ∷ v) (stay_clear cs h.1)
+    ap (λ b. cond (not b) (c ∷ filter (λ d. not (is_unclear d)) cs) (filter (λ d. not (is_unclear d)) cs)) (right_clear None c h.0.right) ∙ ap (λ v. c ∷ v) (stay_clear cs h.1)
 
 -- Digests.
 
@@ -129,7 +129,7 @@ then_digest a (Some t) = either (digest_by a t) refl
     either None h = tt
     either (Some n) h = (by_algorithm a t n h, tt)
 
-each_found : (h : Algorithm → Option DigestName) (some : List Algorithm) → ((a : Algorithm) → Each IsDigest (optional (h a))) → Each IsDigest (filter_map h some)
+pub each_found : (h : Algorithm → Option DigestName) (some : List Algorithm) → ((a : Algorithm) → Each IsDigest (optional (h a))) → Each IsDigest (filter_map h some)
 each_found h [] one = tt
 each_found h (a ∷ some) one = either (h a) (filter_map h some) (one a) (each_found h some one)
   where
@@ -159,19 +159,19 @@ found_digest test (d ∷ ds) h = either (test d) (found_digest test ds h.1)
     either false rest = rest
 
 -- the bytes of those by an algorithm
-abbrev new_in : Option DigestName → Option (List ℕ)
+abbrev pub new_in : Option DigestName → Option (List ℕ)
 new_in None = None
 new_in (Some (digest.Sha256new b)) = Some b
 new_in (Some (digest.Sha256 b)) = None
 new_in (Some (digest.Sha1new b)) = None
 
-abbrev middle_in : Option DigestName → Option (List ℕ)
+abbrev pub middle_in : Option DigestName → Option (List ℕ)
 middle_in None = None
 middle_in (Some (digest.Sha256 b)) = Some b
 middle_in (Some (digest.Sha256new b)) = None
 middle_in (Some (digest.Sha1new b)) = None
 
-abbrev old_in : Option DigestName → Option (List ℕ)
+abbrev pub old_in : Option DigestName → Option (List ℕ)
 old_in None = None
 old_in (Some (digest.Sha1new b)) = Some b
 old_in (Some (digest.Sha256 b)) = None
@@ -202,14 +202,14 @@ used_three ds =
     (app (ap {B = List DigestName → List DigestName} (λ x y. x ++ y) (ap optional (middle_found ds))) (ap optional (old_found ds)))
 
 -- what is found among three and more: that of the three, or what is found behind them
-find_new : (n s o : Option (List ℕ)) (is : List DigestName) → find (is_by Sha256new) (three n s o ++ is) ≡ option_or (option_map (λ b. digest.Sha256new b) n) (find (is_by Sha256new) is)
+pub find_new : (n s o : Option (List ℕ)) (is : List DigestName) → find (is_by Sha256new) (three n s o ++ is) ≡ option_or (option_map (λ b. digest.Sha256new b) n) (find (is_by Sha256new) is)
 find_new None None None is = refl
 find_new None None (Some o) is = refl
 find_new None (Some s) None is = refl
 find_new None (Some s) (Some o) is = refl
 find_new (Some n) s o is = refl
 
-find_middle : (n s o : Option (List ℕ)) (is : List DigestName) → find (is_by Sha256) (three n s o ++ is) ≡ option_or (option_map (λ b. digest.Sha256 b) s) (find (is_by Sha256) is)
+pub find_middle : (n s o : Option (List ℕ)) (is : List DigestName) → find (is_by Sha256) (three n s o ++ is) ≡ option_or (option_map (λ b. digest.Sha256 b) s) (find (is_by Sha256) is)
 find_middle None None None is = refl
 find_middle None None (Some o) is = refl
 find_middle None (Some s) o is = refl
@@ -217,7 +217,7 @@ find_middle (Some n) None None is = refl
 find_middle (Some n) None (Some o) is = refl
 find_middle (Some n) (Some s) o is = refl
 
-find_old : (n s o : Option (List ℕ)) (is : List DigestName) → find (is_by Sha1new) (three n s o ++ is) ≡ option_or (option_map (λ b. digest.Sha1new b) o) (find (is_by Sha1new) is)
+pub find_old : (n s o : Option (List ℕ)) (is : List DigestName) → find (is_by Sha1new) (three n s o ++ is) ≡ option_or (option_map (λ b. digest.Sha1new b) o) (find (is_by Sha1new) is)
 find_old None None None is = refl
 find_old None None (Some o) is = refl
 find_old None (Some s) None is = refl
@@ -227,7 +227,7 @@ find_old (Some n) None (Some o) is = refl
 find_old (Some n) (Some s) None is = refl
 find_old (Some n) (Some s) (Some o) is = refl
 
-or_again : {A : Type 0} (a b : Option A) → option_or (option_or a b) b ≡ option_or a b
+pub or_again : {A : Type 0} (a b : Option A) → option_or (option_or a b) b ≡ option_or a b
 or_again None None = refl
 or_again None (Some y) = refl
 or_again (Some x) b = refl
@@ -301,7 +301,7 @@ own_right e h = by (is_none (value (codes "id") e)) (is_amiss is_version (attrib
 pub record IsSound (e : Elem) : Type 0 where
   pub own : HasOwn e
   pub seconds : second_commands e ≡ []
-  pub bindings : Each IsRight (bindings_in e)
+  pub bindings : Each (IsRight None) (bindings_in e)
   pub deps : Each (IsCounted (codes "requires")) (counting (codes "requires") e)
   pub commands : Each (IsCounted (codes "command")) (counting (codes "command") e)
 
@@ -315,9 +315,9 @@ selection_sound e h =
     let b = empty_both (kinds ++ seconds) faults all in
     let c = empty_both kinds seconds b.0 in
     let right = each_right (parts_in e) b.1 in
-    let p3 = each_front IsRight (bindings_in e ++ counting (codes "requires") e ++ counting (codes "command") e) (counting (codes "manifest-digest") e) right in
-    let p2 = each_front IsRight (bindings_in e ++ counting (codes "requires") e) (counting (codes "command") e) p3.0 in
-    let p1 = each_front IsRight (bindings_in e) (counting (codes "requires") e) p2.0 in record {
+    let p3 = each_front (IsRight None) (bindings_in e ++ counting (codes "requires") e ++ counting (codes "command") e) (counting (codes "manifest-digest") e) right in
+    let p2 = each_front (IsRight None) (bindings_in e ++ counting (codes "requires") e) (counting (codes "command") e) p3.0 in
+    let p1 = each_front (IsRight None) (bindings_in e) (counting (codes "requires") e) p2.0 in record {
       own = own_right e (empty_optional (fault_at e) (own_kind e) c.0);
       seconds = empty_map (λ c. fault_at c BadPart) (second_commands e) c.1;
       bindings = p1.0;
@@ -343,6 +343,6 @@ item_proper e h = record {
   apart = names_apart [] [] (map (λ c. c.name) (map (command_of None) (counting (codes "command") e))) (counting (codes "command") e) tt (read_named (counting (codes "command") e) h.commands)
       (sym (ap (repeated (share (codes "name"))) (stay_clear (counting (codes "command") e) h.commands)) ∙ h.seconds);
   bindings = each_map IsProperBinding binding_of (bindings_in e)
-      (each_weak (λ c. IsRight c × (counts_as_binding c ≡ true)) (λ c. IsProperBinding (binding_of c)) (λ c k. binding_counted c k.0 k.1) (bindings_in e)
-      (each_both IsRight (λ c. counts_as_binding c ≡ true) (bindings_in e) h.bindings (passed counts_as_binding (elements e.inside))));
+      (each_weak (λ c. IsRight None c × (counts_as_binding c ≡ true)) (λ c. IsProperBinding (binding_of c)) (λ c k. binding_counted c k.0 k.1) (bindings_in e)
+      (each_both (IsRight None) (λ c. counts_as_binding c ≡ true) (bindings_in e) h.bindings (passed counts_as_binding (elements e.inside))));
 }

@@ -6,7 +6,7 @@ use Rattle.zi_forest.specs.Forest.{Elem, attribute, lacks, value, text_in}
 use Rattle.zi_feed.specs.Texts.{same, is_none}
 use Rattle.zi_feed.specs.Words.{is_among, listed, is_wrong}
 use Rattle.zi_feed.specs.Forms.{mode_of, importance_of}
-use Rattle.zi_feed.specs.Sites.{is, is_ours, is_closed, parts, binding_names}
+use Rattle.zi_feed.specs.Sites.{Ways, is, is_ours, parts, binding_names}
 use Rattle.zi_feed.specs.Values.{those, binding_of, bindings_of, dep_of, deps_of, ranges_of, extra_of, word_of, args_of, runner_of, command_of}
 use Rattle.zi_feed.specs.Faults.{is_bad_part, is_bad_environment, is_bad_for_each}
 use Rattle.zi_feed.specs.declared.feed.Binding.TheVariants.{Env, Unbuilt}
@@ -21,7 +21,7 @@ use Rattle.zi_sels_laws.proofs.DepLaws.{IsProperDep, IsAsked}
 use Rattle.zi_sels_laws.proofs.WordLaws.{IsProperWord, word_names}
 use Rattle.zi_sels_laws.proofs.RunnerLaws.{IsProperRunner}
 use Rattle.zi_sels_laws.proofs.CommandLaws.{IsProperCommand, IsDir, dir_names, runner_names}
-use Rattle.zi_sels_laws.proofs.FreeLaws.{both_true, both_false, each_filter, each_weak, each_map, each_first, IsRight, IsChild, right_part, right_open, right_parts, child_own}
+use Rattle.zi_sels_laws.proofs.FreeLaws.{both_true, both_false, each_filter, each_weak, each_map, each_first, IsRight, IsChild, right_part, right_parts, child_ours, child_own}
 
 -- Names.
 
@@ -94,12 +94,12 @@ binding_sound c ours good known = either (is (codes "environment") c) refl
     either false h = other_name c.name known (is_not_name (codes "environment") c ours h)
 
 -- a child is one of its parent's that is right
-pub bindings_sound : (e : Elem) → IsRight e → is_closed e ≡ false → Each IsProperBinding (bindings_of None e)
-bindings_sound e h open_ =
-    each_map IsProperBinding binding_of (those binding_names (parts None e))
-    (each_weak (λ c. IsChild e.name c × (is_among binding_names c.name ≡ true)) (λ c. IsProperBinding (binding_of c))
-    (λ c k. binding_sound c (child_own e.name c k.0).ours (right_part c k.0.right) k.1) (those binding_names (parts None e))
-    (each_filter (IsChild e.name) (λ c. is_among binding_names c.name) (parts None e) (right_parts e h open_)))
+pub bindings_sound : (ways : Ways) (e : Elem) → IsRight ways e → Each IsProperBinding (bindings_of ways e)
+bindings_sound ways e h =
+    each_map IsProperBinding binding_of (those binding_names (parts ways e))
+    (each_weak (λ c. IsChild ways e.name c × (is_among binding_names c.name ≡ true)) (λ c. IsProperBinding (binding_of c))
+    (λ c k. binding_sound c (child_ours ways e.name c k.0) (right_part ways c k.0.right) k.1) (those binding_names (parts ways e))
+    (each_filter (IsChild ways e.name) (λ c. is_among binding_names c.name) (parts ways e) (right_parts ways e h)))
 
 -- Dependencies.
 
@@ -117,11 +117,7 @@ not_restricts : same (codes "requires") (codes "restricts") ≡ false
 unfolding same
 not_restricts = refl
 
-requires_open : same (codes "requires") (codes "recipe") ≡ false
-unfolding same
-requires_open = refl
-
-pub dep_sound : (c : Elem) → IsRight c → c.name ≡ codes "requires" → IsProperDep (dep_of None c)
+pub dep_sound : (c : Elem) → IsRight None c → c.name ≡ codes "requires" → IsProperDep (dep_of None c)
 unfolding dep_of ranges_of
 dep_sound c h name = record {
   kind = subst IsAsked (sym (ap (λ b. if b then Restricts else unwrap_or (option_and_then importance_of (attribute (codes "importance") c)) Essential) (ends (is_ours c) (same c.name (codes "restricts")) (ap (λ n. same n (codes "restricts")) name ∙ not_restricts))))
@@ -130,7 +126,7 @@ dep_sound c h name = record {
   os = refl;
   wanted = refl;
   commands = refl;
-  bindings = bindings_sound c h (right_open (codes "requires") c h name requires_open);
+  bindings = bindings_sound None c h;
 }
   where
     ends : (a b : Bool) → b ≡ false → (a && b) ≡ false
@@ -161,29 +157,25 @@ split_well c h k =
     either None q = refl
     either (Some t) q = twice (is_none t) q
 
-pub word_sound : (c : Elem) → is_ours c ≡ true → is_bad_part c ≡ false → is_among word_names c.name ≡ true → IsProperWord (word_of None c)
+pub word_sound : (ways : Ways) (c : Elem) → is_ours c ≡ true → is_bad_part c ≡ false → is_among word_names c.name ≡ true → IsProperWord (word_of ways c)
 unfolding word_of
-word_sound c ours good known = either (is (codes "arg") c) refl
+word_sound ways c ours good known = either (is (codes "arg") c) refl
   where
     either : (b : Bool) → is (codes "arg") c ≡ b → IsProperWord (if b then Arg (text_in c.inside)
-        else ForEach (value (codes "item-from") c) (unwrap_or (attribute (codes "separator") c) (codes ":")) (map (λ (a : Elem). text_in a.inside) (parts None c)))
+        else ForEach (value (codes "item-from") c) (unwrap_or (attribute (codes "separator") c) (codes ":")) (map (λ (a : Elem). text_in a.inside) (parts ways c)))
     either true h = tt
     either false h = split_well c (is_of_name (codes "for-each") c ours (loop_name c.name known (is_not_name (codes "arg") c ours h))) good
 
-pub words_sound : (e : Elem) → IsRight e → is_closed e ≡ false → Each IsProperWord (args_of None e)
-words_sound e h open_ =
-    each_map IsProperWord (word_of None) (those word_names (parts None e))
-    (each_weak (λ c. IsChild e.name c × (is_among word_names c.name ≡ true)) (λ c. IsProperWord (word_of None c))
-    (λ c k. word_sound c (child_own e.name c k.0).ours (right_part c k.0.right) k.1) (those word_names (parts None e))
-    (each_filter (IsChild e.name) (λ c. is_among word_names c.name) (parts None e) (right_parts e h open_)))
+pub words_sound : (ways : Ways) (e : Elem) → IsRight ways e → Each IsProperWord (args_of ways e)
+words_sound ways e h =
+    each_map IsProperWord (word_of ways) (those word_names (parts ways e))
+    (each_weak (λ c. IsChild ways e.name c × (is_among word_names c.name ≡ true)) (λ c. IsProperWord (word_of ways c))
+    (λ c k. word_sound ways c (child_ours ways e.name c k.0) (right_part ways c k.0.right) k.1) (those word_names (parts ways e))
+    (each_filter (IsChild ways e.name) (λ c. is_among word_names c.name) (parts ways e) (right_parts ways e h)))
 
 -- Runners.
 
-runner_open : same (codes "runner") (codes "recipe") ≡ false
-unfolding same
-runner_open = refl
-
-pub runner_sound : (c : Elem) → IsRight c → c.name ≡ codes "runner" → IsProperRunner (runner_of None c)
+pub runner_sound : (c : Elem) → IsRight None c → c.name ≡ codes "runner" → IsProperRunner (runner_of None c)
 unfolding runner_of ranges_of
 runner_sound c h name = record {
   kind = refl;
@@ -191,15 +183,11 @@ runner_sound c h name = record {
   os = refl;
   wanted = refl;
   commands = refl;
-  bindings = bindings_sound c h (right_open (codes "runner") c h name runner_open);
-  words = words_sound c h (right_open (codes "runner") c h name runner_open);
+  bindings = bindings_sound None c h;
+  words = words_sound None c h;
 }
 
 -- Commands.
-
-command_open : same (codes "command") (codes "recipe") ≡ false
-unfolding same
-command_open = refl
 
 abbrev pub asked_names : List (List ℕ)
 asked_names = listed (codes "requires restricts")
@@ -214,28 +202,27 @@ requires_name n h k = same_text n (codes "requires") (by (same n (codes "require
     by false false true p q = absurd (cc q)
     by false true r p q = absurd (cc q)
 
-pub dep_child : (parent : List ℕ) (c : Elem) → IsChild parent c → is_among asked_names c.name ≡ true → c.name ≡ codes "requires"
+pub dep_child : (parent : List ℕ) (c : Elem) → IsChild None parent c → is_among asked_names c.name ≡ true → c.name ≡ codes "requires"
 dep_child parent c h k = requires_name c.name k (child_own parent c h).kept
 
-pub deps_sound : (e : Elem) → IsRight e → is_closed e ≡ false → Each IsProperDep (deps_of None e)
-deps_sound e h open_ =
+pub deps_sound : (e : Elem) → IsRight None e → Each IsProperDep (deps_of None e)
+deps_sound e h =
     each_map IsProperDep (dep_of None) (those asked_names (parts None e))
-    (each_weak (λ c. IsChild e.name c × (is_among asked_names c.name ≡ true)) (λ c. IsProperDep (dep_of None c))
+    (each_weak (λ c. IsChild None e.name c × (is_among asked_names c.name ≡ true)) (λ c. IsProperDep (dep_of None c))
     (λ c k. dep_sound c k.0.right (dep_child e.name c k.0 k.1)) (those asked_names (parts None e))
-    (each_filter (IsChild e.name) (λ c. is_among asked_names c.name) (parts None e) (right_parts e h open_)))
+    (each_filter (IsChild None e.name) (λ c. is_among asked_names c.name) (parts None e) (right_parts None e h)))
 
-pub command_sound : (c : Elem) → IsRight c → c.name ≡ codes "command" → IsProperCommand (command_of None c)
+pub command_sound : (c : Elem) → IsRight None c → c.name ≡ codes "command" → IsProperCommand (command_of None c)
 unfolding command_of
 command_sound c h name =
-    let open_ = right_open (codes "command") c h name command_open in
-    let all = right_parts c h open_ in record {
-      words = words_sound c h open_;
+    let all = right_parts None c h in record {
+      words = words_sound None c h;
       runner = each_first IsProperRunner (runner_of None) (those runner_names (parts None c))
-          (each_weak (λ r. IsChild c.name r × (is_among runner_names r.name ≡ true)) (λ r. IsProperRunner (runner_of None r)) (λ r k. runner_sound r k.0.right (only_name r.name (codes "runner") k.1))
-          (those runner_names (parts None c)) (each_filter (IsChild c.name) (λ r. is_among runner_names r.name) (parts None c) all));
-      deps = deps_sound c h open_;
-      bindings = bindings_sound c h open_;
+          (each_weak (λ r. IsChild None c.name r × (is_among runner_names r.name ≡ true)) (λ r. IsProperRunner (runner_of None r)) (λ r k. runner_sound r k.0.right (only_name r.name (codes "runner") k.1))
+          (those runner_names (parts None c)) (each_filter (IsChild None c.name) (λ r. is_among runner_names r.name) (parts None c) all));
+      deps = deps_sound c h;
+      bindings = bindings_sound None c h;
       unbuilt = each_first IsDir (λ (w : Elem). w.name) (those dir_names (parts None c))
-          (each_weak (λ r. IsChild c.name r × (is_among dir_names r.name ≡ true)) (λ r. IsDir r.name) (λ r k. only_name r.name (codes "working-dir") k.1)
-          (those dir_names (parts None c)) (each_filter (IsChild c.name) (λ r. is_among dir_names r.name) (parts None c) all));
+          (each_weak (λ r. IsChild None c.name r × (is_among dir_names r.name ≡ true)) (λ r. IsDir r.name) (λ r k. only_name r.name (codes "working-dir") k.1)
+          (those dir_names (parts None c)) (each_filter (IsChild None c.name) (λ r. is_among dir_names r.name) (parts None c) all));
     }

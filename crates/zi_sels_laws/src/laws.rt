@@ -1,8 +1,17 @@
 //! What holds of selections documents as such.
-//! The law is a function without parameters and with no work to do, whose clause is the law.
-ghost use Rattle.std.specs.Prelude.{◌≡◌, ℕ, List, None};
+//! Each law is a function without parameters and with no work to do, whose clause is the law.
+ghost use Rattle.std.specs.Prelude.{◌≡◌, ℕ, List, Option, None};
+ghost use Rattle.zi_policy.specs.declared.types.Policy.{Policy};
+ghost use Rattle.zi_outside.specs.Views.{Holding};
 ghost use Rattle.zi_docout.specs.Amiss.{first_amiss};
+ghost use Rattle.zi_universe.specs.declared.types.Requirement.{Requirement};
+ghost use Rattle.zi_universe.specs.declared.types.Interface.{Interface};
+ghost use Rattle.zi_universe.specs.Candidates.{Store};
+ghost use Rattle.zi_universe.specs.Loading.{Loads};
+ghost use Rattle.zi_choice.specs.Choice.{Choice};
+ghost use Rattle.zi_choice.specs.Valid.{IsValid};
 ghost use Rattle.zi_sels.specs.declared.types.Selections.{Selections};
+ghost use Rattle.zi_sels.specs.Chosen.{AreSelected};
 ghost use Rattle.zi_sels.specs.Written.{tree, document};
 ghost use Rattle.zi_sels.specs.Reading.{Says};
 
@@ -12,6 +21,17 @@ use zi_docout::what_is_written_is_read;
 /// what `write` writes. No document says two values (`zi_sels::one_reading`), so nothing else is read of it.
 pub fn what_is_read_is_read_again()
     ensures { (bytes : List ℕ) (s : Selections) → Says bytes s → first_amiss (tree s) ≡ None → Says (document s) s }
+{
+    what_is_written_is_read();
+}
+
+/// What a valid choice selects in a universe that was loaded, where its tree can be written, is what the canonical document of it
+/// says: `read` gives it again of what `write` writes, as `from_choice` gave it. The universe is one that `zi_universe::load` answers,
+/// for the requirement of the choice and over whatever feeds are held. The tree can't be written where a text of it is none that XML
+/// can carry, as the root's address may be, which comes from no document.
+pub fn what_is_chosen_is_read_back()
+    ensures { (told : Option Holding) (req : Requirement) (policy : Policy) (stored : Store) (universe : List Interface) (choice : Choice) (s : Selections)
+        → Loads told req policy stored universe → IsValid universe req choice → AreSelected universe req choice s → first_amiss (tree s) ≡ None → Says (document s) s }
 {
     what_is_written_is_read();
 }
