@@ -5,7 +5,7 @@ use std::alloc::Global;
 use std::fmt::Write;
 use zi_outside::{Launch, MemorySink};
 use zi_shelf::{CallKind, MemoryShelf};
-use zi_text::Memory;
+use zi_text::{Memory, Text};
 use zi_tree::{RelPath, Tree, TreeNode};
 
 // Adds the words of a launch.
@@ -42,11 +42,13 @@ fn put_at(alloc: Global, out: &mut String, path: &str, tree: &Tree) -> Result<()
         return Ok(out.push_str("no path")?);
     };
     match tree.find(&path) {
-        Some(TreeNode::File { bytes, .. }) => {
+        Some(TreeNode::File { bytes, exec, mtime }) => {
             let text = std::str::from_utf8(bytes.as_slice()).unwrap_or("no text");
-            write!(out, "file {text:?}")?
+            let kind = if *exec { "program" } else { "file" };
+            write!(out, "{kind} {text:?} {mtime}")?
         }
-        Some(_) => out.push_str("no file")?,
+        Some(TreeNode::Folder(folder)) => write!(out, "folder of {}", folder.len())?,
+        Some(TreeNode::Link { .. }) => out.push_str("link")?,
         None => out.push_str("none")?,
     }
     Ok(())
@@ -65,6 +67,15 @@ fn put_stored(
         Some(_) if path.is_empty() => Ok(out.push_str("stored")?),
         Some(tree) => put_at(alloc, out, path, tree),
     }
+}
+
+// Adds how many addresses the web was asked for, and each of them.
+fn put_asked(out: &mut String, asked: &[Text]) -> Result<(), Memory> {
+    write!(out, "{}", asked.len())?;
+    for address in asked {
+        write!(out, " {}", address.as_str())?;
+    }
+    Ok(())
 }
 
 // How many entries the store was asked to make.
@@ -103,7 +114,7 @@ pub(crate) fn put_seen(
     match word {
         "last" | "variable" | "folders" => put_launch(out, word, rest, objects)?,
         "launched" => write!(out, "{}", objects.spawner.launches().len())?,
-        "asked" => write!(out, "{}", objects.web.asked().len())?,
+        "asked" => put_asked(out, objects.web.asked())?,
         "called" => write!(out, "{}", objects.shelf.calls().len())?,
         "made" => write!(out, "{}", made(&objects.shelf))?,
         "stored" => put_stored(alloc, out, rest, &objects.shelf)?,
