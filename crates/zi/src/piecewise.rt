@@ -9,7 +9,7 @@ use std::io::{self, Read};
 use zi_outside::{FeedsFault, Got};
 
 // The most bytes that are read at once.
-const PIECE: usize = 65_536;
+const PIECE: usize = 16_384;
 
 /// What stands under a name.
 #[derive(Drop)]

@@ -1,7 +1,7 @@
 -- Each command has a clause of two literals.
-use Rattle.std.proofs.Common.{◌≡◌, ℕ, suc, ◌+◌, ◌*◌, ◌≤◌, Bool, true, false, inl, inr, List, [], ◌∷◌, ◌++◌, length, map, sym, ap, ◌∙◌, subst, arith}
+use Rattle.std.proofs.Common.{◌≡◌, ℕ, suc, ◌+◌, ◌*◌, ◌<◌, ◌≤◌, Bool, true, false, List, [], ◌∷◌, ◌++◌, length, map, sym, ap, ◌∙◌, subst, arith}
 use Rattle.std.specs.Prelude.{nat_lt}
-use Rattle.std.proofs.lemmas.Bool.{cases_lt, ltb-true}
+use Rattle.std.proofs.lemmas.Bool.{ltb-true}
 use Rattle.std.proofs.lemmas.List.{map-append, length-map}
 use Rattle.zi_feed.specs.declared.feed.Command.{Command}
 use Rattle.zi_universe.specs.declared.types.Requirement.{Requirement}
@@ -15,7 +15,7 @@ use Rattle.zi_formula.specs.declared.formula.Formula.{Formula}
 use Rattle.zi_formula.specs.Form.{WellFormed}
 use Rattle.zi_build.specs.declared.writing.Writer.{Writer}
 use Rattle.zi_build.specs.Writing.{Holds, Adds}
-use Rattle.zi_build.specs.Answers.{IsBuilt, IsCount}
+use Rattle.zi_build.specs.Answers.{IsBuilt}
 use Rattle.zi_build.proofs.Formed.{is_formed}
 use Rattle.zi_build.proofs.WriteLaws.{literals_app, no_yes, not_past}
 
@@ -83,16 +83,12 @@ counted b u req v w e f g =
       many = λ l. absurd (omega (arith, e, l));
     })
 
-count_case : (b : Bool) (u : List Interface) (req : Requirement) (w : Writer) (large : Bool) → nat_lt 8000000 w.size ≡ large → Holds b w (formula u req).constraints → IsCount u req large
-count_case b u req w true e h = h.many (ltb-true 8000000 w.size e)
-count_case b u req w false e h = let l = not_past w.size e in let p = (h.few l).0 in omega (arith, l, p)
+-- past the limit the constraints have too many literals, and within it they are those that were kept
+pub too_many : (b : Bool) (u : List Interface) (req : Requirement) (w : Writer) → nat_lt 8000000 w.size ≡ true → Holds b w (formula u req).constraints → 8000000 < literals (formula u req).constraints
+too_many b u req w e h = h.many (ltb-true 8000000 w.size e)
 
-pub count_is : (b : Bool) (u : List Interface) (req : Requirement) (w : Writer) (large : Bool) → large ≡ nat_lt 8000000 w.size → Holds b w (formula u req).constraints → IsCount u req large
-count_is b u req w large e h = count_case b u req w large (sym e) h
-
-pub kept_is : (b : Bool) (u : List Interface) (req : Requirement) (w : Writer) → b ≡ true → literals (formula u req).constraints ≤ 8000000 → Holds b w (formula u req).constraints → w.constraints ≡ (formula u req).constraints
-kept_is b u req w kept few h =
-    elim (cases_lt 8000000 w.size) [ inl l ↦ absurd (let m = h.many l in omega (arith, m, few)) | inr l ↦ (h.few l).1 kept ]
+pub all_kept : (b : Bool) (u : List Interface) (req : Requirement) (w : Writer) → b ≡ true → nat_lt 8000000 w.size ≡ false → Holds b w (formula u req).constraints → (w.constraints ≡ (formula u req).constraints) × (literals (formula u req).constraints ≤ 8000000)
+all_kept b u req w kept e h = let l = not_past w.size e in let p = h.few l in let q = p.0 in (p.1 kept, omega (arith, l, q))
 
 -- the formula, where it is kept whole
 pub built : (u : List Interface) (req : Requirement) (last : ℕ) (cs : List Constraint) → last ≡ var_count u → cs ≡ (formula u req).constraints → literals (formula u req).constraints ≤ 8000000 → IsBuilt u req (record { variables = last; constraints = cs })

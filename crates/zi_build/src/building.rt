@@ -1,9 +1,8 @@
 //! The formula of a universe and a requirement.
-ghost use Rattle.std.specs.Prelude.{◌≡◌, ◌≤◌, ◌<◌, false, true, IfOk, MatchResult};
+ghost use Rattle.std.specs.Prelude.{◌≡◌, true, IfOk, MatchResult};
 ghost use Rattle.zi_universe.specs.Whole.{BeginsWith};
-ghost use Rattle.zi_build.specs.Clauses.{formula, literals, most_literals};
 ghost use Rattle.zi_build.specs.Writing.{plan_of, IsPlan};
-ghost use Rattle.zi_build.specs.Answers.{IsBuilt, FaultMeans, IsCount};
+ghost use Rattle.zi_build.specs.Answers.{IsBuilt, FaultMeans, AreKept};
 
 use crate::kinds::add_rules;
 use crate::variables::table_of;
@@ -26,32 +25,21 @@ pub enum BuildFault {
     Memory,
 }
 
-// Whether the constraints have too many literals. They are counted one by one, and none is kept.
-fn is_too_large(plan: &Plan, req: &Requirement) -> Result<bool, Memory>
-    requires { IsPlan plan.now }
-    ensures { IfOk result (λ large. IsCount (plan_of plan.now) req.now large) }
-{
-    let mut w = Writer {
-        size: 0,
-        constraints: List::new(plan.alloc),
-    };
-    add_rules(plan, req, &mut w)?;
-    Ok(is_full(&w))
-}
-
-// The constraints, where they have few enough literals.
-fn constraints_of(plan: &Plan, req: &Requirement) -> Result<List<Constraint>, Memory>
+// The constraints, where they have few enough literals. They are counted as they are kept, and behind the limit none is kept any more.
+fn constraints_of(plan: &Plan, req: &Requirement) -> Result<Option<List<Constraint>>, Memory>
     requires plan { IsPlan plan.now }
     requires keeps { plan.now.keeps ≡ true }
-    requires few { literals (formula (plan_of plan.now) req.now).constraints ≤ most_literals }
-    ensures { IfOk result (λ cs. cs ≡ (formula (plan_of plan.now) req.now).constraints) }
+    ensures { IfOk result (AreKept (plan_of plan.now) req.now) }
 {
     let mut w = Writer {
         size: 0,
         constraints: List::new(plan.alloc),
     };
     add_rules(plan, req, &mut w)?;
-    Ok(w.constraints)
+    if is_full(&w) {
+        return Ok(None);
+    }
+    Ok(Some(w.constraints))
 }
 
 /// The constraints of a universe and a requirement, in their order:
@@ -65,8 +53,8 @@ fn constraints_of(plan: &Plan, req: &Requirement) -> Result<List<Constraint>, Me
 ///
 /// A literal that would stand twice in a clause stands once. The variables are numbered from 1: the candidates, interface by
 /// interface and each in rank order, then in the same order the commands of each, last the one that says 64-bit.
-/// `TooLarge` comes exactly where the clauses and groups have more than 8,000,000 literals; they are counted before any is
-/// kept. The work is linear in the literals, in the names of the universe, and in the candidates that are looked at for each
+/// `TooLarge` comes exactly where the clauses and groups have more than 8,000,000 literals; no more than these are kept before
+/// it comes. The work is linear in the literals, in the names of the universe, and in the candidates that are looked at for each
 /// dependency.
 pub fn build(alloc: Global, u: &Universe, req: &Requirement) -> Result<Formula, BuildFault>
     requires rooted { BeginsWith u.now req.now.interface }
@@ -77,21 +65,16 @@ pub fn build(alloc: Global, u: &Universe, req: &Requirement) -> Result<Formula, 
         return Err(BuildFault::TooLarge { limit });
     };
     let names = Names::of(alloc, u)?;
-    let counting = Plan {
+    let plan = Plan {
         alloc,
-        keeps: false,
+        keeps: true,
         universe: u,
         names: &names,
         table: &table,
     };
-    if is_too_large(&counting, req)? {
+    let Some(constraints) = constraints_of(&plan, req)? else {
         return Err(BuildFault::TooLarge { limit });
-    }
-    let keeping = Plan {
-        keeps: true,
-        ..counting
     };
-    let constraints = constraints_of(&keeping, req)?;
     Ok(Formula {
         variables: table.last,
         constraints,

@@ -253,6 +253,18 @@ fn push_if_admitted(
     Ok(())
 }
 
+// No literals, with room for those of as many candidates as most interfaces have.
+fn with_room(plan: &Plan, j: Option<u32>) -> Result<List<Lit>, Memory>
+    requires there { IfSome j (λ j. j < length (plan_of plan.now)) }
+    ensures { IfOk result (λ lits. lits ≡ []) }
+{
+    let count = match j {
+        Some(j) => candidates(plan, j).len(),
+        None => 0,
+    };
+    Ok(List::from_vec(Vec::with_capacity(plan.alloc, count.min(15) + 1)?))
+}
+
 // One of the admitted candidates is to be chosen.
 fn put_admitted(
     plan: &Plan,
@@ -266,7 +278,7 @@ fn put_admitted(
     requires there { IfSome j (λ j. j < length (plan_of plan.now)) }
     ensures { OnOk result (Adds plan.now.keeps (plan_of plan.now) w.old (clause (no (as_var y) ∷ at_target (plan_of plan.now) (admitted_one dep.now) j) ∷ []) w.new) }
 {
-    let mut lits = List::new(plan.alloc);
+    let mut lits = with_room(plan, j)?;
     lits.push(lit(plan, y, false))?;
     push_target(plan, dep, j, &mut lits)?;
     put(plan, w, Constraint::Clause(lits))?;

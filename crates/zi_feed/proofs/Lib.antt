@@ -14,4 +14,5 @@ pub mod PartLaws
 pub mod PlaceLaws
 pub mod RepeatLaws
 pub mod SeenLaws
+pub mod SettledLaws
 pub mod TableLaws

@@ -1,6 +1,6 @@
 //! What the addresses in a feed mean: in a feed of the web joined to its own by the URL Standard, in a local one placed
 //! after the feed's folder.
-ghost use Rattle.std.specs.Prelude.{◌≡◌, ℕ, List, [], ◌∷◌, ◌++◌, ◌⊎◌, ◌↔◌, IsTrue, IfOk, option_map, map, ◌||◌, codes};
+ghost use Rattle.std.specs.Prelude.{◌≡◌, ℕ, List, [], ◌∷◌, ◌++◌, ◌==◌, ◌⊎◌, ◌↔◌, true, Some, IsTrue, IfOk, option_map, map, ◌||◌, codes};
 ghost use Rattle.url.specs.Parser.{Gives, Parsed, IsOutOfRoom, parse_url};
 ghost use Rattle.url.specs.Parts.{Parts};
 ghost use Rattle.zi_feed.specs.Address.{is_web as is_web_text, is_local as is_local_text, without_last, settled, path_of, placed, resolved, joined_to, Shows};
@@ -44,8 +44,50 @@ pub(crate) fn place(alloc: Global, base: &str, text: &str) -> Result<Option<Text
         return Ok(Some(Text::from_str(alloc, text)?));
     }
     let mut path = Text::from_str(alloc, folder(base))?;
-    path.push_str(text)?;
+    path.push_str(without_dot(text))?;
+    if is_settled(path.as_str()) {
+        return Ok(Some(path));
+    }
     settle(alloc, path.as_str())
+}
+
+/// A text without a `./` at its front, which says nothing in a path.
+fn without_dot(text: &str) -> &str
+    ensures { (front : List (List ℕ)) → settled [] (front ++ pieces_of 47 result.now) ≡ settled [] (front ++ pieces_of 47 text.now) }
+{
+    let Some(behind) = text.strip_prefix('.') else {
+        return text;
+    };
+    match behind.strip_prefix('/') {
+        Some(rest) => rest,
+        None => text,
+    }
+}
+
+/// Whether a byte begins a part of a path that may fall away or take another away: it is a slash or a dot.
+fn is_slash_or_dot(b: u8) -> bool
+    ensures { result ≡ (b == 47 || b == 46) }
+{
+    b == b'/' || b == b'.'
+}
+
+/// Whether a path is settled as it is written, since it begins with a slash, and behind each slash stands a byte that is neither a
+/// slash nor a dot.
+#[tactic(auto, using(crate::proofs::SettledLaws::scan_on, crate::proofs::SettledLaws::scan_end, crate::proofs::SettledLaws::is_settled))]
+fn is_settled(path: &str) -> bool
+    ensures { result ≡ true → option_map path_of (settled [] (pieces_of 47 path.now)) ≡ Some path.now }
+{
+    if !is_local(path) {
+        return false;
+    }
+    let mut is_behind = false;
+    for b in path.as_bytes() {
+        if is_behind && is_slash_or_dot(*b) {
+            return false;
+        }
+        is_behind = *b == b'/';
+    }
+    !is_behind
 }
 
 /// Whether a text begins with `http://` or `https://`.

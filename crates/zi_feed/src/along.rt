@@ -38,8 +38,8 @@ pub fn own_of(alloc: Global, ways: Option<&str>, e: &Element) -> Result<Own, Mem
     })
 }
 
-/// The dependencies along a path, outer ones first.
-pub fn deps_along(alloc: Global, owns: &[Own]) -> Result<List<Dep>, Memory>
+// The dependencies of groups, outer ones first.
+fn deps_around(alloc: Global, owns: &[Own]) -> Result<List<Dep>, Memory>
     ensures { IfOk result (λ ds. ds ≡ flat_map (λ o. o.deps) owns.now) }
 {
     let mut deps = List::new(alloc);
@@ -49,14 +49,42 @@ pub fn deps_along(alloc: Global, owns: &[Own]) -> Result<List<Dep>, Memory>
     Ok(deps)
 }
 
-/// The bindings along a path, outer ones first.
-pub fn bindings_along(alloc: Global, owns: &[Own]) -> Result<List<Binding>, Memory>
+/// The dependencies along a path, outer ones first: those of groups, and then the last ones, which are moved where there is no group.
+pub fn deps_along(alloc: Global, owns: &[Own], last: List<Dep>) -> Result<List<Dep>, Memory>
+    ensures { IfOk result (λ ds. ds ≡ flat_map (λ o. o.deps) owns.now ++ last) }
+{
+    if owns.is_empty() {
+        return Ok(last);
+    }
+    let mut deps = deps_around(alloc, owns)?;
+    add_deps(alloc, last.as_slice(), &mut deps)?;
+    Ok(deps)
+}
+
+// The bindings of groups, outer ones first.
+fn bindings_around(alloc: Global, owns: &[Own]) -> Result<List<Binding>, Memory>
     ensures { IfOk result (λ bs. bs ≡ flat_map (λ o. o.bindings) owns.now) }
 {
     let mut bindings = List::new(alloc);
     for own in owns {
         add_bindings(alloc, own.bindings.as_slice(), &mut bindings)?;
     }
+    Ok(bindings)
+}
+
+/// The bindings along a path, outer ones first: those of groups, and then the last ones, which are moved where there is no group.
+pub fn bindings_along(
+    alloc: Global,
+    owns: &[Own],
+    last: List<Binding>,
+) -> Result<List<Binding>, Memory>
+    ensures { IfOk result (λ bs. bs ≡ flat_map (λ o. o.bindings) owns.now ++ last) }
+{
+    if owns.is_empty() {
+        return Ok(last);
+    }
+    let mut bindings = bindings_around(alloc, owns)?;
+    add_bindings(alloc, last.as_slice(), &mut bindings)?;
     Ok(bindings)
 }
 
@@ -70,8 +98,8 @@ fn add_lent<'a>(commands: &'a [Command], lent: &mut Vec<&'a Command>) -> Result<
     Ok(())
 }
 
-// The commands along a path, outer ones first, lent.
-fn lent_along<'a>(alloc: Global, owns: &'a [Own]) -> Result<Vec<&'a Command>, Memory>
+// The commands of groups, outer ones first, lent.
+fn lent_around<'a>(alloc: Global, owns: &'a [Own]) -> Result<Vec<&'a Command>, Memory>
     ensures { IfOk result (λ v. map (λ r. r.now) v.items ≡ flat_map (λ o. o.commands) owns.now) }
 {
     let mut lent = Vec::new(alloc);
@@ -140,15 +168,17 @@ fn main_command(alloc: Global, path: &str) -> Result<Command, Memory>
     })
 }
 
-/// The commands along a path, with what `main` means.
+/// The commands along a path, those of groups and then the last ones, with what `main` means.
 pub fn commands_along(
     alloc: Global,
     main: Option<&str>,
     owns: &[Own],
+    last: &[Command],
 ) -> Result<List<Command>, Memory>
-    ensures { IfOk result (λ cs. cs ≡ with_main (option_copied main.entry) (latest are_alike (flat_map (λ o. o.commands) owns.now))) }
+    ensures { IfOk result (λ cs. cs ≡ with_main (option_copied main.entry) (latest are_alike (flat_map (λ o. o.commands) owns.now ++ last.now))) }
 {
-    let lent = lent_along(alloc, owns)?;
+    let mut lent = lent_around(alloc, owns)?;
+    add_lent(last, &mut lent)?;
     let kept = latest_back(alloc, lent.as_slice())?;
     let mut commands = copied_back(alloc, kept.as_slice())?;
     if let Some(path) = main {

@@ -32,7 +32,7 @@ fn copy_texts(alloc: Global, texts: &List<Text>) -> Result<List<Text>, Memory>
 fn copy_ranges(alloc: Global, ranges: &List<Range>) -> Result<List<Range>, Memory>
     ensures { IfOk result (λ rs. rs ≡ ranges.now) }
 {
-    let mut out = List::new(alloc);
+    let mut out = List::from_vec(Vec::with_capacity(alloc, ranges.len())?);
     for range in ranges.as_slice() {
         out.push(range.copy(alloc)?)?;
     }

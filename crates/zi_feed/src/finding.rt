@@ -1,5 +1,5 @@
 //! The fault of a whole feed, and its value.
-ghost use Rattle.std.specs.Prelude.{◌≡◌, ◌++◌, ◌&&◌, not, IfOk, Some, codes, map, option_copied};
+ghost use Rattle.std.specs.Prelude.{◌≡◌, ◌++◌, ◌∷◌, [], ◌&&◌, not, IfOk, Some, codes, map, option_copied};
 ghost use Rattle.std.specs.List.{filter, flat_map};
 ghost use Rattle.zi_forest.specs.Forest.{element_view, node_view, nodes_view, attribute};
 ghost use Rattle.zi_feed.specs.Texts.{same};
@@ -210,25 +210,26 @@ fn gather_at<'a>(
         return Ok(());
     }
     if is(e, "implementation") {
-        owns.push(own_of(alloc, ways, e)?)?;
-        add_impl(alloc, ways, &taken(said, e), owns.as_slice(), e, impls)?;
-        let _ = owns.pop();
+        let own = own_of(alloc, ways, e)?;
+        let said = taken(said, e);
+        add_impl(alloc, ways, &said, owns.as_slice(), own, e, impls)?;
     }
     Ok(())
 }
 
-// Adds an implementation.
+// Adds an implementation, where these are its groups, and this is what it adds itself.
 fn add_impl(
     alloc: Global,
     ways: Option<&str>,
     said: &Inherited,
     owns: &[Own],
+    own: Own,
     e: &Element,
     impls: &mut List<Impl>,
 ) -> Result<(), Memory>
-    ensures { IfOk result (λ _. impls.new ≡ impls.old ++ optional (impl_at (option_copied ways.entry) (said_by said.now) owns.now (element_view e.now))) }
+    ensures { IfOk result (λ _. impls.new ≡ impls.old ++ optional (impl_at (option_copied ways.entry) (said_by said.now) (owns.now ++ own ∷ []) (element_view e.now))) }
 {
-    if let Some(found) = impl_at(alloc, ways, said, owns, e)? {
+    if let Some(found) = impl_at(alloc, ways, said, owns, own, e)? {
         impls.push(found)?;
     }
     Ok(())

@@ -1,5 +1,5 @@
 //! What implementations and imports mean.
-ghost use Rattle.std.specs.Prelude.{◌≡◌, IfOk, codes, option_copied, option_and_then, unwrap_or};
+ghost use Rattle.std.specs.Prelude.{◌≡◌, ◌++◌, ◌∷◌, [], IfOk, codes, option_copied, option_and_then, unwrap_or};
 ghost use Rattle.std.specs.List.{filter_map, flat_map};
 ghost use Rattle.zi_version.specs.Range.{a_version};
 ghost use Rattle.zi_forest.specs.Forest.{element_view, attribute, value};
@@ -194,20 +194,25 @@ fn sources_of(alloc: Global, ways: Option<&str>, e: &Element) -> Result<Sources,
     })
 }
 
-// What is added along a path, with what `main` means.
-fn own_along(alloc: Global, main: Option<&str>, owns: &[Own]) -> Result<Own, Memory>
+// What is added along a path, by groups and then by an implementation, with what `main` means.
+fn own_along(alloc: Global, main: Option<&str>, owns: &[Own], own: Own) -> Result<Own, Memory>
     ensures { IfOk result
         (λ o. o
         ≡ record {
-          deps = flat_map (λ o. o.deps) owns.now;
-          commands = with_main (option_copied main.entry) (latest are_alike (flat_map (λ o. o.commands) owns.now));
-          bindings = flat_map (λ o. o.bindings) owns.now;
+          deps = flat_map (λ o. o.deps) (owns.now ++ own ∷ []);
+          commands = with_main (option_copied main.entry) (latest are_alike (flat_map (λ o. o.commands) (owns.now ++ own ∷ [])));
+          bindings = flat_map (λ o. o.bindings) (owns.now ++ own ∷ []);
         }) }
 {
+    let Own {
+        deps,
+        commands,
+        bindings,
+    } = own;
     Ok(Own {
-        deps: deps_along(alloc, owns)?,
-        commands: commands_along(alloc, main, owns)?,
-        bindings: bindings_along(alloc, owns)?,
+        deps: deps_along(alloc, owns, deps)?,
+        commands: commands_along(alloc, main, owns, commands.as_slice())?,
+        bindings: bindings_along(alloc, owns, bindings)?,
     })
 }
 
@@ -217,17 +222,18 @@ fn impl_with(
     ways: Option<&str>,
     said: &Inherited,
     owns: &[Own],
+    own: Own,
     e: &Element,
     version: Version,
 ) -> Result<Impl, Memory>
     ensures { IfOk result
         (λ i. i
-        ≡ impl_with (option_copied ways.entry) (said_by said.now) (flat_map (λ o. o.deps) owns.now) (flat_map (λ o. o.commands) owns.now)
-        (flat_map (λ o. o.bindings) owns.now) (element_view e.now) version) }
+        ≡ impl_with (option_copied ways.entry) (said_by said.now) (flat_map (λ o. o.deps) (owns.now ++ own ∷ [])) (flat_map (λ o. o.commands) (owns.now ++ own ∷ []))
+        (flat_map (λ o. o.bindings) (owns.now ++ own ∷ [])) (element_view e.now) version) }
 {
     let facts = facts_of(alloc, ways, said, e)?;
     let sources = sources_of(alloc, ways, e)?;
-    let own = own_along(alloc, said.main, owns)?;
+    let own = own_along(alloc, said.main, owns, own)?;
     Ok(Impl {
         id: facts.id,
         version,
@@ -245,20 +251,21 @@ fn impl_with(
     })
 }
 
-/// The implementation of an element, where this is said along its path and these are added along it; none where its version
-/// is none, which is a fault.
+/// The implementation of an element, where this is said along its path, and these are added by groups along it and by itself; none where
+/// its version is none, which is a fault.
 #[tactic(auto, unfolding(crate::specs::Impls::impl_from, crate::specs::Views::impl_at))]
 pub fn impl_at(
     alloc: Global,
     ways: Option<&str>,
     said: &Inherited,
     owns: &[Own],
+    own: Own,
     e: &Element,
 ) -> Result<Option<Impl>, Memory>
-    ensures { IfOk result (λ i. i ≡ impl_at (option_copied ways.entry) (said_by said.now) owns.now (element_view e.now)) }
+    ensures { IfOk result (λ i. i ≡ impl_at (option_copied ways.entry) (said_by said.now) (owns.now ++ own ∷ []) (element_view e.now)) }
 {
     match version_along(alloc, said)? {
-        Some(version) => Ok(Some(impl_with(alloc, ways, said, owns, e, version)?)),
+        Some(version) => Ok(Some(impl_with(alloc, ways, said, owns, own, e, version)?)),
         None => Ok(None),
     }
 }

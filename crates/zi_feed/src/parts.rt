@@ -151,6 +151,7 @@ fn own_ranges(alloc: Global, e: &Element) -> Result<List<Range>, Memory>
     let mut ranges = List::new(alloc);
     if let Some(text) = attribute(e, "version") {
         if let Some(range) = range_of(alloc, text)? {
+            ranges = List::from_vec(Vec::with_capacity(alloc, 1)?);
             ranges.push(range)?;
         }
     }

@@ -2,7 +2,7 @@
 //! Contracts see both types as plain data, with each version as the text that it was written as.
 //! They are made by `Range::parse` and `Range::between`.
 
-ghost use Rattle.std.specs.Prelude.{◌≡◌, IfOk};
+ghost use Rattle.std.specs.Prelude.{◌≡◌, [], IfOk};
 
 use crate::version::Version;
 use std::alloc::Global;
@@ -64,11 +64,18 @@ impl Alternative {
     }
 }
 
+/// No ranges, with room for so many, since a list that grows by one takes room for four.
+pub fn with_room(alloc: Global, count: usize) -> Result<List<Alternative>, Memory>
+    ensures { IfOk result (λ ranges. ranges ≡ []) }
+{
+    Ok(List::from_vec(Vec::with_capacity(alloc, count)?))
+}
+
 // The same ranges once more.
 fn copy_all(alloc: Global, ranges: &[Alternative]) -> Result<List<Alternative>, Memory>
     ensures { IfOk result (λ copies. copies ≡ ranges.now) }
 {
-    let mut copies = List::new(alloc);
+    let mut copies = with_room(alloc, ranges.len())?;
     for a in ranges {
         let b = a.copy(alloc)?;
         copies.push(b)?;

@@ -7,11 +7,11 @@ ghost use Rattle.zi_version.specs.Value.{IsVersion};
 ghost use Rattle.zi_version.specs.Range.{start_of, end_of, alternative, spaced, range_of, between, IsExpression, is_from, is_below, holds, admits, FaultAt};
 ghost use Rattle.zi_version.specs.Cuts.{Lacks, NoDots, IsAlternative, IsStart, IsEnd, IsSpaced, are_spaces, later, IsNear, DotAt};
 
-use crate::alternative::{Alternative, Range};
+use crate::alternative::{Alternative, Range, with_room};
 use crate::fault::{RangeFault, VersionFault};
 use crate::version::Version;
 use std::alloc::Global;
-use zi_text::{List as Items, Memory};
+use zi_text::Memory;
 
 impl Range {
     /// The expression that a text is, by the feed format's attribute `version`: ranges joined by `|`, each with optional
@@ -21,7 +21,7 @@ impl Range {
     pub fn parse(alloc: Global, text: &str) -> Result<Range, RangeFault>
         ensures { MatchResult result (λ r. range_of text.now ≡ Some r) (FaultAt IsExpression text.now) }
     {
-        let mut ranges = Items::new(alloc);
+        let mut ranges = with_room(alloc, 1)?;
         let mut left = text;
         while let Some((piece, more)) = cut(left, '|') {
             match spaced(alloc, piece) {

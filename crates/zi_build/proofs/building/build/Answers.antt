@@ -1,8 +1,8 @@
 use Rattle.std.proofs.Common.{◌<◌, ◌*◌, refl, subst, arith}
-use Rattle.std.specs.Prelude.{MatchOption}
+use Rattle.std.specs.Prelude.{MatchOption, Some}
 use Rattle.zi_choice.specs.Vars.{total, all_commands}
 use Rattle.zi_build.specs.Clauses.{most_literals}
-use Rattle.zi_build.specs.Answers.{IsCount}
+use Rattle.zi_build.specs.Answers.{AreKept}
 use Rattle.zi_build.specs.Writing.{IsTable}
 use Rattle.zi_build.proofs.LimitLaws.{commands_within, built}
 use Rattle.zi_build.proofs.building.build.Goals as goal
@@ -16,5 +16,5 @@ returns-in_default c =
 pub returns : goal.returns
 returns c =
     let table : IsTable c.args.u.now c.in-Some.table = subst (λ o. MatchOption o (most_literals < 2 * total all_commands c.args.u.now) (IsTable c.args.u.now)) c.in-Some.is c.in_ok-table.ensures in
-    built c.args.u.now c.args.req.now c.in-Some.table.last c.in_ok-constraints.constraints table.last c.in_ok-constraints.ensures
-    (subst (λ b. IsCount c.args.u.now c.args.req.now b) c.if-branch.false c.in_ok-is_too_large.ensures)
+    let kept : AreKept c.args.u.now c.args.req.now (Some c.in-Some-2.constraints) = subst (AreKept c.args.u.now c.args.req.now) c.in-Some-2.is c.in_ok-constraints.ensures in
+    built c.args.u.now c.args.req.now c.in-Some.table.last c.in-Some-2.constraints table.last kept.0 kept.1

@@ -9,5 +9,5 @@ use Rattle.zi_build.proofs.kinds.put_admitted.Goals as goal
 pub returns : goal.returns
 returns c =
     puts_as c.args.plan.now.keeps (plan_of c.args.plan.now) c.args.w.now c.put.new.w (Clause c.push_target.new.lits) (clause (no (as_var c.args.y) ∷ at_target (plan_of c.args.plan.now) (admitted_one c.args.dep.now) c.args.j))
-    (target_is (plan_of c.args.plan.now) (as_var c.args.y) c.args.dep.now c.args.j c.new-lits.result c.push.new.self c.push_target.new.lits c.lit.result c.new-lits.ensures c.lit.ensures c.in_ok-push.ensures.ok c.in_ok-push_target.ensures)
+    (target_is (plan_of c.args.plan.now) (as_var c.args.y) c.args.dep.now c.args.j c.in_ok-lits.lits c.push.new.self c.push_target.new.lits c.lit.result c.in_ok-lits.ensures c.lit.ensures c.in_ok-push.ensures.ok c.in_ok-push_target.ensures)
     c.in_ok-put.ensures

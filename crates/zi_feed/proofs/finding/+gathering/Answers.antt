@@ -1,4 +1,4 @@
-use Rattle.std.proofs.Common.{ap, sym, ◌∙◌, ◌++◌}
+use Rattle.std.proofs.Common.{ap, sym, ◌∙◌, ◌++◌, ◌∷◌, []}
 use Rattle.std.specs.Prelude.{option_copied}
 use Rattle.zi_forest.specs.Forest.{element_view, node_view}
 use Rattle.zi_feed.specs.Views.{carried_impls, said_by}
@@ -31,9 +31,9 @@ gather_at-returns-then-is-clause-impls t c =
 
 pub gather_at-returns-in_ok-add_impl-clause-impls : goal.gather_at-returns-in_ok-add_impl-clause-impls
 gather_at-returns-in_ok-add_impl-clause-impls t c =
-    impl_added _ _ _ (element_view c.args.e.now) _ _ (said_by c.taken-then-is-2.result) c.as_slice.result.now c.in_ok-own_of-2.field-0
+    impl_added _ _ _ (element_view c.args.e.now) _ _ (said_by c.taken-said.result) (c.as_slice.result.now ++ c.in_ok-own.own ∷ []) c.in_ok-own.own
     (sym c.in_ok-stands.ensures ∙ c.if-not-branch.false) (sym c.in_ok-is_closed.ensures ∙ c.if-branch.false) (sym c.is-2.ensures ∙ c.if-is-2.true)
-    c.taken-then-is-2.ensures (c.as_slice.ensures.value ∙ c.in_ok-push-2.ensures.items) c.in_ok-own_of-2.ensures c.in_ok-add_impl.ensures
+    c.taken-said.ensures (ap (λ os. os ++ c.in_ok-own.own ∷ []) c.as_slice.ensures.value) c.in_ok-own.ensures c.in_ok-add_impl.ensures
 
 pub gather_at-returns-else-is-2-clause-impls : goal.gather_at-returns-else-is-2-clause-impls
 gather_at-returns-else-is-2-clause-impls t c =
