@@ -3,6 +3,7 @@ use Rattle.std.specs.Prelude.{ℕ, Bool, List, [], ◌∷◌, ◌++◌, length, 
 use Rattle.std.specs.Fmt.{signed_decimal}
 use Rattle.hex.specs.Hex.{encode_lower}
 use Rattle.zi_digest.specs.declared.Algorithm.{Algorithm}
+use Rattle.zi_digest.specs.declared.DigestName.{DigestName}
 use Rattle.zi_digest.specs.Name.{name_of, hash_in}
 use Rattle.zi_tree.specs.Dir.{Dir, Nothing, AFile, ALink, AFolder}
 
@@ -12,6 +13,10 @@ pub data Sketch : Type 0 where
   OfFile : (name hash : List ℕ) (exec : Bool) (mtime : ℤ) (size : ℕ) (rest : Sketch) → Sketch
   OfLink : (name hash : List ℕ) (size : ℕ) (rest : Sketch) → Sketch
   OfFolder : (name : List ℕ) (inside rest : Sketch) → Sketch
+
+-- the hash in a digest, in lower-case hexadecimal
+abbrev pub hash_text : DigestName → List ℕ
+hash_text name = encode_lower (hash_in name)
 
 -- the hash of some bytes, in lower-case hexadecimal: SHA-1 for sha1new, SHA-256 for the other two
 unfoldable pub hash_of : Algorithm → List ℕ → List ℕ

@@ -230,14 +230,14 @@ fn push<'a>(frames: &mut Vec<Frame<'a>>, frame: Frame<'a>) -> Result<(), Manifes
 }
 
 /// Whether no manifest has this name.
-pub(crate) fn is_bad(name: &str) -> bool
+pub fn is_bad(name: &str) -> bool
     ensures { result ≡ is_bad name.now }
 {
     name.as_bytes().contains(&b'\n') || name == ".manifest"
 }
 
 /// The path of a name in the folder at this path.
-pub(crate) fn joined(alloc: Global, path: &str, name: &str) -> Result<Text, Memory>
+pub fn joined(alloc: Global, path: &str, name: &str) -> Result<Text, Memory>
     ensures { IfOk result (λ t. t ≡ joined path.now name.now) }
 {
     if path.is_empty() {

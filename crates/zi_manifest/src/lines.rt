@@ -1,24 +1,25 @@
 //! The lines of a manifest, each with its LF.
 
 ghost use Rattle.std.specs.Prelude.{◌≡◌, ◌++◌, length, IfOk};
-ghost use Rattle.zi_manifest.specs.Sketch.{hash_of, file_line, link_line, folder_line};
+ghost use Rattle.zi_digest.specs.Name.{name_of};
+ghost use Rattle.zi_manifest.specs.Sketch.{hash_of, hash_text, file_line, link_line, folder_line};
 
 use itoa::Buffer;
 use std::alloc::Global;
-use zi_digest::{Algorithm, Hasher};
-use zi_text::{Memory, Text};
+use zi_digest::{Algorithm, DigestName, Hasher};
+use zi_text::Memory;
 
-/// The hash of these bytes in lower-case hexadecimal.
-#[tactic(auto, unfolding(crate::specs::Sketch::hash_of))]
-fn hash_text(alloc: Global, a: Algorithm, bytes: &[u8]) -> Result<Text, Memory>
-    ensures { IfOk result (λ t. t ≡ hash_of a bytes.now) }
+/// The name of these bytes.
+fn hashed(a: Algorithm, bytes: &[u8]) -> DigestName
+    ensures { result ≡ name_of a bytes.now }
 {
     let mut hasher = Hasher::new(a);
     hasher.update(bytes);
-    hasher.finish().hex(alloc)
+    hasher.finish()
 }
 
 /// The line of a file.
+#[tactic(auto, unfolding(crate::specs::Sketch::hash_of))]
 pub(crate) fn file_line(
     alloc: Global,
     a: Algorithm,
@@ -29,7 +30,28 @@ pub(crate) fn file_line(
 ) -> Result<Vec<u8>, Memory>
     ensures { IfOk result (λ line. line.items ≡ file_line (hash_of a bytes.now) exec mtime (length bytes.now) name.now) }
 {
-    let hash = hash_text(alloc, a, bytes)?;
+    hashed_line(
+        alloc,
+        &hashed(a, bytes),
+        bytes.len() as u64,
+        name,
+        exec,
+        mtime,
+    )
+}
+
+/// The line of a file whose bytes, so many, have this hash.
+pub fn hashed_line(
+    alloc: Global,
+    hash: &DigestName,
+    size: u64,
+    name: &str,
+    exec: bool,
+    mtime: i64,
+) -> Result<Vec<u8>, Memory>
+    ensures { IfOk result (λ line. line.items ≡ file_line (hash_text hash.now) exec mtime size name.now) }
+{
+    let hash = hash.hex(alloc)?;
     let mut buffer = Buffer::new();
     let mut line = if exec {
         Vec::from_slice(alloc, b"X ")?
@@ -40,7 +62,7 @@ pub(crate) fn file_line(
     line.extend_from_slice(b" ")?;
     line.extend_from_slice(buffer.format(mtime).as_bytes())?;
     line.extend_from_slice(b" ")?;
-    line.extend_from_slice(buffer.format(bytes.len()).as_bytes())?;
+    line.extend_from_slice(buffer.format(size).as_bytes())?;
     line.extend_from_slice(b" ")?;
     line.extend_from_slice(name.as_bytes())?;
     line.extend_from_slice(b"\n")?;
@@ -48,15 +70,11 @@ pub(crate) fn file_line(
 }
 
 /// The line of a link.
-pub(crate) fn link_line(
-    alloc: Global,
-    a: Algorithm,
-    name: &str,
-    target: &str,
-) -> Result<Vec<u8>, Memory>
+#[tactic(auto, unfolding(crate::specs::Sketch::hash_of))]
+pub fn link_line(alloc: Global, a: Algorithm, name: &str, target: &str) -> Result<Vec<u8>, Memory>
     ensures { IfOk result (λ line. line.items ≡ link_line (hash_of a target.now) (length target.now) name.now) }
 {
-    let hash = hash_text(alloc, a, target.as_bytes())?;
+    let hash = hashed(a, target.as_bytes()).hex(alloc)?;
     let mut buffer = Buffer::new();
     let mut line = Vec::from_slice(alloc, b"S ")?;
     line.extend_from_slice(hash.as_str().as_bytes())?;
@@ -69,7 +87,7 @@ pub(crate) fn link_line(
 }
 
 /// The line of the folder at this path.
-pub(crate) fn folder_line(alloc: Global, path: &str) -> Result<Vec<u8>, Memory>
+pub fn folder_line(alloc: Global, path: &str) -> Result<Vec<u8>, Memory>
     ensures { IfOk result (λ line. line.items ≡ folder_line path.now) }
 {
     let mut line = Vec::from_slice(alloc, b"D /")?;

@@ -58,3 +58,11 @@ read_front {top = top} {path = path} all exec mtime st max old new x (e, bytes, 
     by_more : (more : Bool) → (more ≡ false → length new ≤ length old) → IsPiece all (length old) max piece → MatchBool more (IsFront new all) (old ≡ all)
     by_more true s q = piece_front old new all max piece is q front
     by_more false s q = piece_end old new all max piece is q h (s refl) front
+
+-- the same of a read into a buffer of its own
+pub next_front : {T h : Type 0} {told : Option Told} {top : Name} {path : List Name} (all : List ℕ) (exec : Bool) (mtime : ℤ) (st : StandsNode h told top path (File all exec mtime)) (max n : ℕ) (front piece : List ℕ) (x : T)
+    → n ≡ length front → ReadAnswer (Read top path n max) [] (Ok x) piece st.state.shelf → 1 ≤ max → IsFront front all → (more : Bool) → (more ≡ false → piece ≡ []) → MatchBool more (IsFront (front ++ piece) all) (front ≡ all)
+next_front {T = T} {top = top} {path = path} all exec mtime st max n front piece x at (e, bytes, exec', mtime', part, tops, there, is, p) h before more none =
+    read_front {T = T} all exec mtime st max front (front ++ piece) x
+    (e, bytes, exec', mtime', part, tops, there, ap (λ l. front ++ l) is, subst (λ k. IsPiece bytes k max part) at p) h before more
+    (λ m. let empty = ap (λ l. length (front ++ l)) (none m) ∙ ap length (append-nil front) in omega (arith, empty))

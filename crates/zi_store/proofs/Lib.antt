@@ -8,8 +8,11 @@ pub mod BytesLemmas
 pub mod ListingLemmas
 pub mod FrontLemmas
 pub mod LoopLemmas
+pub mod WritingLemmas
 pub mod LeafLemmas
 pub mod TreeLemmas
+pub mod ManifestLemmas
+pub mod KeptLemmas
 pub mod VerdictLemmas
 pub mod FileLemmas
 pub mod FolderLemmas

@@ -117,7 +117,7 @@ split_more s e es done rest t = record {
   is = t.left;
 }
 
-split_end : (s : Dir) (left : List Entry) (p : Split s left) → left ≡ [] → (p.done ≡ items s) × (items p.rest ≡ [])
+pub split_end : (s : Dir) (left : List Entry) (p : Split s left) → left ≡ [] → (p.done ≡ items s) × (items p.rest ≡ [])
 split_end s left p h =
     let none = none_left p.rest (sym h ∙ p.is) in
     (sym (p.split ∙ ap (λ (l : List Item). p.done ++ l) none ∙ append-nil p.done), none)
@@ -147,22 +147,22 @@ pub left_none : (xs : List Entry) (i : ℕ) → length xs ≤ i → drop i xs �
 left_none xs i h = drop_of_length-le xs h
 
 -- what counts of some entries and others
-leaves_split : (done rest : List Item) → leaves_met (dir (done ++ rest)) ≡ leaves_met (dir done) ++ leaves_met (dir rest)
+pub leaves_split : (done rest : List Item) → leaves_met (dir (done ++ rest)) ≡ leaves_met (dir done) ++ leaves_met (dir rest)
 leaves_split [] rest = refl
 leaves_split (i ∷ done) rest =
     leaves_entry i.0 i.1 (dir (done ++ rest)) ∙ ap (λ l. leaf_met i.1 ++ l) (leaves_split done rest)
     ∙ sym (append_assoc (leaf_met i.1) (leaves_met (dir done)) (leaves_met (dir rest))) ∙ ap (λ l. l ++ leaves_met (dir rest)) (sym (leaves_entry i.0 i.1 (dir done)))
 
-folders_split : (depth : ℕ) (done rest : List Item) → folders_met (depth + 1) (dir (done ++ rest)) ≡ folders_met (depth + 1) (dir done) ++ folders_met (depth + 1) (dir rest)
+pub folders_split : (depth : ℕ) (done rest : List Item) → folders_met (depth + 1) (dir (done ++ rest)) ≡ folders_met (depth + 1) (dir done) ++ folders_met (depth + 1) (dir rest)
 folders_split depth [] rest = refl
 folders_split depth (i ∷ done) rest =
     folders_entry depth i.0 i.1 (dir (done ++ rest)) ∙ ap (λ l. inner_met depth i.1 ++ l) (folders_split depth done rest)
     ∙ sym (append_assoc (inner_met depth i.1) (folders_met (depth + 1) (dir done)) (folders_met (depth + 1) (dir rest))) ∙ ap (λ l. l ++ folders_met (depth + 1) (dir rest)) (sym (folders_entry depth i.0 i.1 (dir done)))
 
-leaves_more : (done : List Item) (n : Name) (x : TreeNode) → leaves_met (dir (done ++ (n, x) ∷ [])) ≡ leaves_met (dir done) ++ leaf_met x
+pub leaves_more : (done : List Item) (n : Name) (x : TreeNode) → leaves_met (dir (done ++ (n, x) ∷ [])) ≡ leaves_met (dir done) ++ leaf_met x
 leaves_more done n x = leaves_split done ((n, x) ∷ []) ∙ ap (λ l. leaves_met (dir done) ++ l) (leaves_entry n x Nothing ∙ append-nil (leaf_met x))
 
-folders_more : (depth : ℕ) (done : List Item) (n : Name) (x : TreeNode) → folders_met (depth + 1) (dir (done ++ (n, x) ∷ [])) ≡ folders_met (depth + 1) (dir done) ++ inner_met depth x
+pub folders_more : (depth : ℕ) (done : List Item) (n : Name) (x : TreeNode) → folders_met (depth + 1) (dir (done ++ (n, x) ∷ [])) ≡ folders_met (depth + 1) (dir done) ++ inner_met depth x
 folders_more depth done n x = folders_split depth done ((n, x) ∷ []) ∙ ap (λ l. folders_met (depth + 1) (dir done) ++ l) (folders_entry depth n x Nothing ∙ append-nil (inner_met depth x))
 
 -- what stops a walk after some entries stops the whole walk
@@ -171,7 +171,7 @@ stops_whole x y all ms ns more n0 b0 n b n' b' n2 b2 stop.Missing is p w = w
 stops_whole x y all ms ns more n0 b0 n b n' b' n2 b2 (stop.TooLarge what) is p w = subst (λ l. Stops n0 b0 l what) (sym is) (stops_then n0 b0 n b ms (ns ++ more) what p (stops_early n b ns more what w))
 stops_whole x y all ms ns more n0 b0 n b n' b' n2 b2 (stop.Fault f) is p w = tt
 
-stops_in : {X Y : Type 0} (x : X) (y : Y) (all ms ns more : List Met) (n0 b0 n b n' b' n2 b2 : ℕ) (result : Result Y Stop) (passed why : Stop) → result ≡ Err passed → passed ≡ why
+pub stops_in : {X Y : Type 0} (x : X) (y : Y) (all ms ns more : List Met) (n0 b0 n b n' b' n2 b2 : ℕ) (result : Result Y Stop) (passed why : Stop) → result ≡ Err passed → passed ≡ why
     → all ≡ ms ++ (ns ++ more) → Passes n0 b0 ms n b → Walks x ns n b (Err why) n' b' → Walks y all n0 b0 result n2 b2
 stops_in x y all ms ns more n0 b0 n b n' b' n2 b2 result passed why was same is p w = subst (λ z. Walks y all n0 b0 z n2 b2) (sym (was ∙ ap Err same)) (stops_whole x y all ms ns more n0 b0 n b n' b' n2 b2 why is p w)
 

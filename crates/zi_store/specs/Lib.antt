@@ -8,3 +8,7 @@ pub mod TreeAnswers
 pub mod FileAnswers
 pub mod Verdicts
 pub mod Lines
+pub mod Written
+pub mod ManifestAnswers
+pub mod Kept
+pub mod KeptNames

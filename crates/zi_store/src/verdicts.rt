@@ -1,17 +1,17 @@
 //! Whether a stored tree is what its name says.
 
-ghost use Rattle.std.specs.Prelude.{◌≡◌, Err, Some, IfOk};
+ghost use Rattle.std.specs.Prelude.{◌≡◌, Err, Some};
+ghost use Rattle.zi_digest.specs.Name.{name_of, algorithm_of};
 ghost use Rattle.zi_shelf.specs.Told.{Told, Rose};
 ghost use Rattle.zi_store.specs.Keeping.{Keeps, is_reading};
-ghost use Rattle.zi_store.specs.Verdicts.{Verifies, Judges, Compares};
+ghost use Rattle.zi_store.specs.Verdicts.{Verifies, Compares};
 
-use crate::trees::{TreeRead, read_tree};
+use crate::manifests::{ManifestRead, manifest_of};
 use std::alloc::Global;
-use zi_digest::DigestName;
-use zi_manifest::{ManifestOutFault, digest};
+use zi_digest::{DigestName, Hasher};
 use zi_shelf::{Shelf, ShelfFault};
 use zi_text::Text;
-use zi_tree::{Tree, TreeLimit};
+use zi_tree::TreeLimit;
 
 /// What is said of a stored tree.
 #[derive(Drop)]
@@ -40,23 +40,21 @@ pub fn verify<K: Shelf>(alloc: Global, name: &DigestName, k: &mut K) -> Result<V
     ensures sure { (K.seen k.old).sure → result ≡ Err ShelfFault.Failed → ⊥ }
 {
     let spelled = name.text(alloc)?;
-    match read_tree(alloc, spelled.as_str(), k)? {
-        TreeRead::Missing => Ok(Verdict::Missing),
-        TreeRead::TooLarge { what, limit } => Ok(Verdict::TooLarge { what, limit }),
-        TreeRead::Read(tree) => judge(alloc, name, &tree),
+    match manifest_of(alloc, spelled.as_str(), name.algorithm(), k)? {
+        ManifestRead::Missing => Ok(Verdict::Missing),
+        ManifestRead::TooLarge { what, limit } => Ok(Verdict::TooLarge { what, limit }),
+        ManifestRead::BadName { path } => Ok(Verdict::BadName { path }),
+        ManifestRead::Read(text) => Ok(judge(name, text.as_slice())),
     }
 }
 
-/// What is said of a tree under this name.
-fn judge(alloc: Global, name: &DigestName, tree: &Tree) -> Result<Verdict, ShelfFault>
-    ensures judged { IfOk result (λ verdict. Judges name.now verdict tree.now) }
-    ensures memory { result ≡ Err ShelfFault.Failed → ⊥ }
+/// What is said of a tree that has this manifest, by the name's algorithm.
+fn judge(name: &DigestName, manifest: &[u8]) -> Verdict
+    ensures { Compares name.now (name_of (algorithm_of name.now) manifest.now) result }
 {
-    match digest(alloc, tree, name.algorithm()) {
-        Ok(found) => Ok(compared(name, found)),
-        Err(ManifestOutFault::BadName { path }) => Ok(Verdict::BadName { path }),
-        Err(ManifestOutFault::Memory) => Err(ShelfFault::Memory),
-    }
+    let mut hasher = Hasher::new(name.algorithm());
+    hasher.update(manifest);
+    compared(name, hasher.finish())
 }
 
 /// What is said of a tree with this digest.
