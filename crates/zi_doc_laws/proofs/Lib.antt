@@ -1,0 +1,6 @@
+mod CarriedLaws
+mod PastLaws
+mod FineLaws
+mod TagLaws
+mod KeepLaws
+mod TreeLaws
