@@ -2,7 +2,7 @@
 use Rattle.std.proofs.Common.{◌≡◌, ℕ, inl, inr, List, [], Some, refl, true, sym, ◌∙◌, subst, All, Result, Ok, Err}
 use Rattle.zi_digest.specs.declared.DigestName.{DigestName}
 use Rattle.zi_tree.specs.Dir.{Dir}
-use Rattle.zi_outside.specs.Views.{Feeding, Sinking}
+use Rattle.zi_outside.specs.Views.{Feeding, Sinking, holding}
 use Rattle.zi_outside.specs.Launched.{Spawning}
 use Rattle.zi_outside.specs.declared.launch.Launch.{Launch}
 use Rattle.zi_outside.specs.declared.var.Var.{Var}
@@ -12,11 +12,14 @@ use Rattle.zi_shelf.specs.Told.{Told, Rose}
 use Rattle.zi_store.specs.Keeping.{Keeps, is_names, is_reading}
 use Rattle.zi_store.specs.Verdicts.{Verifies}
 use Rattle.zi_words.specs.declared.request.Ask.{Ask}
+use Rattle.zi_universe.specs.Loading.{names_of}
+use Rattle.zi_sels_laws.proofs.WholeLaws.{chosen_whole}
 use Rattle.zi_plan.specs.declared.fault.PlanFault.{PlanFault}
 use Rattle.zi_adding.specs.Trying.{Tried, Adds}
 use Rattle.zi_adding.proofs.AddingLemmas.{adds_nothing}
 use Rattle.zi_adding.proofs.HistoryLaws.{AreDone, calm_done, uses_gain, names_only_read, reads_use}
 use Rattle.zi_outcome.specs.declared.outcome.Outcome.{Outcome}
+use Rattle.zi_choosing.specs.Wanted.{requirement_of}
 use Rattle.zi_choosing.specs.declared.finding.Chosen.{Chosen}
 use Rattle.zi_choosing.specs.Finding.{Sources, FindsBest}
 use Rattle.zi_fetching.specs.Known.{Names, is_there}
@@ -27,6 +30,7 @@ use Rattle.zi_fetching.proofs.WebLaws.{web_stays}
 use Rattle.zi_fetching.proofs.DownloadLaws.{used, chosen_so, cost_so, turn_there}
 use Rattle.zi_launching.proofs.FolderLaws.{none_missing}
 use Rattle.zi_launching.proofs.MissingLaws.{all_placed, never_missing}
+use Rattle.zi_launching.proofs.LackLaws.{lacks_nothing}
 use Rattle.zi_launching.specs.Verifying.{HeldThen, IsCalm, FailsToVerify, StopsVerifying}
 use Rattle.zi_launching.specs.Launching.{Task, IsPlan, IsReady, PreparesNot, LaunchesOver}
 use Rattle.zi_launching.specs.Run.{RunsProgram}
@@ -142,6 +146,9 @@ module _ (ask : Ask) (vars : List Var) (user : List (List ℕ)) (before mid : So
       let over = lift_over before.shelf now after r task old new outcome launches in
       let there = subst (λ n. All (λ x. is_there n x ≡ true) c.sels.items) (sym g.fetches.names) (turn_there (from_chosen c) c.sels.items (names_in c) web g.tried then g.fetches.in_turn) in
       let missed = none_missing stored c.sels.items there in
+      let placed = all_placed before.shelf.root stored c.sels.items there in
+      let is = (chosen_so ask before mid c f).chosen in
+      let whole = chosen_whole (holding before.feeds) (requirement_of ask) ask.policy (names_of c.stored) c.universe c.choice.picks c.sels is.loaded.loads is.best.valid is.selected in
       record {
         feeds = f.feeds;
         web = web_stays c web (Ok stored) g.tried then g.fetches;
@@ -154,9 +161,10 @@ module _ (ask : Ask) (vars : List Var) (user : List (List ℕ)) (before mid : So
             stored = stored;
             fetched = g.fetches;
             there = missed;
-            placed = all_placed before.shelf.root stored c.sels.items there;
+            placed = placed;
             launches = over;
             found = never_missing c web then stored g.tried before.shelf after f.answer.1 g.fetches gains task old new outcome refl missed over;
+            whole = lacks_nothing task before.shelf after old new outcome whole placed over;
           }),
         );
         shelf = u;

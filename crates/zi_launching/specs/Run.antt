@@ -1,13 +1,15 @@
 -- `run`: what the best choice selects is fetched, and launched.
-use Rattle.std.specs.Prelude.{◌≡◌, ◌≢◌, ◌⊎◌, ℕ, List, Some, None, IsSome, All, Err}
+use Rattle.std.specs.Prelude.{◌≡◌, ◌≢◌, ◌⊎◌, ℕ, List, Option, Some, None, IsSome, All, Err}
 use Rattle.zi_outside.specs.declared.var.Var.{Var}
 use Rattle.zi_shelf.specs.Shelving.{Shelving}
 use Rattle.zi_shelf.specs.Told.{Told}
 use Rattle.zi_words.specs.declared.request.Ask.{Ask}
 use Rattle.zi_adding.specs.Trying.{Tried, CostsAll}
 use Rattle.zi_adding.specs.Gains.{Uses, GainsOnly}
+use Rattle.zi_plan.specs.declared.fault.PlanFault.{PlanFault}
+use Rattle.zi_plan.specs.declared.fault.PlanFault.TheVariants.{NoSelection, NoFolder, NoCommand}
 use Rattle.zi_outcome.specs.declared.outcome.Outcome.{Outcome}
-use Rattle.zi_outcome.specs.declared.outcome.Outcome.TheVariants.{MissingTree}
+use Rattle.zi_outcome.specs.declared.outcome.Outcome.TheVariants.{MissingTree, Plan}
 use Rattle.zi_world.specs.Asking.{FeedsStay}
 use Rattle.zi_world.specs.Surroundings.{Surroundings, meets_of, NothingStarted}
 use Rattle.zi_choosing.specs.declared.finding.Chosen.{Chosen}
@@ -28,8 +30,19 @@ pub record StopsBefore (c : Chosen) (tried : List Tried) (before after : Surroun
 abbrev pub NoneMissing : Shelving → Outcome → Type 0
 NoneMissing shelf outcome = (s : Told) → shelf.honest → shelf.told ≡ Some s → (name : List ℕ) → outcome ≢ MissingTree name
 
+-- a fault of a plan that isn't of a selection, a folder or a command that is missing, but where no command is asked for
+abbrev pub IsNoLack : Option (List ℕ) → PlanFault → Type 0
+IsNoLack command (NoSelection interface) = ⊥
+IsNoLack command (NoFolder interface) = ⊥
+IsNoLack command (NoCommand interface name) = command ≡ None
+IsNoLack command other = Unit {0}
+
+abbrev pub LacksNothing : Option (List ℕ) → Outcome → Type 0
+LacksNothing command outcome = (fault : PlanFault) → outcome ≡ Plan fault → IsNoLack command fault
+
 -- Or all are fetched, so none is missing a tree and each has a folder, and then they are launched, over the digest names that are stored
--- then. While nobody else writes the store none is found missing when it is read.
+-- then. Their plan fails by nothing that is missing, but where the words ask for no command; and while nobody else writes the store no tree
+-- is found missing when it is read.
 pub record FetchesAndLaunches (c : Chosen) (vars : List Var) (user : List (List ℕ)) (tried : List Tried) (before after : Surroundings) (outcome : Outcome) : Type 0 where
   pub stored : Names
   pub fetched : Fetches c before.web stored tried after.web
@@ -37,6 +50,7 @@ pub record FetchesAndLaunches (c : Chosen) (vars : List Var) (user : List (List 
   pub placed : All (λ x. IsSome (folder before.shelf.root stored x)) c.sels.items
   pub launches : LaunchesOver (record { sels = c.sels; stored = stored; vars = vars; user = user }) (launching before) (launching after) outcome
   pub found : NoneMissing before.shelf outcome
+  pub whole : LacksNothing c.sels.command outcome
 
 -- how far it comes, to which outcome
 abbrev pub RunsTo : Ask → List Var → List (List ℕ) → List Tried → Surroundings → Surroundings → Outcome → Type 0

@@ -56,7 +56,7 @@ before_other x y h = either (same x.interface y.interface) refl
         let e : Less ≡ Equal = sym itself ∙ tied_itself nat_list_cmp_total x.interface in absurd (cc e)
     either false k = refl
 
-sorted_other : (items : List Selection) → AreSorted items → AreOther (map (λ (x : Selection). x.interface) items)
+pub sorted_other : (items : List Selection) → AreSorted items → AreOther (map (λ (x : Selection). x.interface) items)
 sorted_other [] h = tt
 sorted_other (x ∷ items) h =
     let first : All (StandsBefore x) items = λ k d lt. h 0 (suc k) d (omega arith) (omega (arith, lt)) in
@@ -85,7 +85,7 @@ each_among (x ∷ items) =
 
 -- The candidates that are chosen, and the root's.
 
-chosen_given : (u : List Interface) (s : Choice) (j : ℕ) (k : Candidate) → Each AreGivenIn u → chosen u s j ≡ Some k → IsGivenCandidate k
+pub chosen_given : (u : List Interface) (s : Choice) (j : ℕ) (k : Candidate) → Each AreGivenIn u → chosen u s j ≡ Some k → IsGivenCandidate k
 chosen_given u s j k h e =
     let c = chosen_from u s j k e in
     let x = interface_at u j c.0 k c.2 in

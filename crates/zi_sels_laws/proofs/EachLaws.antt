@@ -5,7 +5,7 @@ use Rattle.std.proofs.lemmas.List.Elements.{All-nil, All-cons, All-head, All-tai
 use Rattle.std.proofs.lemmas.List.Sorted.{All-permutation}
 use Rattle.zi_sels_laws.proofs.LikeLaws.{Each}
 
-each_all : {X : Type 0} (P : X → Type 0) (xs : List X) → Each P xs → All P xs
+pub each_all : {X : Type 0} (P : X → Type 0) (xs : List X) → Each P xs → All P xs
 each_all P [] h = All-nil P
 each_all P (x ∷ xs) h = All-cons P x xs h.0 (each_all P xs h.1)
 

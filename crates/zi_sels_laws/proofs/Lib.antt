@@ -26,3 +26,4 @@ mod SelectedLaws
 mod MadeLaws
 mod UsedLaws
 mod ChosenLaws
+pub mod WholeLaws

@@ -40,7 +40,7 @@ each_selected P u s w i (x ∷ is) h =
     each_append P (selected_at u s w i x) (selected_from u s w (i + 1) is) (each_optional P (selection_by u s w i x.uri) (chosen u s i) (λ k e. h zero i x k (omega arith) refl e))
     (each_selected P u s w (i + 1) is (λ n j y k q at e. h (suc n) j y k (omega (arith, q)) at e))
 
-so_selected : (P : Selection → Type 0) (u : List Interface) (s : Choice) (w : Walk) (i : ℕ) (is : List Interface) → Each P (selected_from u s w i is) → IsSoFrom P u s w i is
+pub so_selected : (P : Selection → Type 0) (u : List Interface) (s : Choice) (w : Walk) (i : ℕ) (is : List Interface) → Each P (selected_from u s w i is) → IsSoFrom P u s w i is
 so_selected P u s w i [] h n j x k q at e = absurd (cc at)
 so_selected P u s w i (y ∷ is) h zero j x k q at e =
     let here : i ≡ j = omega (arith, q) in
@@ -60,7 +60,7 @@ pub record IsThere (u : List Interface) (s : Choice) (uri : List ℕ) : Type 0 w
   pub picked : chosen u s place ≡ Some candidate
 
 -- what stands at the place of an address
-record IsPlaced (u : List Interface) (uri : List ℕ) (n m : ℕ) : Type 0 where
+pub record IsPlaced (u : List Interface) (uri : List ℕ) (n m : ℕ) : Type 0 where
   pub place : ℕ
   pub interface : Interface
   pub far : m ≡ n + place
@@ -71,7 +71,7 @@ address_is : (x y : List ℕ) → bytes_eq x y ≡ true → y ≡ x
 unfolding same
 address_is x y h = sym (same_text x y h)
 
-placed : (u : List Interface) (uri : List ℕ) (n m : ℕ) → position_from (bytes_eq uri) n (uris_of u) ≡ Some m → IsPlaced u uri n m
+pub placed : (u : List Interface) (uri : List ℕ) (n m : ℕ) → position_from (bytes_eq uri) n (uris_of u) ≡ Some m → IsPlaced u uri n m
 placed [] uri n m e = absurd (cc e)
 placed (x ∷ u) uri n m e = by (bytes_eq uri x.uri) refl e (placed u uri (n + 1) m)
   where

@@ -33,7 +33,7 @@ unfolding same
 text_is x y h = same_text x y h
 
 -- what a command needs that is used is met
-needs_met : (u : List Interface) (s : Choice) (w : Walk) (i : ℕ) (name : List ℕ) (m : Command) → AreUsesMet u s w → is_used w i name ≡ true → command_at u s i name ≡ Some m → AreMet u s (needs_of m)
+pub needs_met : (u : List Interface) (s : Choice) (w : Walk) (i : ℕ) (name : List ℕ) (m : Command) → AreUsesMet u s w → is_used w i name ≡ true → command_at u s i name ≡ Some m → AreMet u s (needs_of m)
 needs_met u s w i name m h used at =
     let f = any_found (λ (x : Use). x.interface == i && bytes_eq x.command name) w.used used in
     let x = f.1 in
@@ -44,7 +44,7 @@ needs_met u s w i name m h used at =
     (all_at (λ (x : Use). IfSome (command_at u s x.interface x.command) (λ m. AreMet u s (needs_of m))) w.used f.0 x h f.2)
 
 -- a command that is found among those of what is chosen
-command_is : (u : List Interface) (s : Choice) (i : ℕ) (k : Candidate) (c : Command) → chosen u s i ≡ Some k → IsFound k.imp.commands c → command_at u s i c.name ≡ Some c
+pub command_is : (u : List Interface) (s : Choice) (i : ℕ) (k : Candidate) (c : Command) → chosen u s i ≡ Some k → IsFound k.imp.commands c → command_at u s i c.name ≡ Some c
 command_is u s i k c picked found = ap (λ o. option_and_then (λ (y : Candidate). command_of y c.name) o) picked ∙ found
 
 module _ (is : List (List ℕ)) (u : List Interface) (s : Choice) (w : Walk) (one : (d : Dep) → is_some (target u s d) ≡ true → is_among is d.interface ≡ true) (uses : AreUsesMet u s w) where

@@ -14,6 +14,7 @@ ghost use Rattle.zi_sels.specs.declared.types.Selections.{Selections};
 ghost use Rattle.zi_sels.specs.Chosen.{AreSelected};
 ghost use Rattle.zi_sels.specs.Written.{tree, document};
 ghost use Rattle.zi_sels.specs.Reading.{Says};
+ghost use Rattle.zi_sels_laws.specs.Whole.{AreWhole};
 
 use zi_docout::what_is_written_is_read;
 
@@ -35,3 +36,10 @@ pub fn what_is_chosen_is_read_back()
 {
     what_is_written_is_read();
 }
+
+/// What a valid choice selects in a universe that was loaded lacks no command: the one that is asked for is there, and so is the one
+/// that each runner asks for. So no interface of a runner lacks its selection.
+pub fn what_is_chosen_is_whole()
+    ensures { (told : Option Holding) (req : Requirement) (policy : Policy) (stored : Store) (universe : List Interface) (choice : Choice) (s : Selections)
+        → Loads told req policy stored universe → IsValid universe req choice → AreSelected universe req choice s → AreWhole s }
+{}
