@@ -43,6 +43,8 @@ def measure(work):
     digest = digest_of(files)
     for name, data in files.items():
         put(work / name, data)
+    # the bytes aren't held while programs run
+    files, data = tuple(files), None
     steps = "".join(f'<file href="http://example.com/{name}" size="{SIZE}" dest="{name}"/>' for name in files)
     (work / "app.xml").write_text(FEED.format(digest=digest, steps=steps))
     helper = work / "helper"

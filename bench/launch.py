@@ -37,14 +37,22 @@ def local(work):
     return str(feed)
 
 
+def hash_of(path):
+    """The hash of a file, which isn't held whole: a program that is started counts what this one held."""
+    hasher = hashlib.sha256()
+    with open(path, "rb") as source:
+        while piece := source.read(65536):
+            hasher.update(piece)
+    return hasher.hexdigest()
+
+
 def stored(work):
     """A feed of a program in a stored tree with a large file beside it, and the name of that tree."""
     tree = work / "store" / "t"
     tree.mkdir(parents=True)
     put(tree / "large", b"a" * SIZE)
     script(tree / "main")
-    data = {"large": ("F", (tree / "large").read_bytes()), "main": ("X", (tree / "main").read_bytes())}
-    lines = [f"{kind} {hashlib.sha256(it).hexdigest()} 0 {len(it)} {name}\n" for name, (kind, it) in data.items()]
+    lines = [f"{kind} {hash_of(tree / name)} 0 {(tree / name).stat().st_size} {name}\n" for kind, name in (("F", "large"), ("X", "main"))]
     digest = base64.b32encode(hashlib.sha256("".join(lines).encode()).digest()).decode().rstrip("=")
     (tree / ".manifest").write_text("".join(lines))
     tree.rename(tree.parent / f"sha256new_{digest}")

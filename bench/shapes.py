@@ -49,6 +49,22 @@ def knot(count):
     return [impl(0, "".join(map(requires, range(1, first + 3)))), *([impls(2)] * count), *three]
 
 
+def stumbling(count):
+    """So many interfaces: a chain of two versions each, and at 500 places in 4,096 the newer one doesn't go with the newer one before it. That shows only once
+    both are chosen, by interfaces of their own behind the chain: a conflict with what was chosen last."""
+    conflicts = count * 500 // 4096
+    length = count - conflicts
+    needs = [[requires(n + 1)] if n + 1 < length else [] for n in range(length)]
+    newer = [list(need) for need in needs]
+    judges = []
+    for k in range(conflicts):
+        place, judge = 7 * k + 1, f"./{length + k}.xml"
+        newer[place - 1].append(f'<restricts interface="{judge}" version="2.."/>')
+        newer[place] += [requires(length + k), f'<restricts interface="./{place + 1}.xml" version="1"/>']
+        judges.append(impl(1) + impl(2, f'<restricts interface="./{place + 1}.xml" version="2.."/>'))
+    return [*(impl(1, "".join(need)) + impl(2, "".join(more)) for need, more in zip(needs, newer)), *judges]
+
+
 def write_feeds(folder, feeds):
     """The feeds as files, numbered from 0, each with the name and the summary that 0install asks for: the root's path, and a line for each with its path and what
     stands in its root. Beside them stands the folder `here`, since 0install wants the path of an implementation to be there."""

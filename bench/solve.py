@@ -12,7 +12,7 @@ import sys
 import tempfile
 
 from measure import timed_with_peak
-from shapes import chain, impl, impls, requires, theirs_on, web, write_feeds
+from shapes import chain, impl, impls, requires, stumbling, theirs_on, web, write_feeds
 
 TOP = pathlib.Path(__file__).resolve().parent.parent
 PROGRAM = os.environ.get("ZI_PROGRAM", str(TOP / "crates/zi/out/zi"))
@@ -43,6 +43,7 @@ SHAPES = (
     ("interfaces in a chain that ends without a solution", ending, (25, 50, 100), (73, 1), False, True),
     ("versions of which the oldest alone fits", oldest, (15_000, 30_000, 60_000), (0, 0), True, False),
     ("interfaces of sixteen versions around one", wide, (1024, 2048, 4096), (0, 0), False, False),
+    ("interfaces in a chain with 500 conflicts in 4,096", stumbling, (1024, 2048, 4096), (0, 0), False, False),
 )
 
 

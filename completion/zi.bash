@@ -12,8 +12,8 @@ _zi() {
         select | check | refute | download | run)
             [ "${COMP_WORDS[1]}" = select ] && options="--proof $options"
             case $before in
-                --os) mapfile -t COMPREPLY < <(compgen -W "Linux Darwin FreeBSD Windows POSIX" -- "$word") ;;
-                --cpu) mapfile -t COMPREPLY < <(compgen -W "x86_64 i686 i586 i486 i386 aarch64" -- "$word") ;;
+                --os) mapfile -t COMPREPLY < <(compgen -W "Linux Darwin FreeBSD Cygwin Solaris Windows POSIX" -- "$word") ;;
+                --cpu) mapfile -t COMPREPLY < <(compgen -W "x86_64 i686 i586 i486 i386 aarch64 ppc64" -- "$word") ;;
                 --level) mapfile -t COMPREPLY < <(compgen -W "developer testing stable" -- "$word") ;;
                 --network) mapfile -t COMPREPLY < <(compgen -W "full minimal off" -- "$word") ;;
                 --command | --version | --version-for | --lang | --use | --rate | --search) ;;

@@ -1,5 +1,10 @@
 //! The program: its words, its folders of feeds and of trees, its helper, its programs and the standard streams, handed to `zi_app::run`.
 //! What these real objects do is tried, and not claimed.
+//!
+//! Code: `arguments` (words and variables), `folder_feeds` (feeds in files, each read by `piecewise`), `folder_shelf` (a folder in
+//! which each top entry is a folder) over `folder_calls` (the calls of the system, by paths), `std_sink` (the streams), `trouble`
+//! (what comes of such calls) and `log` (what is told of failures to who asks for it). specs/Seen.antt says what is seen of the
+//! real objects: each tells its count of faults alone.
 #![tactic(auto)]
 
 mod arguments;

@@ -3,6 +3,12 @@
 //! choice of a demonstration selects.
 //! `find_best` is the beginning of the commands that do more with the best choice than to write it.
 //! Each command is one function over the objects outside, whose clause says what each outcome means and what became of them.
+//!
+//! Each command has a file of its own: `selecting`, `checking` (with `named`, the choice that selections name, and `own`,
+//! whether selections are those of a choice), `refuting`, `demonstrating` (with `counting`), `finding` (`find_best`).
+//! `wanted` takes the requirement and the policy out of what the words ask for. Read specs/Loaded.antt, which has what they
+//! have in common, then Select.antt, Check.antt, Refute.antt, Demo.antt and Finding.antt, each a case for each outcome with
+//! its cause; the `..Parts` are what the functions inside promise one another.
 #![tactic(auto)]
 
 mod checking;

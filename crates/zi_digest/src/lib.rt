@@ -1,6 +1,9 @@
 //! The names of digests: an algorithm with the hash of a message.
 //! How each name is spelled and read, one spelling each, and the hasher that makes the name of bytes given in pieces.
 //! SHA-1 and SHA-256 are those of FIPS 180-4, base 32 is that of RFC 4648.
+//!
+//! Read specs/Name.antt first: what each name is spelled as, and which bytes it stands for. Code: this file has the types and
+//! their spellings, `hexadecimal` and `base32` the two ways to spell bytes, `hasher` the hasher.
 #![tactic(auto)]
 
 ghost use Rattle.std.specs.Prelude.{◌≡◌, ◌≢◌, ◌++◌, ℕ, List, IfSome, IfNone, MatchOption, IfOk};

@@ -1,6 +1,11 @@
 //! Documents: the tree that the bytes of a document spell, or the one fault that they have.
 //! The types of the tree are those of `zi_elements`, named here once more.
 //! A fault has its kind, with a number, and its place in bytes.
+//!
+//! What a document spells is said in `zi_xml`; specs/Documents.antt and Answers.antt here say what `read` answers. The reader
+//! (`reader`) runs the machine of `zi_xml` over a text that was tested for UTF-8 once: it has one method per state, each
+//! proved to do what the machine's step says (specs/View.antt, Moves.antt), grouped by what they read: `declaration`,
+//! `markup`, `tags`, `references`, `content`, `texts`.
 #![tactic(auto)]
 
 mod chars;

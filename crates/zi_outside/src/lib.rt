@@ -2,6 +2,17 @@
 //! started, and variables.
 //! Each trait has one view, a record of what is seen of its object, and each call says what that is before and after; beside
 //! the traits stand the objects in memory, which fail where it was planned, and their twins that never fail.
+//!
+//! Each trait has one ghost member, `seen`, a record of what is seen of its object at one moment (specs/Views.antt:
+//! `Feeding`, `Sinking`; Launched.antt: `Spawning`): what it tells, where it tells anything, the count of its faults, and the
+//! numbers of the calls that are planned to fail. A call has one clause over the record before and the one after
+//! (Outside.antt, Fetched.antt, Launched.antt). The forms in memory tell all: what they hold, and every address that they
+//! were asked for; a real object tells nothing, and its record has the count alone. A count never falls and stands still at
+//! its type's end (Count.antt).
+//!
+//! Code: a file for each trait (`feeds`, `web`, `sink`, `spawner`) and for each form in memory (`memory_..` fail where it was
+//! planned, `sure_..` never), `vars` (the variables, in byte order), `launch` (what is launched), `log` (what is told of
+//! failures).
 #![tactic(auto)]
 
 mod failing;

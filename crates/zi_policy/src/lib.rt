@@ -1,6 +1,9 @@
 //! What the user asks for, and the platforms, bit groups and conditions that depend on it, by table.
 //! The tables are those of the Zero Install feed format. Ranks, groups and conditions take no memory; a rank is the place
 //! in the list of what is run, the best first.
+//!
+//! specs/Platform.antt has the tables of platforms, bit groups and conditions; src/platform.rt reads them off, src/arch.rt
+//! reads a platform from a text, src/types.rt has what the user asks for.
 #![tactic(auto)]
 
 mod arch;

@@ -1,6 +1,13 @@
 //! Which implementations may be used, and which stands before which.
 //! Both follow the order of preference that the documentation of the 0install solver publishes, as this project narrows
 //! it: five reasons by which one isn't usable, and twelve components that rank the others. No call takes memory.
+//!
+//! The definitions are two tables: specs/Reasons.antt has a line for each reason, specs/Rank.antt a line for each component,
+//! which says `smaller`, `greater` or `marked` (first the one with the mark); `in_turn` reads that table from the top. They
+//! are closed to proofs above (`unfoldable`): a layer that sorts by `compare` cites `RankOrder.rank_total`, that the order is
+//! total, and the law. The fifth component, the first dotted list of the version, decides nothing that the whole version
+//! doesn't: that is proved (`first_decides`), and the code leaves it out. Code: `types` (what decides), `reasons` (`usable`),
+//! `languages`, `components` (the value of each), `order` (`compare` and `before`, component by component), `laws`.
 #![tactic(auto)]
 
 mod components;

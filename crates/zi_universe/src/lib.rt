@@ -1,6 +1,25 @@
 //! The universe of a program: the interfaces that it may need, each with its candidates in rank order.
 //! `load` reads the root's feed, the feeds that it imports, and those of every interface that a candidate asks for, each once.
 //! Limits, faults of feeds and their order are those of the loading as it goes, from the root on.
+//!
+//! Read specs/Naming.antt first: it says once what a list is that grows by what its own members name (the feeds of an
+//! interface and the interfaces of a program are both of that form; there is one such list at most). Then Candidates.antt
+//! (which implementations are candidates, and what they ask for), Whole.antt (what holds of every universe), Loading.antt
+//! (the universe of a set of feeds and each refusal, with how far the loading had come). No queue is in them: they speak of a
+//! reading, a function from addresses to feeds. Stages.antt, Tables.antt and Listing.antt are what the crate's own functions
+//! promise one another, over the table of feeds so far; their facts hold for every reading that agrees with it, so they stay
+//! true when the table grows.
+//!
+//! `load_all` (`loading`) is the one loop over the interfaces. Its state, `Loading`, is the addresses that are asked for (a
+//! set that keeps the order in which they were first asked for), the feeds got so far (`table`), the interfaces that are
+//! done, and the number of their candidates. `load_next` does one: `look_for` gets its feeds (`feeds`, each by `reading`) and
+//! gathers what they offer for it (`offers`, `copies`), `finish` counts the candidates, puts them into rank order
+//! (`ranking`), and names what they ask for (`naming`). Each step looks up in constant time; a loading is linear in what it
+//! reads, and n log n in the candidates of an interface. `universe` is the type that `load` alone makes.
+//!
+//! proofs: LoadedLemmas (one interface more), RankedLemmas (sorting gives the strict order), RefusalLemmas (the stop of a
+//! stage is the refusal of the whole), NextLemmas (these together), WholeLemmas (the invariant of `Universe`); OnceLemmas,
+//! ExclusionLemmas, RefusedOnceLemmas and SomeLemmas have the four laws.
 #![tactic(auto)]
 
 mod copies;
