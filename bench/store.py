@@ -1,11 +1,12 @@
 #!/usr/bin/env python3
 """The time to verify and to add trees in a store, as ratios to `0install store` on the same trees, in the same run.
 
-Run it after `rt ci`, which builds the program. The trees: one file of 100 MB, and 20,000 files of 1,000 bytes in 200
-folders, for `verify`; 1,000 files of 1,000 bytes for `add`. The goal of `verify` is 1.0 and more than 2 is a defect; `add`
-may take twice the time of 0install, which doesn't make what it stored last through a crash: what that costs is shown by
-the time of `sync -f` alone. Each figure is the best of some runs. Where 0install isn't installed, `sha256sum` and `cp -r`
-over the same files stand for it.
+Run it after `rt ci`, which builds the program. The trees: one file of 256 MB, 20,000 files of 1,000 bytes in 200 folders, and
+1,500 chains of 63 folders one in another, for `verify`; 1,000 files of 1,000 bytes for `add`. The goals of `verify`: one file in
+1.1 times the time of `sha256sum` and 20 MB; many files in 0.8 times that of 0install, chains in 1.5 times. `add` may take
+twice the time of 0install, which doesn't make what it stored last through a crash: what that costs is shown by the time of
+`sync -f` alone. Each figure is the best of some runs. Where 0install isn't installed, `sha256sum` and `cp -r` over the same
+files stand for it.
 """
 import base64
 import hashlib
@@ -22,7 +23,7 @@ from measure import fill, put
 RUNS = 5
 TOP = pathlib.Path(__file__).resolve().parent.parent
 PROGRAM = TOP / "crates/zi/out/zi"
-SHAPES = {"one file of 100 MB": (1, 1, 100_000_000), "20,000 files": (200, 100, 1_000)}
+SHAPES = {"one file of 256 MB": (1, 1, 256_000_000), "20,000 files": (200, 100, 1_000), "1,500 chains of 63 folders": None}
 
 
 def timed(words, env=None, between=None):
@@ -54,12 +55,21 @@ def name_of(program, store, tree):
     return done.stdout.split(b"\n")[-2].decode(), done.stdout[: done.stdout[:-1].rfind(b"\n") + 1]
 
 
+def chain(tree):
+    """Makes chains of folders, each in the one before it."""
+    for number in range(1_500):
+        os.makedirs(tree / f"c{number}" / "/".join(["d"] * 62))
+
+
 def verify(shape, sizes, work):
     store = work / "store"
     store.mkdir()
     tree = store / "t"
     tree.mkdir()
-    fill(tree, *sizes)
+    if sizes:
+        fill(tree, *sizes)
+    else:
+        chain(tree)
     name, manifest = name_of(PROGRAM, store, "t")
     (tree / ".manifest").write_bytes(manifest)
     os.utime(tree / ".manifest", (0, 0))
@@ -67,7 +77,7 @@ def verify(shape, sizes, work):
     env = dict(os.environ, ZI_STORE=str(store))
     words = [str(PROGRAM), "store", "verify", name]
     ours = timed(words, env)
-    if shutil.which("0install"):
+    if shutil.which("0install") and sizes != (1, 1, 256_000_000):
         other, theirs = "0install store verify", timed(["0install", "store", "verify", str(store / name)])
     else:
         other, theirs = "sha256sum", timed(["sh", "-c", f"find '{store}' -type f -exec sha256sum {{}} +"])

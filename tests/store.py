@@ -29,13 +29,13 @@ class Wrong(Exception):
     pass
 
 
-def begin(words, folder, prepare=None, **variables):
+def begin(words, folder, prepare=None, through=(), **variables):
     env = dict(os.environ, ZI_STORE=os.path.join(folder, "store"), **variables)
-    return subprocess.Popen([PROGRAM] + words, cwd=folder, env=env, stdout=subprocess.PIPE, stderr=subprocess.PIPE, preexec_fn=prepare)
+    return subprocess.Popen([*through, PROGRAM] + words, cwd=folder, env=env, stdout=subprocess.PIPE, stderr=subprocess.PIPE, preexec_fn=prepare)
 
 
-def run(words, folder, prepare=None, **variables):
-    process = begin(words, folder, prepare, **variables)
+def run(words, folder, prepare=None, through=(), **variables):
+    process = begin(words, folder, prepare, through, **variables)
     try:
         out, err = process.communicate(timeout=SECONDS)
     except subprocess.TimeoutExpired:
@@ -194,6 +194,30 @@ def deep_and_strange(folder):
     os.mkdir(os.path.join(store(folder), "y", "n"))
     write(os.path.join(store(folder), "y", "n"), ".manifest", b"")
     expect(run(["manifest", "sha256", "y"], folder), 88, b"", b"zi: bad name n/.manifest\n")
+
+
+def where_proc_is_not_mounted(folder):
+    """Trees are read as well where the system doesn't show what is open."""
+    hidden = ["unshare", "--map-root-user", "--mount", "sh", "-c", 'mount -t tmpfs none /proc && exec "$@"', "sh"]
+    try:
+        usable = subprocess.run(hidden + ["true"], capture_output=True, timeout=SECONDS).returncode == 0
+    except FileNotFoundError:
+        usable = False
+    if not usable:
+        print("skipped: unshare isn't installed, or may not be used")
+        return
+    deep_and_strange(folder)
+    top = os.path.join(store(folder), "z")
+    os.makedirs(os.path.join(top, "d", "e", "f"))
+    os.makedirs(os.path.join(top, "g"))
+    for name in ("a", "d/b", "d/e/b", "d/e/f/c", "g/b"):
+        write(top, name, name.encode() * 30_000)
+    os.symlink("a", os.path.join(top, "d", "l"))
+    os.symlink("d", os.path.join(top, "k"))
+    holds("a tree that is read", run(["manifest", "sha256", "z"], folder)[1].count(b"\n") == 12)
+    for name in ("t", "u", "v", "w", "x", "y", "z"):
+        words = ["manifest", "sha256", name]
+        expect(run(words, folder, through=hidden), *run(words, folder))
 
 
 def large(folder):
@@ -422,6 +446,7 @@ ROWS = [
     damaged,
     refused,
     deep_and_strange,
+    where_proc_is_not_mounted,
     large,
     what_is_stored_counts_in_rank,
     an_empty_folder_under_the_name_is_present,

@@ -1,97 +1,122 @@
 //! Walks of choices, the constraints of universes, and the numbers of variables.
 ghost use Rattle.std.specs.Prelude.{◌≡◌, option_copied};
 ghost use Rattle.zi_choice.specs.Choice.{candidate_at};
+ghost use Rattle.zi_universe.specs.Whole.{BeginsWith};
 
-use crate::fault::Fault;
-use crate::halves;
-use crate::told::{Asked, Told, picks_of, what_is_asked};
-use std::alloc::{AllocError, Global};
-use std::fmt::Write;
+use crate::asking::Asked;
+use crate::refusing::put_build_fault;
+use crate::told::take_picks;
+use std::alloc::Global;
 use zi_build::build;
-use zi_choice::{Names, Traced, trace_picks, variable};
-use zi_formula::{Constraint, Formula};
-use zi_universe::{Candidate, Universe};
+use zi_choice::{Names, Place, Traced, Used, trace_picks, variable};
+use zi_formula::{Constraint, Formula, Lit};
+use zi_lines::{Sheet, halves};
+use zi_text::{List, Memory};
+use zi_universe::{Candidate, Requirement, Universe};
 
-/// Adds a walk: each interface with what is picked, and behind `|` each used command with its interface.
-fn put_traced(out: &mut String, walk: &Traced) -> Result<(), AllocError> {
-    for place in walk.places.as_slice() {
+/// Adds each interface of a walk with what is picked.
+fn put_places(out: &mut Sheet, places: &[Place]) {
+    for place in places {
+        out.number(u64::from(place.interface));
+        out.put("=");
         match place.pick {
-            Some(pick) => write!(out, "{}={pick} ", place.interface)?,
-            None => write!(out, "{}=- ", place.interface)?,
+            Some(pick) => out.number(u64::from(pick)),
+            None => out.put("-"),
         }
+        out.put(" ");
     }
-    out.push('|')?;
-    for used in walk.used.as_slice() {
-        write!(out, " {}.{}", used.interface, used.command.as_str())?;
-    }
-    Ok(())
 }
 
-// Adds the walk of picks over what is asked about.
+/// Adds each used command with its interface.
+fn put_used(out: &mut Sheet, all: &[Used]) {
+    for used in all {
+        out.put(" ");
+        out.number(u64::from(used.interface));
+        out.put(".");
+        out.put(used.command.as_str());
+    }
+}
+
+/// Adds a walk: each interface with what is picked, and behind `|` each used command with its interface.
+fn put_traced(out: &mut Sheet, walk: &Traced) {
+    put_places(out, walk.places.as_slice());
+    out.put("|");
+    put_used(out, walk.used.as_slice());
+}
+
+/// Adds the walk of picks over a universe's names.
 fn put_walk_of(
     alloc: Global,
-    out: &mut String,
-    asked: &Asked,
+    out: &mut Sheet,
+    names: &Names,
+    req: &Requirement,
     picks: &[Option<u32>],
-) -> Result<(), Fault> {
-    let names = Names::of(alloc, &asked.universe)?;
-    let walk = trace_picks(alloc, &names, &asked.req, picks)?;
-    Ok(put_traced(out, &walk)?)
+) {
+    match trace_picks(alloc, names, req, picks) {
+        Ok(walk) => put_traced(out, &walk),
+        Err(Memory) => out.lose(),
+    }
+}
+
+/// Adds the walk of picks over what is asked about.
+fn put_walk_over(alloc: Global, out: &mut Sheet, asked: &Asked, picks: &[Option<u32>]) {
+    match Names::of(alloc, &asked.universe) {
+        Ok(names) => put_walk_of(alloc, out, &names, &asked.req, picks),
+        Err(Memory) => out.lose(),
+    }
 }
 
 /// Adds the walk of picks.
-pub(crate) fn put_walk(
-    alloc: Global,
-    out: &mut String,
-    row: &str,
-    told: &mut Told,
-) -> Result<(), Fault> {
-    let (command, picks) = halves(row);
-    let asked = what_is_asked(alloc, told, command)?;
-    let picks = picks_of(alloc, picks)?;
-    put_walk_of(alloc, out, &asked, picks.as_slice())
+pub(crate) fn put_walk(alloc: Global, out: &mut Sheet, asked: &Asked, row: &str) {
+    let mut picks = List::new(alloc);
+    out.needs(take_picks(&mut picks, row));
+    put_walk_over(alloc, out, asked, picks.as_slice());
 }
 
-/// Adds a constraint: a clause as its literals, each by its variable's number, with a sign where it is the opposite; a group
-/// between braces.
-fn put_constraint(out: &mut String, c: &Constraint) -> Result<(), AllocError> {
+/// Adds a clause as its literals, each by its variable's number, with a sign where it is the opposite.
+fn put_clause(out: &mut Sheet, lits: &[Lit]) {
+    for l in lits {
+        out.put(if l.positive { " " } else { " -" });
+        out.number(u64::from(l.variable));
+    }
+}
+
+/// Adds a group between braces.
+fn put_group(out: &mut Sheet, variables: &[u32]) {
+    out.put(" {");
+    for x in variables {
+        out.put(" ");
+        out.number(u64::from(*x));
+    }
+    out.put(" }");
+}
+
+/// Adds a constraint.
+fn put_constraint(out: &mut Sheet, c: &Constraint) {
     match c {
-        Constraint::Clause(lits) => {
-            for l in lits.as_slice() {
-                let sign = if l.positive { "" } else { "-" };
-                write!(out, " {sign}{}", l.variable)?;
-            }
-        }
-        Constraint::AtMostOne(variables) => {
-            out.push_str(" {")?;
-            for x in variables.as_slice() {
-                write!(out, " {x}")?;
-            }
-            out.push_str(" }")?;
-        }
+        Constraint::Clause(lits) => put_clause(out, lits.as_slice()),
+        Constraint::AtMostOne(variables) => put_group(out, variables.as_slice()),
     }
-    out.push(';')
+    out.put(";");
 }
 
-// Adds a formula: the number of its variables, and its constraints.
-fn put_constraints(out: &mut String, formula: &Formula) -> Result<(), AllocError> {
-    write!(out, "{}:", formula.variables)?;
+/// Adds a formula: the number of its variables, and its constraints.
+fn put_constraints(out: &mut Sheet, formula: &Formula) {
+    out.number(u64::from(formula.variables));
+    out.put(":");
     for c in formula.constraints.as_slice() {
-        put_constraint(out, c)?;
+        put_constraint(out, c);
     }
-    Ok(())
 }
 
 /// Adds the formula of what is asked about.
-pub(crate) fn put_formula(
-    alloc: Global,
-    out: &mut String,
-    command: &str,
-    told: &mut Told,
-) -> Result<(), Fault> {
-    let asked = what_is_asked(alloc, told, command)?;
-    let formula = build(alloc, &asked.universe, &asked.req)?;
-    Ok(put_constraints(out, &formula)?)
+pub(crate) fn put_formula(alloc: Global, out: &mut Sheet, asked: &Asked)
+    requires { BeginsWith asked.now.universe asked.now.req.interface }
+{
+    match build(alloc, &asked.universe, &asked.req) {
+        Ok(formula) => put_constraints(out, &formula),
+        Err(fault) => put_build_fault(out, &fault),
+    }
 }
 
 /// The candidate of a number, of the interface of a number.
@@ -109,18 +134,12 @@ fn number_of(universe: &Universe, interface: u32, candidate: u32) -> Option<u32>
 }
 
 /// Adds the number of a candidate's variable, where the row is an interface and a candidate by their numbers; `-` for none.
-pub(crate) fn put_number(
-    alloc: Global,
-    out: &mut String,
-    row: &str,
-    told: &mut Told,
-) -> Result<(), Fault> {
-    let asked = what_is_asked(alloc, told, "-")?;
+pub(crate) fn put_number(out: &mut Sheet, asked: &Asked, row: &str) {
     let (interface, candidate) = halves(row);
     let interface = interface.parse::<u32>().unwrap_or(u32::MAX);
     let candidate = candidate.parse::<u32>().unwrap_or(u32::MAX);
     match number_of(&asked.universe, interface, candidate) {
-        Some(number) => Ok(write!(out, "{number}")?),
-        None => Ok(out.push('-')?),
+        Some(number) => out.number(u64::from(number)),
+        None => out.put("-"),
     }
 }

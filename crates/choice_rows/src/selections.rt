@@ -1,48 +1,42 @@
 //! Selections documents of choices that are given by hand.
-use crate::fault::Fault;
-use crate::halves;
-use crate::told::{Asked, Told, picks_of, what_is_asked};
+use crate::asking::Asked;
+use crate::told::take_picks;
 use std::alloc::Global;
 use zi_choice::Choice;
 use zi_docout::WriteFault;
+use zi_lines::Sheet;
 use zi_sels::{Selections, from_choice, write};
+use zi_text::{List, Memory};
 
-/// Adds a selections document.
-fn put_document(alloc: Global, out: &mut String, selections: &Selections) -> Result<(), Fault> {
-    let mut bytes = Vec::new(alloc);
-    match write(alloc, selections, &mut bytes) {
-        Ok(()) => {}
-        Err(WriteFault::Unwritable { .. }) => return Err(Fault::Refused),
-        Err(WriteFault::Memory) => return Err(Fault::Memory),
-    }
-    match std::str::from_utf8(bytes.as_slice()) {
-        Ok(text) => Ok(out.push_str(text)?),
-        Err(_) => Err(Fault::Refused),
+/// Adds how selections were written: the bytes, or that they can't be.
+fn put_outcome(out: &mut Sheet, answer: Result<(), WriteFault>, bytes: &[u8]) {
+    match answer {
+        Ok(()) => out.put(std::str::from_utf8(bytes).unwrap_or("refused")),
+        Err(WriteFault::Unwritable { .. }) => out.put("refused"),
+        Err(WriteFault::Memory) => out.lose(),
     }
 }
 
-// Adds the document of a choice.
-fn put_chosen(
-    alloc: Global,
-    out: &mut String,
-    asked: &Asked,
-    choice: &Choice,
-) -> Result<(), Fault> {
-    let selections = from_choice(alloc, &asked.universe, &asked.req, choice)?;
-    put_document(alloc, out, &selections)
+/// Adds a selections document.
+fn put_document(alloc: Global, out: &mut Sheet, selections: &Selections) {
+    let mut bytes = Vec::new(alloc);
+    let answer = write(alloc, selections, &mut bytes);
+    put_outcome(out, answer, bytes.as_slice());
+}
+
+/// Adds the document of a choice.
+fn put_chosen(alloc: Global, out: &mut Sheet, asked: &Asked, choice: &Choice) {
+    match from_choice(alloc, &asked.universe, &asked.req, choice) {
+        Ok(selections) => put_document(alloc, out, &selections),
+        Err(Memory) => out.lose(),
+    }
 }
 
 /// Adds the document of the choice of picks.
-pub(crate) fn put_selections(
-    alloc: Global,
-    out: &mut String,
-    row: &str,
-    told: &mut Told,
-) -> Result<(), Fault> {
-    let (command, picks) = halves(row);
-    let asked = what_is_asked(alloc, told, command)?;
-    let choice = Choice {
-        picks: picks_of(alloc, picks)?,
+pub(crate) fn put_selections(alloc: Global, out: &mut Sheet, asked: &Asked, row: &str) {
+    let mut choice = Choice {
+        picks: List::new(alloc),
     };
-    put_chosen(alloc, out, &asked, &choice)
+    out.needs(take_picks(&mut choice.picks, row));
+    put_chosen(alloc, out, asked, &choice);
 }

@@ -1,17 +1,12 @@
 //! What lines tell: feeds, and the lines of a proof text.
-ghost use Rattle.std.specs.Prelude.{IfOk};
-ghost use Rattle.zi_universe.specs.Whole.{BeginsWith};
-
-use crate::fault::Fault;
-use crate::halves;
 use std::alloc::Global;
-use std::fmt::Write;
+use zi_lines::{Sheet, halves};
 use zi_outside::SureFeeds;
-use zi_policy::{Network, Policy, Stability};
-use zi_text::{List, Memory, Text};
-use zi_universe::{LoadFault, Requirement, Universe, load};
+use zi_text::{List, Memory};
 
-const NS: &str = "http://zero-install.sourceforge.net/2004/injector/interface";
+/// What stands before the inside of a feed.
+const HEAD: &str =
+    "<interface xmlns='http://zero-install.sourceforge.net/2004/injector/interface'>";
 
 /// What was told so far.
 #[derive(Drop)]
@@ -49,98 +44,65 @@ impl Told {
     /// Takes a feed: its address and what stands in its root.
     fn take_feed(&mut self, alloc: Global, row: &str) -> Result<(), Memory> {
         let (uri, inside) = halves(row);
-        let bytes = format!(in alloc; "<interface xmlns='{NS}'>{inside}</interface>")?;
-        self.take(uri, bytes.as_bytes())
+        let mut text = String::new(alloc);
+        put_feed(&mut text, inside)?;
+        self.take(uri, text.as_bytes())
     }
 
     /// Takes the next line of a document.
-    fn take_line(&mut self, alloc: Global, line: &str) -> Result<(), Memory> {
+    fn take_line(&mut self, line: &str) -> Result<(), Memory> {
         self.document.push_str(line)?;
         self.document.push('\n')?;
-        let uri = Text::from_str(alloc, self.uri.as_str())?;
-        let document = Text::from_str(alloc, self.document.as_str())?;
-        self.take(uri.as_str(), document.as_str().as_bytes())
+        if self.root.is_empty() {
+            self.root.push_str(self.uri.as_str())?;
+        }
+        self.feeds.put(self.uri.as_str(), self.document.as_bytes())
     }
+
+    /// Takes the next line of a proof text.
+    fn take_step(&mut self, word: &str, rest: &str) -> Result<(), Memory> {
+        self.proof.push_str(word)?;
+        self.proof.push(' ')?;
+        self.proof.push_str(rest)?;
+        Ok(self.proof.push('\n')?)
+    }
+
+    /// Takes the address of the document whose lines come next.
+    fn take_address(&mut self, uri: &str) -> Result<(), Memory> {
+        Ok(self.uri.push_str(uri)?)
+    }
+}
+
+/// Adds the document of a feed with this inside.
+fn put_feed(text: &mut String, inside: &str) -> Result<(), Memory> {
+    text.push_str(HEAD)?;
+    text.push_str(inside)?;
+    Ok(text.push_str("</interface>")?)
 }
 
 /// Takes what a line tells, and says whether it tells something.
 pub(crate) fn tells(
     alloc: Global,
+    out: &mut Sheet,
     word: &str,
     rest: &str,
     told: &mut Told,
-) -> Result<bool, Memory> {
+) -> bool {
     match word {
         "#" => {}
-        "feed" => told.take_feed(alloc, rest)?,
-        "document" => told.uri.push_str(rest)?,
-        "|" => told.take_line(alloc, rest)?,
-        "l" | "b" => write!(&mut told.proof, "{word} {rest}\n")?,
-        _ => return Ok(false),
+        "feed" => out.needs(told.take_feed(alloc, rest)),
+        "document" => out.needs(told.take_address(rest)),
+        "|" => out.needs(told.take_line(rest)),
+        "l" | "b" => out.needs(told.take_step(word, rest)),
+        _ => return false,
     }
-    Ok(true)
+    true
 }
 
-/// The root with this command, where it isn't `-`.
-fn want(alloc: Global, told: &Told, command: &str) -> Result<Requirement, Memory> {
-    let command = if command == "-" {
-        None
-    } else {
-        Some(Text::from_str(alloc, command)?)
-    };
-    Ok(Requirement {
-        interface: Text::from_str(alloc, told.root.as_str())?,
-        command,
-        limits: List::new(alloc),
-    })
-}
-
-/// A policy for Linux on x86_64.
-fn policy(alloc: Global) -> Result<Policy, Memory> {
-    Ok(Policy {
-        os: Text::from_str(alloc, "Linux")?,
-        machine: Text::from_str(alloc, "x86_64")?,
-        langs: List::new(alloc),
-        level: Stability::Stable,
-        network: Network::Full,
-        uses: List::new(alloc),
-        overrides: List::new(alloc),
-    })
-}
-
-/// What a row asks about: a requirement, and its universe over the feeds that were told.
-#[derive(Drop)]
-pub(crate) struct Asked {
-    pub req: Requirement,
-    pub universe: Universe,
-}
-
-/// What is asked about the root with this command, where nothing is stored.
-pub(crate) fn what_is_asked(alloc: Global, told: &mut Told, command: &str) -> Result<Asked, Fault>
-    ensures { IfOk result (λ a. BeginsWith a.universe a.req.interface) }
-{
-    let req = want(alloc, told, command)?;
-    let universe = universe_of(alloc, &req, &mut told.feeds)?;
-    Ok(Asked { req, universe })
-}
-
-/// The universe of a requirement over feeds, where nothing is stored.
-fn universe_of(
-    alloc: Global,
-    req: &Requirement,
-    feeds: &mut SureFeeds,
-) -> Result<Universe, LoadFault>
-    ensures { IfOk result (λ u. BeginsWith u req.now.interface) }
-{
-    let policy = policy(alloc)?;
-    load(alloc, req, &policy, &[], feeds)
-}
-
-/// What words pick.
-pub(crate) fn picks_of(alloc: Global, words: &str) -> Result<List<Option<u32>>, Memory> {
-    let mut picks = List::new(alloc);
+/// Adds what words pick.
+pub(crate) fn take_picks(picks: &mut List<Option<u32>>, words: &str) -> Result<(), Memory> {
     for word in words.split(' ') {
-        picks.push(word.parse().ok())?;
+        picks.push(word.parse::<u32>().ok())?;
     }
-    Ok(picks)
+    Ok(())
 }

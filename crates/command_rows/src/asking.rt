@@ -1,52 +1,50 @@
 //! Words as a line has them.
 use std::alloc::Global;
+use zi_lines::Sheet;
 use zi_text::{List, Memory, Text};
 
-/// Adds a piece of a line that stands behind a backslash, whose first letter stands for a character.
-fn put_escaped(out: &mut String, piece: &str) -> Result<(), Memory> {
-    let stands = match piece.chars().next() {
-        Some('n') => '\n',
-        Some('t') => '\t',
-        Some('d') => '\u{7F}',
-        Some('1') => '\u{1}',
-        _ => '\u{FFFE}',
-    };
-    out.push(stands)?;
-    Ok(out.push_str(piece.get(1..).unwrap_or(""))?)
+/// The character that a letter behind a backslash stands for.
+fn stands(letter: Option<char>) -> &'static str {
+    match letter {
+        Some('n') => "\n",
+        Some('t') => "\t",
+        Some('d') => "\u{7F}",
+        Some('1') => "\u{1}",
+        _ => "\u{FFFE}",
+    }
 }
 
-/// The text that a line spells.
-pub(crate) fn spelled(alloc: Global, line: &str) -> Result<String, Memory> {
-    let mut text = String::new(alloc);
+/// Adds a piece of a line that stands behind a backslash, whose first letter stands for a character.
+fn put_escaped(out: &mut Sheet, piece: &str) {
+    out.put(stands(piece.chars().next()));
+    out.put(piece.get(1..).unwrap_or(""));
+}
+
+/// Adds the text that a line spells.
+pub(crate) fn put_spelled(out: &mut Sheet, line: &str) {
     for (i, piece) in line.split('\\').enumerate() {
         if i == 0 {
-            text.push_str(piece)?;
+            out.put(piece);
         } else {
-            put_escaped(&mut text, piece)?;
+            put_escaped(out, piece);
         }
     }
-    Ok(text)
 }
 
-/// The words of a line.
-pub(crate) fn words_of(alloc: Global, line: &str) -> Result<List<Text>, Memory> {
-    let mut words = List::new(alloc);
+/// The text that a word spells.
+fn word_of(alloc: Global, word: &str) -> Result<Text, Memory> {
+    let mut spelled = Sheet::new(alloc);
+    put_spelled(&mut spelled, if word == "_" { "" } else { word });
+    Text::from_str(alloc, spelled.text()?)
+}
+
+/// Adds the words of a line.
+pub(crate) fn take_words(alloc: Global, words: &mut List<Text>, line: &str) -> Result<(), Memory> {
     if line.is_empty() {
-        return Ok(words);
+        return Ok(());
     }
     for word in line.split(' ') {
-        let word = if word == "_" { "" } else { word };
-        let word = spelled(alloc, word)?;
-        words.push(Text::from_str(alloc, word.as_str())?)?;
+        words.push(word_of(alloc, word)?)?;
     }
-    Ok(words)
-}
-
-/// The numbers of a line.
-pub(crate) fn numbers_of(alloc: Global, line: &str) -> Result<Vec<u32>, Memory> {
-    let mut numbers = Vec::new(alloc);
-    for word in line.split(' ') {
-        numbers.push(word.parse::<u32>().unwrap_or(0))?;
-    }
-    Ok(numbers)
+    Ok(())
 }

@@ -1,21 +1,21 @@
 //! Calls of the whole program over the objects that were told.
-use crate::asking::words_of;
+use crate::asking::take_words;
 use crate::held::Held;
 use crate::told::{Objects, Told};
 use std::alloc::Global;
-use std::fmt::Write;
-use zi_app::{HELP, Outcome, refuse, run};
+use zi_app::{HELP, refuse, run};
+use zi_lines::Sheet;
 use zi_outside::{Feeds, MemorySink};
-use zi_text::{Memory, Text};
+use zi_text::{List, Text};
 
-// The outcome of these words. It has no clause, so nothing behind a call is proved over what the program promises.
-fn outcome_of<F: Feeds>(
+// The status of these words. It has no clause, so nothing behind a call is proved over what the program promises.
+fn status_over<F: Feeds>(
     alloc: Global,
     words: &[Text],
     feeds: &mut F,
     objects: &mut Objects,
-) -> Outcome {
-    run(
+) -> u8 {
+    let outcome = run(
         alloc,
         words,
         &objects.vars,
@@ -25,79 +25,72 @@ fn outcome_of<F: Feeds>(
         &mut objects.spawner,
         &mut objects.out,
         &mut objects.err,
-    )
+    );
+    outcome.code()
 }
 
-// The status of a line's words.
-fn status_of(alloc: Global, row: &str, told: &mut Told) -> Result<u8, Memory> {
-    let words = words_of(alloc, row)?;
-    let words = words.as_slice();
-    told.objects.begin(alloc, told.output_fails.as_slice())?;
+/// The status of these words over the feeds that were told.
+fn status_of(alloc: Global, words: &[Text], told: &mut Told) -> u8 {
     let objects = &mut told.objects;
-    let outcome = match &mut told.feeds {
-        Held::Planned(feeds) => outcome_of(alloc, words, feeds, objects),
-        Held::Sure(feeds) => outcome_of(alloc, words, feeds, objects),
-        Held::Long(feeds) => outcome_of(alloc, words, feeds, objects),
-    };
-    Ok(outcome.code())
+    match &mut told.feeds {
+        Held::Planned(feeds) => status_over(alloc, words, feeds, objects),
+        Held::Sure(feeds) => status_over(alloc, words, feeds, objects),
+        Held::Long(feeds) => status_over(alloc, words, feeds, objects),
+    }
 }
 
-// Adds the text of a sink, without the end of its last line; where that isn't there, a `~` says so.
-fn put_text(out: &mut String, sink: &MemorySink) -> Result<(), Memory> {
+/// Adds the text of a sink, without the end of its last line; where that isn't there, a `~` says so.
+fn put_text(out: &mut Sheet, sink: &MemorySink) {
     let text = std::str::from_utf8(sink.bytes().as_slice()).unwrap_or("no text");
     if text == HELP {
-        return Ok(out.push_str("the help")?);
+        return out.put("the help");
     }
     match text.strip_suffix('\n') {
-        Some(line) => out.push_str(line)?,
+        Some(line) => out.put(line),
         None => {
-            out.push_str(text)?;
-            out.push('~')?;
+            out.put(text);
+            out.put("~");
         }
     }
-    Ok(())
 }
 
-// Adds the status, and behind a blank the line of how it ended, where there is one.
-fn put_status(out: &mut String, status: u8, err: &MemorySink) -> Result<(), Memory> {
-    write!(out, "{status}")?;
-    if err.bytes().is_empty() {
-        return Ok(());
+/// Adds the status, and behind a blank the line of how it ended, where there is one.
+fn put_status(out: &mut Sheet, status: u8, err: &MemorySink) {
+    out.number(u64::from(status));
+    if !err.bytes().is_empty() {
+        out.put(" ");
+        put_text(out, err);
     }
-    out.push(' ')?;
-    put_text(out, err)
 }
 
 /// Adds how a call ends, and what it writes.
-pub(crate) fn put_call(
-    alloc: Global,
-    out: &mut String,
-    row: &str,
-    told: &mut Told,
-) -> Result<(), Memory> {
-    put_quiet(alloc, out, row, told)?;
-    if told.objects.out.bytes().is_empty() {
-        return Ok(());
+pub(crate) fn put_call(alloc: Global, out: &mut Sheet, row: &str, told: &mut Told) {
+    put_quiet(alloc, out, row, told);
+    if !told.objects.out.bytes().is_empty() {
+        out.put("\n");
+        put_text(out, &told.objects.out);
     }
-    out.push('\n')?;
-    put_text(out, &told.objects.out)
 }
 
 /// Adds how a call ends, alone.
-pub(crate) fn put_quiet(
-    alloc: Global,
-    out: &mut String,
-    row: &str,
-    told: &mut Told,
-) -> Result<(), Memory> {
-    let status = status_of(alloc, row, told)?;
-    put_status(out, status, &told.objects.err)
+pub(crate) fn put_quiet(alloc: Global, out: &mut Sheet, row: &str, told: &mut Told) {
+    let mut words = List::new(alloc);
+    out.needs(take_words(alloc, &mut words, row));
+    out.needs(told.begin(alloc));
+    let status = status_of(alloc, words.as_slice(), told);
+    put_status(out, status, &told.objects.err);
 }
 
 /// Adds how words before one that isn't text are refused.
-pub(crate) fn put_refusal(alloc: Global, out: &mut String, row: &str) -> Result<(), Memory> {
-    let words = words_of(alloc, row)?;
+fn put_refused(alloc: Global, out: &mut Sheet, words: &[Text]) {
     let mut err = MemorySink::new(alloc);
-    let outcome = refuse(alloc, words.as_slice(), &mut err);
-    put_status(out, outcome.code(), &err)
+    let outcome = refuse(alloc, words, &mut err);
+    put_status(out, outcome.code(), &err);
+}
+
+/// Adds how the words of a row before one that isn't text are refused.
+pub(crate) fn put_refusal(alloc: Global, out: &mut Sheet, row: &str) {
+    let mut words = List::new(alloc);
+    out.needs(take_words(alloc, &mut words, row));
+    put_refused(alloc, out, words.as_slice());
 }

@@ -19,21 +19,11 @@ use std::alloc::Global;
 use std::io::{self, Write};
 use std::process::ExitCode;
 use told::{Told, tells};
+use zi_lines::{Sheet, halves};
 use zi_text::Memory;
 
-/// A text up to its first blank, and behind it.
-pub(crate) fn halves(text: &str) -> (&str, &str) {
-    text.split_once(' ').unwrap_or((text, ""))
-}
-
 /// Adds the answer to what a word asks.
-fn put_answer(
-    alloc: Global,
-    out: &mut String,
-    word: &str,
-    rest: &str,
-    told: &mut Told,
-) -> Result<(), Memory> {
+fn put_answer(alloc: Global, out: &mut Sheet, word: &str, rest: &str, told: &mut Told) {
     match word {
         "zi" => calling::put_call(alloc, out, rest, told),
         "quiet" => calling::put_quiet(alloc, out, rest, told),
@@ -45,57 +35,42 @@ fn put_answer(
     }
 }
 
-/// Adds an answer behind its question.
-fn put_behind(out: &mut String, answer: &str) -> Result<(), Memory> {
-    if !answer.contains('\n') {
-        out.push_str(" = ")?;
-        return Ok(out.push_str(answer)?);
-    }
-    for line in answer.lines() {
-        out.push_str("\n= ")?;
-        out.push_str(line)?;
-    }
-    Ok(())
-}
-
 /// Adds a line with its answer.
-fn put_line(alloc: Global, out: &mut String, line: &str, told: &mut Told) -> Result<(), Memory> {
-    out.push_str(line)?;
+fn put_line(alloc: Global, out: &mut Sheet, line: &str, told: &mut Told) {
+    out.put(line);
     let (word, rest) = halves(line);
-    if tells(alloc, word, rest, told)? {
-        return Ok(());
+    if !tells(alloc, out, word, rest, told) {
+        let mut answer = Sheet::new(alloc);
+        put_answer(alloc, &mut answer, word, rest, told);
+        out.answer(&answer);
     }
-    let mut answer = String::new(alloc);
-    put_answer(alloc, &mut answer, word, rest, told)?;
-    put_behind(out, answer.as_str())
+    out.put("\n");
 }
 
-/// Adds the lines of a paragraph, each with its answer.
-fn put_lines(alloc: Global, out: &mut String, paragraph: &str) -> Result<(), Memory> {
+/// Adds a paragraph, each line with its answer, and an empty line before it unless it is the first.
+fn put_paragraph(alloc: Global, out: &mut Sheet, paragraph: &str) {
+    if !out.is_empty() {
+        out.put("\n");
+    }
     let mut told = Told::new(alloc);
     for line in paragraph.lines() {
-        put_line(alloc, out, line, &mut told)?;
-        out.push('\n')?;
+        put_line(alloc, out, line, &mut told);
     }
-    Ok(())
 }
 
-/// The paragraphs with their answers.
-fn answered(alloc: Global, text: &str) -> Result<String, Memory> {
-    let mut out = String::new(alloc);
+/// Adds the paragraphs with their answers.
+fn put_all(alloc: Global, out: &mut Sheet, text: &str) {
     for paragraph in text.split("\n\n") {
-        if !out.is_empty() {
-            out.push('\n')?;
-        }
-        put_lines(alloc, &mut out, paragraph)?;
+        put_paragraph(alloc, out, paragraph);
     }
-    Ok(out)
 }
 
 fn main(rt: HostRuntime) -> io::Result<ExitCode> {
     let text = io::read_to_string(rt.alloc(), rt.stdin())?;
-    match answered(rt.alloc(), text.as_str()) {
-        Ok(out) => rt.stdout().write_all(out.as_bytes())?,
+    let mut out = Sheet::new(rt.alloc());
+    put_all(rt.alloc(), &mut out, text.as_str());
+    match out.text() {
+        Ok(text) => rt.stdout().write_all(text.as_bytes())?,
         Err(Memory) => return Ok(ExitCode::from(1)),
     }
     Ok(ExitCode::SUCCESS)

@@ -16,21 +16,11 @@ use std::alloc::Global;
 use std::io::{self, Write};
 use std::process::ExitCode;
 use telling::{Told, tells};
+use zi_lines::{Sheet, halves};
 use zi_text::Memory;
 
-/// A text up to its first blank, and behind it.
-pub(crate) fn halves(text: &str) -> (&str, &str) {
-    text.split_once(' ').unwrap_or((text, ""))
-}
-
 /// Adds the answer to what a word asks.
-fn put_answer(
-    alloc: Global,
-    out: &mut String,
-    word: &str,
-    rest: &str,
-    told: &mut Told,
-) -> Result<(), Memory> {
+fn put_answer(alloc: Global, out: &mut Sheet, word: &str, rest: &str, told: &mut Told) {
     match word {
         "address" => asking::put_address(alloc, out, rest),
         "path" => asking::put_local(alloc, out, rest),
@@ -38,65 +28,88 @@ fn put_answer(
         "load" => loading::put_loaded(alloc, out, rest, told),
         "first" => loading::put_first(alloc, out, rest, told),
         "asked" => loading::put_asked(out, told),
-        _ => Ok(out.push_str("no question")?),
+        _ => out.put("no question"),
     }
+}
+
+/// Adds a line with its answer.
+fn put_line(alloc: Global, out: &mut Sheet, line: &str, told: &mut Told) {
+    out.put(line);
+    let (word, rest) = halves(line);
+    if !tells(alloc, out, word, rest, told) {
+        out.put(" = ");
+        put_answer(alloc, out, word, rest, told);
+    }
+    out.put("\n");
 }
 
 /// Adds the lines of a paragraph, each with its answer.
-fn put_lines(alloc: Global, out: &mut String, paragraph: &str) -> Result<(), Memory> {
-    let mut told = Told::new(alloc)?;
+fn put_lines(alloc: Global, out: &mut Sheet, paragraph: &str) {
+    let mut told = Told::new(alloc);
+    out.needs(told.take_user(alloc));
     for line in paragraph.lines() {
-        out.push_str(line)?;
-        let (word, rest) = halves(line);
-        if !tells(alloc, word, rest, &mut told)? {
-            out.push_str(" = ")?;
-            put_answer(alloc, out, word, rest, &mut told)?;
-        }
-        out.push('\n')?;
+        put_line(alloc, out, line, &mut told);
     }
-    Ok(())
+}
+
+/// Adds the lines of an answer.
+fn put_behind(out: &mut Sheet, answer: &str) {
+    for line in answer.trim_start_matches('\n').lines() {
+        out.put("\n= ");
+        out.put(line);
+    }
 }
 
 /// Adds a paragraph, and on the lines behind it the answer to it.
-fn put_block(out: &mut String, paragraph: &str, answer: &str) -> Result<(), Memory> {
-    out.push_str(paragraph.trim_end_matches('\n'))?;
-    for line in answer.trim_start_matches('\n').lines() {
-        out.push_str("\n= ")?;
-        out.push_str(line)?;
+fn put_block(out: &mut Sheet, paragraph: &str, answer: &Sheet) {
+    out.put(paragraph.trim_end_matches('\n'));
+    match answer.text() {
+        Ok(text) => put_behind(out, text),
+        Err(Memory) => out.lose(),
     }
-    Ok(out.push('\n')?)
+    out.put("\n");
 }
 
-/// Adds a paragraph with its answers.
-fn put_paragraph(alloc: Global, out: &mut String, paragraph: &str) -> Result<(), Memory> {
-    let mut answer = String::new(alloc);
+/// Adds the answer to a whole paragraph, and says whether it asks as a whole.
+fn put_whole(alloc: Global, out: &mut Sheet, paragraph: &str) -> bool {
     if let Some(rest) = paragraph.strip_prefix("document ") {
         let (uri, document) = rest.split_once('\n').unwrap_or((rest, ""));
-        asking::put_feed(alloc, &mut answer, document, uri)?;
-    } else if let Some(element) = paragraph.strip_prefix("element ") {
-        asking::put_element(alloc, &mut answer, element)?;
-    } else {
-        return put_lines(alloc, out, paragraph);
+        asking::put_feed(alloc, out, document, uri);
+        return true;
     }
-    put_block(out, paragraph, answer.as_str())
+    if let Some(element) = paragraph.strip_prefix("element ") {
+        asking::put_element(alloc, out, element);
+        return true;
+    }
+    false
 }
 
-/// The paragraphs with their answers.
-fn answered(alloc: Global, text: &str) -> Result<String, Memory> {
-    let mut out = String::new(alloc);
-    for paragraph in text.split("\n\n") {
-        if !out.is_empty() {
-            out.push('\n')?;
-        }
-        put_paragraph(alloc, &mut out, paragraph)?;
+/// Adds a paragraph with its answers, an empty line before it unless it is the first.
+fn put_paragraph(alloc: Global, out: &mut Sheet, paragraph: &str) {
+    if !out.is_empty() {
+        out.put("\n");
     }
-    Ok(out)
+    let mut answer = Sheet::new(alloc);
+    if put_whole(alloc, &mut answer, paragraph) {
+        put_block(out, paragraph, &answer);
+    } else {
+        put_lines(alloc, out, paragraph);
+    }
+}
+
+/// Adds the paragraphs with their answers.
+fn put_all(alloc: Global, out: &mut Sheet, text: &str) {
+    for paragraph in text.split("\n\n") {
+        put_paragraph(alloc, out, paragraph);
+    }
 }
 
 fn main(rt: HostRuntime) -> io::Result<ExitCode> {
     let text = io::read_to_string(rt.alloc(), rt.stdin())?;
-    match answered(rt.alloc(), text.as_str()) {
-        Ok(out) => rt.stdout().write_all(out.as_bytes())?,
+    let mut out = Sheet::new(rt.alloc());
+    put_all(rt.alloc(), &mut out, text.as_str());
+    match out.text() {
+        Ok(text) => rt.stdout().write_all(text.as_bytes())?,
         Err(Memory) => return Ok(ExitCode::from(1)),
     }
     Ok(ExitCode::SUCCESS)

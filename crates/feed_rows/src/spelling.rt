@@ -1,73 +1,108 @@
 //! A feed as a text that has all its fields: a line for each import, implementation, digest, method, step, dependency, command and
 //! binding, and what is absent left out.
 use std::alloc::Global;
-use std::fmt::Write;
 use zi_digest::DigestName;
-use zi_feed::{Binding, Command, Dep, Extra, Feed, Impl, Method, Runner, Step, Word};
+use zi_feed::{Binding, Command, Dep, Extra, Feed, Impl, Import, Method, Runner, Step, Word};
+use zi_lines::Sheet;
 use zi_policy::Arch;
-use zi_text::{List, Memory, Text};
+use zi_text::{List, Text};
 use zi_tree::RelPath;
-use zi_version::{Alternative, Range};
+use zi_version::{Alternative, Range, Version};
+
+/// Adds a text behind what stands before it.
+fn put_named(out: &mut Sheet, before: &str, text: &Text) {
+    out.put(before);
+    out.put(text.as_str());
+}
+
+/// Adds a text behind ` name=`.
+fn put_equal(out: &mut Sheet, name: &str, text: &Text) {
+    out.put(" ");
+    out.put(name);
+    out.put("=");
+    out.put(text.as_str());
+}
 
 /// Adds a named text, where there is one.
-fn put_field(out: &mut String, name: &str, text: &Option<Text>) -> Result<(), Memory> {
+fn put_field(out: &mut Sheet, name: &str, text: &Option<Text>) {
     if let Some(text) = text {
-        write!(out, " {name}={}", text.as_str())?;
+        put_equal(out, name, text);
     }
-    Ok(())
 }
 
 /// Adds named texts, each with the name.
-fn put_fields(out: &mut String, name: &str, texts: &List<Text>) -> Result<(), Memory> {
+fn put_fields(out: &mut Sheet, name: &str, texts: &List<Text>) {
     for text in texts.as_slice() {
-        write!(out, " {name}={}", text.as_str())?;
+        put_equal(out, name, text);
     }
-    Ok(())
 }
 
 /// Adds a platform, where there is one.
-fn put_arch(out: &mut String, arch: &Option<Arch>) -> Result<(), Memory> {
+fn put_arch(out: &mut Sheet, arch: &Option<Arch>) {
     if let Some(arch) = arch {
-        write!(out, " arch={}-{}", arch.os.as_str(), arch.machine.as_str())?;
+        put_named(out, " arch=", &arch.os);
+        put_named(out, "-", &arch.machine);
     }
-    Ok(())
+}
+
+/// Adds a version behind what stands before it, where there is one.
+fn put_version(out: &mut Sheet, before: &str, version: &Option<Version>) {
+    if let Some(version) = version {
+        out.put(before);
+        out.put(version.text());
+    }
 }
 
 /// Adds a range of an expression.
-fn put_alternative(out: &mut String, one: &Alternative) -> Result<(), Memory> {
+fn put_alternative(out: &mut Sheet, one: &Alternative) {
     match one {
-        Alternative::Equal(version) => out.push_str(version.text())?,
-        Alternative::Other(version) => write!(out, "!{}", version.text())?,
+        Alternative::Equal(version) => out.put(version.text()),
+        Alternative::Other(version) => {
+            out.put("!");
+            out.put(version.text());
+        }
         Alternative::Within(start, end) => {
-            if let Some(version) = start {
-                out.push_str(version.text())?;
-            }
-            out.push_str("..")?;
-            if let Some(version) = end {
-                write!(out, "!{}", version.text())?;
-            }
+            put_version(out, "", start);
+            out.put("..");
+            put_version(out, "!", end);
         }
     }
-    Ok(())
+}
+
+/// Adds several ranges, each behind `|`.
+fn put_alternatives(out: &mut Sheet, all: &[Alternative]) {
+    for one in all {
+        out.put("|");
+        put_alternative(out, one);
+    }
 }
 
 /// Adds an expression.
-fn put_range(out: &mut String, range: &Range) -> Result<(), Memory> {
-    out.push_str(" range=")?;
+fn put_range(out: &mut Sheet, range: &Range) {
+    out.put(" range=");
     match range {
-        Range::One(one) => put_alternative(out, one)?,
-        Range::Any(all) => {
-            for one in all.as_slice() {
-                out.push('|')?;
-                put_alternative(out, one)?;
-            }
-        }
+        Range::One(one) => put_alternative(out, one),
+        Range::Any(all) => put_alternatives(out, all.as_slice()),
     }
-    Ok(())
+}
+
+/// Adds expressions.
+fn put_ranges(out: &mut Sheet, ranges: &[Range]) {
+    for range in ranges {
+        put_range(out, range);
+    }
+}
+
+/// Adds what is inserted, or the value.
+fn put_extra(out: &mut Sheet, extra: &Extra) {
+    match extra {
+        Extra::Insert(text) => put_equal(out, "insert", text),
+        Extra::Value(text) => put_equal(out, "value", text),
+    }
 }
 
 /// Adds a binding.
-pub(crate) fn put_binding(out: &mut String, binding: &Binding) -> Result<(), Memory> {
+pub(crate) fn put_binding(out: &mut Sheet, binding: &Binding) {
     match binding {
         Binding::Env {
             name,
@@ -76,106 +111,104 @@ pub(crate) fn put_binding(out: &mut String, binding: &Binding) -> Result<(), Mem
             separator,
             default,
         } => {
-            write!(out, "\nenv {}", name.as_str())?;
-            match extra {
-                Extra::Insert(text) => write!(out, " insert={}", text.as_str())?,
-                Extra::Value(text) => write!(out, " value={}", text.as_str())?,
-            }
-            write!(out, " {mode:?} separator={}", separator.as_str())?;
-            put_field(out, "default", default)
+            put_named(out, "\nenv ", name);
+            put_extra(out, extra);
+            out.put(" ");
+            out.value(mode);
+            put_equal(out, "separator", separator);
+            put_field(out, "default", default);
         }
-        Binding::Unbuilt { element } => Ok(write!(out, "\nunbuilt {}", element.as_str())?),
+        Binding::Unbuilt { element } => put_named(out, "\nunbuilt ", element),
     }
 }
 
 /// Adds bindings.
-fn put_bindings(out: &mut String, bindings: &List<Binding>) -> Result<(), Memory> {
+fn put_bindings(out: &mut Sheet, bindings: &List<Binding>) {
     for binding in bindings.as_slice() {
-        put_binding(out, binding)?;
+        put_binding(out, binding);
     }
-    Ok(())
 }
 
 /// Adds a dependency.
-pub(crate) fn put_dep(out: &mut String, dep: &Dep) -> Result<(), Memory> {
-    write!(out, "\n{:?} {}", dep.kind, dep.interface.as_str())?;
-    for range in dep.ranges.as_slice() {
-        put_range(out, range)?;
-    }
-    put_field(out, "os", &dep.condition.os)?;
-    put_field(out, "use", &dep.condition.wanted)?;
-    put_fields(out, "command", &dep.commands)?;
-    put_bindings(out, &dep.bindings)
+pub(crate) fn put_dep(out: &mut Sheet, dep: &Dep) {
+    out.put("\n");
+    out.value(&dep.kind);
+    put_named(out, " ", &dep.interface);
+    put_ranges(out, dep.ranges.as_slice());
+    put_field(out, "os", &dep.condition.os);
+    put_field(out, "use", &dep.condition.wanted);
+    put_fields(out, "command", &dep.commands);
+    put_bindings(out, &dep.bindings);
 }
 
 /// Adds dependencies.
-fn put_deps(out: &mut String, deps: &List<Dep>) -> Result<(), Memory> {
+fn put_deps(out: &mut Sheet, deps: &List<Dep>) {
     for dep in deps.as_slice() {
-        put_dep(out, dep)?;
+        put_dep(out, dep);
     }
-    Ok(())
 }
 
 /// Adds an argument.
-fn put_word(out: &mut String, word: &Word) -> Result<(), Memory> {
+fn put_word(out: &mut Sheet, word: &Word) {
     match word {
-        Word::Arg(text) => Ok(write!(out, "\narg {}", text.as_str())?),
+        Word::Arg(text) => put_named(out, "\narg ", text),
         Word::ForEach {
             item_from,
             separator,
             args,
         } => {
-            write!(
-                out,
-                "\nfor {} separator={}",
-                item_from.as_str(),
-                separator.as_str()
-            )?;
-            put_fields(out, "arg", args)
+            put_named(out, "\nfor ", item_from);
+            put_equal(out, "separator", separator);
+            put_fields(out, "arg", args);
         }
     }
 }
 
 /// Adds arguments.
-fn put_words(out: &mut String, words: &List<Word>) -> Result<(), Memory> {
+fn put_words(out: &mut Sheet, words: &List<Word>) {
     for word in words.as_slice() {
-        put_word(out, word)?;
+        put_word(out, word);
     }
-    Ok(())
 }
 
-/// Adds what runs a command.
-fn put_runner(out: &mut String, runner: &Runner) -> Result<(), Memory> {
-    out.push_str("\nrunner")?;
-    put_dep(out, &runner.dep)?;
-    put_words(out, &runner.words)?;
-    Ok(out.push_str("\nend")?)
+/// Adds what runs a command, where something does.
+fn put_runner(out: &mut Sheet, runner: &Option<Runner>) {
+    if let Some(runner) = runner {
+        out.put("\nrunner");
+        put_dep(out, &runner.dep);
+        put_words(out, &runner.words);
+        out.put("\nend");
+    }
 }
 
 /// Adds a command.
-pub(crate) fn put_command(out: &mut String, command: &Command) -> Result<(), Memory> {
-    write!(out, "\ncommand {}", command.name.as_str())?;
-    put_field(out, "path", &command.path)?;
-    put_field(out, "unbuilt", &command.unbuilt)?;
-    put_words(out, &command.words)?;
-    if let Some(runner) = &command.runner {
-        put_runner(out, runner)?;
+pub(crate) fn put_command(out: &mut Sheet, command: &Command) {
+    put_named(out, "\ncommand ", &command.name);
+    put_field(out, "path", &command.path);
+    put_field(out, "unbuilt", &command.unbuilt);
+    put_words(out, &command.words);
+    put_runner(out, &command.runner);
+    put_deps(out, &command.deps);
+    put_bindings(out, &command.bindings);
+    out.put("\nend");
+}
+
+/// Adds commands.
+fn put_commands(out: &mut Sheet, commands: &List<Command>) {
+    for command in commands.as_slice() {
+        put_command(out, command);
     }
-    put_deps(out, &command.deps)?;
-    put_bindings(out, &command.bindings)?;
-    Ok(out.push_str("\nend")?)
 }
 
 /// Adds a path.
-fn put_path(out: &mut String, path: &RelPath) -> Result<(), Memory> {
+fn put_path(out: &mut Sheet, path: &RelPath) {
     for part in path.parts().as_slice() {
-        write!(out, "/{}", part.as_str())?;
+        put_named(out, "/", part);
     }
-    Ok(())
 }
 
 /// Adds a step.
-fn put_step(out: &mut String, step: &Step) -> Result<(), Memory> {
+fn put_step(out: &mut Sheet, step: &Step) {
     match step {
         Step::File {
             href,
@@ -183,77 +216,87 @@ fn put_step(out: &mut String, step: &Step) -> Result<(), Memory> {
             dest,
             exec,
         } => {
-            write!(out, "\nfile {} {size} {exec} ", href.as_str())?;
-            put_path(out, dest)
+            put_named(out, "\nfile ", href);
+            out.put(" ");
+            out.number(*size);
+            out.put(if *exec { " true " } else { " false " });
+            put_path(out, dest);
         }
         Step::Rename { source, dest } => {
-            out.push_str("\nrename ")?;
-            put_path(out, source)?;
-            out.push(' ')?;
-            put_path(out, dest)
+            out.put("\nrename ");
+            put_path(out, source);
+            out.put(" ");
+            put_path(out, dest);
         }
         Step::Remove { path } => {
-            out.push_str("\nremove ")?;
-            put_path(out, path)
+            out.put("\nremove ");
+            put_path(out, path);
         }
     }
 }
 
 /// Adds a way to fetch.
-fn put_method(out: &mut String, method: &Method) -> Result<(), Memory> {
-    out.push_str("\nmethod")?;
+fn put_method(out: &mut Sheet, method: &Method) {
+    out.put("\nmethod");
     for step in method.steps.as_slice() {
-        put_step(out, step)?;
+        put_step(out, step);
     }
-    Ok(())
+}
+
+/// Adds ways to fetch.
+fn put_methods(out: &mut Sheet, methods: &List<Method>) {
+    for method in methods.as_slice() {
+        put_method(out, method);
+    }
 }
 
 /// Adds digests.
-pub(crate) fn put_digests(
-    alloc: Global,
-    out: &mut String,
-    digests: &List<DigestName>,
-) -> Result<(), Memory> {
+pub(crate) fn put_digests(alloc: Global, out: &mut Sheet, digests: &List<DigestName>) {
     for digest in digests.as_slice() {
-        write!(out, "\ndigest {}", digest.text(alloc)?.as_str())?;
+        out.put("\ndigest ");
+        out.made(digest.text(alloc));
     }
-    Ok(())
 }
 
 /// Adds what an implementation is, on one line.
-fn put_facts(out: &mut String, one: &Impl) -> Result<(), Memory> {
-    write!(out, "\nimpl {} {}", one.id.as_str(), one.version.text())?;
-    write!(out, " {:?} at={}", one.stability, one.place)?;
-    put_arch(out, &one.arch)?;
-    put_fields(out, "lang", &one.langs)?;
-    put_field(out, "released", &one.released)?;
-    put_field(out, "local", &one.local)
+fn put_facts(out: &mut Sheet, one: &Impl) {
+    put_named(out, "\nimpl ", &one.id);
+    out.put(" ");
+    out.put(one.version.text());
+    out.put(" ");
+    out.value(&one.stability);
+    out.put(" at=");
+    out.number(one.place);
+    put_arch(out, &one.arch);
+    put_fields(out, "lang", &one.langs);
+    put_field(out, "released", &one.released);
+    put_field(out, "local", &one.local);
 }
 
 /// Adds an implementation.
-fn put_impl(alloc: Global, out: &mut String, one: &Impl) -> Result<(), Memory> {
-    put_facts(out, one)?;
-    put_digests(alloc, out, &one.digests)?;
-    for method in one.methods.as_slice() {
-        put_method(out, method)?;
+fn put_impl(alloc: Global, out: &mut Sheet, one: &Impl) {
+    put_facts(out, one);
+    put_digests(alloc, out, &one.digests);
+    put_methods(out, &one.methods);
+    put_deps(out, &one.deps);
+    put_commands(out, &one.commands);
+    put_bindings(out, &one.bindings);
+}
+
+/// Adds the imports.
+fn put_imports(out: &mut Sheet, imports: &[Import]) {
+    for import in imports {
+        put_named(out, "\nimport ", &import.uri);
+        put_arch(out, &import.arch);
+        put_fields(out, "lang", &import.langs);
     }
-    put_deps(out, &one.deps)?;
-    for command in one.commands.as_slice() {
-        put_command(out, command)?;
-    }
-    put_bindings(out, &one.bindings)
 }
 
 /// Adds a feed.
-pub(crate) fn put_feed(alloc: Global, out: &mut String, feed: &Feed) -> Result<(), Memory> {
-    out.push_str(feed.uri.as_str())?;
-    for import in feed.imports.as_slice() {
-        write!(out, "\nimport {}", import.uri.as_str())?;
-        put_arch(out, &import.arch)?;
-        put_fields(out, "lang", &import.langs)?;
-    }
+pub(crate) fn put_feed(alloc: Global, out: &mut Sheet, feed: &Feed) {
+    out.put(feed.uri.as_str());
+    put_imports(out, feed.imports.as_slice());
     for one in feed.impls.as_slice() {
-        put_impl(alloc, out, one)?;
+        put_impl(alloc, out, one);
     }
-    Ok(())
 }

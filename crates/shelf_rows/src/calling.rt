@@ -1,76 +1,91 @@
 //! What each call of a shelf answers.
 use crate::nodes::path_of;
-use crate::{halves, reading, sessions};
+use crate::{reading, sessions};
 use std::alloc::Global;
-use std::fmt::Write;
+use zi_lines::{Sheet, halves};
 use zi_session::Session;
 use zi_shelf::{Entry, EntryKind, Listed, Shelf, ShelfFault};
 use zi_text::{List, Memory, Text};
 use zi_tree::RelPath;
 
 /// Adds an entry.
-fn put_entry(out: &mut String, entry: &Entry) -> Result<(), Memory> {
-    let name = entry.name.as_str();
+fn put_entry(out: &mut Sheet, entry: &Entry) {
+    out.put(entry.name.as_str());
     match &entry.kind {
-        EntryKind::File { exec, mtime, size } => write!(out, "{name} file {exec} {mtime} {size};")?,
-        EntryKind::Link => write!(out, "{name} link;")?,
-        EntryKind::Folder => write!(out, "{name} folder;")?,
+        EntryKind::File { exec, mtime, size } => {
+            out.put(if *exec { " file true " } else { " file false " });
+            out.value(mtime);
+            out.put(" ");
+            out.value(size);
+        }
+        EntryKind::Link => out.put(" link"),
+        EntryKind::Folder => out.put(" folder"),
     }
-    Ok(())
+    out.put(";");
+}
+
+/// Adds entries.
+fn put_entries(out: &mut Sheet, entries: &[Entry]) {
+    for entry in entries {
+        put_entry(out, entry);
+    }
 }
 
 /// Adds a listing.
-fn put_listing(out: &mut String, listed: &Result<Listed, ShelfFault>) -> Result<(), Memory> {
+fn put_listing(out: &mut Sheet, listed: &Result<Listed, ShelfFault>) {
     match listed {
-        Ok(Listed::Absent) => out.push_str("absent")?,
-        Ok(Listed::Entries(entries)) => {
-            for entry in entries.as_slice() {
-                put_entry(out, entry)?;
-            }
-        }
-        Err(fault) => write!(out, "{fault:?}")?,
+        Ok(Listed::Absent) => out.put("absent"),
+        Ok(Listed::Entries(entries)) => put_entries(out, entries.as_slice()),
+        Err(fault) => out.value(fault),
     }
-    Ok(())
 }
 
 /// Adds names.
-fn put_names(out: &mut String, names: &Result<List<Text>, ShelfFault>) -> Result<(), Memory> {
-    match names {
-        Ok(names) if names.is_empty() => out.push_str("none")?,
-        Ok(names) => {
-            for name in names.as_slice() {
-                write!(out, "{};", name.as_str())?;
-            }
-        }
-        Err(fault) => write!(out, "{fault:?}")?,
+fn put_each(out: &mut Sheet, names: &List<Text>) {
+    if names.is_empty() {
+        return out.put("none");
     }
-    Ok(())
+    for name in names.as_slice() {
+        out.put(name.as_str());
+        out.put(";");
+    }
+}
+
+/// Adds the names that a shelf has.
+fn put_names(out: &mut Sheet, names: &Result<List<Text>, ShelfFault>) {
+    match names {
+        Ok(names) => put_each(out, names),
+        Err(fault) => out.value(fault),
+    }
 }
 
 /// Adds the target of a link.
-fn put_target(out: &mut String, target: &Result<Text, ShelfFault>) -> Result<(), Memory> {
+fn put_target(out: &mut Sheet, target: &Result<Text, ShelfFault>) {
     match target {
-        Ok(text) => out.push_str(text.as_str())?,
-        Err(fault) => write!(out, "{fault:?}")?,
+        Ok(text) => out.put(text.as_str()),
+        Err(fault) => out.value(fault),
     }
-    Ok(())
 }
 
 /// Adds a piece of a file, by the number of its first byte and the greatest of its length, behind what the buffer has: the byte 62.
 fn put_piece<K: Shelf>(
     alloc: Global,
-    out: &mut String,
+    out: &mut Sheet,
     shelf: &mut K,
     top: &str,
     at: &RelPath,
     range: (u64, u32),
-) -> Result<(), Memory> {
+) {
     let (offset, max) = range;
-    let mut bytes = Vec::from_slice(alloc, b">")?;
-    if let Err(fault) = shelf.read(top, at, offset, max, &mut bytes) {
-        write!(out, "{fault:?} ")?;
+    let mut bytes = Vec::new(alloc);
+    if bytes.push(b'>').is_err() {
+        out.lose();
     }
-    Ok(write!(out, "{bytes:?}")?)
+    if let Err(fault) = shelf.read(top, at, offset, max, &mut bytes) {
+        out.value(&fault);
+        out.put(" ");
+    }
+    out.value(&bytes);
 }
 
 /// What a call that fills an entry answers: `append` has the bytes of `abc`, `finish_file` the time -5, `make_link` the target `d/f`.
@@ -84,55 +99,55 @@ fn filled<K: Shelf>(shelf: &mut K, word: &str, top: &str, at: &RelPath) -> Resul
 }
 
 /// Adds the answer of a call that changes the top.
-fn put_changed<K: Shelf>(
-    out: &mut String,
-    word: &str,
-    top: &str,
-    to: &str,
-    shelf: &mut K,
-) -> Result<(), Memory> {
+fn put_changed<K: Shelf>(out: &mut Sheet, word: &str, top: &str, to: &str, shelf: &mut K) {
     match word {
-        "make_top" => write!(out, "{:?}", shelf.make_top(top))?,
-        "settle" => write!(out, "{:?}", shelf.settle(top))?,
-        "rename" => write!(out, "{:?}", shelf.rename(top, to))?,
-        "settle_top" => write!(out, "{:?}", shelf.settle_top())?,
-        "remove_top" => write!(out, "{:?}", shelf.remove_top(top))?,
-        _ => out.push_str("no question")?,
+        "make_top" => out.value(&shelf.make_top(top)),
+        "settle" => out.value(&shelf.settle(top)),
+        "rename" => out.value(&shelf.rename(top, to)),
+        "settle_top" => out.value(&shelf.settle_top()),
+        "remove_top" => out.value(&shelf.remove_top(top)),
+        _ => out.put("no question"),
     }
-    Ok(())
 }
 
 /// Adds the answer of a call on a path.
 fn put_at<K: Shelf>(
     alloc: Global,
-    out: &mut String,
+    out: &mut Sheet,
     word: &str,
-    row: &str,
+    top: &str,
+    at: &RelPath,
     shelf: &mut K,
-) -> Result<(), Memory> {
-    let (top, path) = halves(row);
-    let Some(at) = path_of(alloc, path)? else {
-        return Ok(out.push_str("no path")?);
-    };
+) {
     match word {
-        "entries" => put_listing(out, &shelf.entries(top, &at)),
-        "target" => put_target(out, &shelf.target(top, &at)),
-        "read" => put_piece(alloc, out, shelf, top, &at, (3, 4)),
-        "read_all" => put_piece(alloc, out, shelf, top, &at, (0, 100)),
-        "read_end" => put_piece(alloc, out, shelf, top, &at, (6, 1)),
-        _ => Ok(write!(out, "{:?}", filled(shelf, word, top, &at))?),
+        "entries" => put_listing(out, &shelf.entries(top, at)),
+        "target" => put_target(out, &shelf.target(top, at)),
+        "read" => put_piece(alloc, out, shelf, top, at, (3, 4)),
+        "read_all" => put_piece(alloc, out, shelf, top, at, (0, 100)),
+        "read_end" => put_piece(alloc, out, shelf, top, at, (6, 1)),
+        _ => out.value(&filled(shelf, word, top, at)),
+    }
+}
+
+/// Adds the answer of a call on the path that a row has behind the top name.
+fn put_on_path<K: Shelf>(alloc: Global, out: &mut Sheet, word: &str, row: &str, shelf: &mut K) {
+    let (top, path) = halves(row);
+    match path_of(alloc, path) {
+        Ok(Some(at)) => put_at(alloc, out, word, top, &at, shelf),
+        Ok(None) => out.put("no path"),
+        Err(Memory) => out.lose(),
     }
 }
 
 /// Adds the answer to what a word asks of a shelf, by itself, as a store, or as sessions do.
 pub(crate) fn put_call<K: Shelf>(
     alloc: Global,
-    out: &mut String,
+    out: &mut Sheet,
     word: &str,
     rest: &str,
     shelf: &mut K,
     sessions: &mut Vec<Option<Session>>,
-) -> Result<(), Memory> {
+) {
     match word {
         "entries"
         | "target"
@@ -142,8 +157,10 @@ pub(crate) fn put_call<K: Shelf>(
         | "make_folder"
         | "append"
         | "finish_file"
-        | "make_link" => put_at(alloc, out, word, rest, shelf),
+        | "make_link" => put_on_path(alloc, out, word, rest, shelf),
         "verdict" => reading::put_verdict(alloc, out, rest, shelf),
+        "twice" => reading::put_twice(alloc, out, rest, shelf),
+        "written" => reading::put_written(alloc, out, rest, shelf),
         "tree" => reading::put_tree(alloc, out, rest, shelf),
         "bytes" => reading::put_file(alloc, out, rest, shelf),
         "text" => reading::put_text(alloc, out, rest, shelf),
@@ -151,10 +168,10 @@ pub(crate) fn put_call<K: Shelf>(
         "lookup" => reading::put_found(alloc, out, rest, shelf),
         "step" | "run" => sessions::put_step(alloc, out, word, rest, shelf, sessions),
         "names" => put_names(out, &shelf.names()),
-        "root" => Ok(out.push_str(shelf.root())?),
+        "root" => out.put(shelf.root()),
         _ => {
             let (top, to) = halves(rest);
-            put_changed(out, word, top, to, shelf)
+            put_changed(out, word, top, to, shelf);
         }
     }
 }

@@ -1,36 +1,28 @@
 //! What is read of a store: names, trees, files and verdicts.
-use crate::halves;
+use crate::manifests::algorithm;
 use crate::nodes::{path_of, put_node};
 use std::alloc::Global;
-use std::fmt::Write;
 use zi_digest::DigestName;
+use zi_lines::{Sheet, halves};
 use zi_shelf::{Shelf, ShelfFault};
-use zi_store::{FileRead, TreeRead, Verdict, lookup, read_file, read_tree, stored_names, verify};
+use zi_store::{
+    Checked, FileRead, ManifestRead, TreeRead, Verdict, lookup, manifest_of, read_file, read_tree,
+    stored_names, verify,
+};
 use zi_text::{List, Memory};
 
-/// Adds the fault of a shelf.
-fn put_fault(out: &mut String, fault: &ShelfFault) -> Result<(), Memory> {
-    Ok(write!(out, "{fault:?}")?)
-}
-
-/// Adds a digest.
-pub(crate) fn put_name(alloc: Global, out: &mut String, name: &DigestName) -> Result<(), Memory> {
-    Ok(out.push_str(name.text(alloc)?.as_str())?)
-}
-
 /// Adds what stands at a path of a tree that is read, or why none is; the row is the tree's top name and the path.
-pub(crate) fn put_tree<K: Shelf>(
-    alloc: Global,
-    out: &mut String,
-    row: &str,
-    shelf: &mut K,
-) -> Result<(), Memory> {
+pub(crate) fn put_tree<K: Shelf>(alloc: Global, out: &mut Sheet, row: &str, shelf: &mut K) {
     let (top, path) = halves(row);
     match read_tree(alloc, top, shelf) {
         Ok(TreeRead::Read(tree)) => put_node(alloc, out, &tree, path),
-        Ok(TreeRead::Missing) => Ok(out.push_str("missing")?),
-        Ok(TreeRead::TooLarge { what, limit }) => Ok(write!(out, "{what:?} {limit}")?),
-        Err(fault) => put_fault(out, &fault),
+        Ok(TreeRead::Missing) => out.put("missing"),
+        Ok(TreeRead::TooLarge { what, limit }) => {
+            out.value(&what);
+            out.put(" ");
+            out.value(&limit);
+        }
+        Err(fault) => out.value(&fault),
     }
 }
 
@@ -52,102 +44,151 @@ fn file_of<K: Shelf>(
 }
 
 /// Adds a file that is read, as numbers.
-pub(crate) fn put_file<K: Shelf>(
-    alloc: Global,
-    out: &mut String,
-    row: &str,
-    shelf: &mut K,
-) -> Result<(), Memory> {
+pub(crate) fn put_file<K: Shelf>(alloc: Global, out: &mut Sheet, row: &str, shelf: &mut K) {
     match file_of(alloc, row, shelf) {
-        Ok(Some(FileRead::Read(bytes))) => Ok(write!(out, "{:?}", bytes.as_slice())?),
-        Ok(Some(FileRead::Missing)) => Ok(out.push_str("missing")?),
-        Ok(Some(FileRead::TooLong)) => Ok(out.push_str("too long")?),
-        Ok(None) => Ok(out.push_str("no path")?),
-        Err(fault) => put_fault(out, &fault),
+        Ok(Some(FileRead::Read(bytes))) => out.value(&bytes.as_slice()),
+        Ok(Some(FileRead::Missing)) => out.put("missing"),
+        Ok(Some(FileRead::TooLong)) => out.put("too long"),
+        Ok(None) => out.put("no path"),
+        Err(fault) => out.value(&fault),
     }
 }
 
 /// Adds a file that is read, as a text.
-pub(crate) fn put_text<K: Shelf>(
-    alloc: Global,
-    out: &mut String,
-    row: &str,
-    shelf: &mut K,
-) -> Result<(), Memory> {
-    let Ok(Some(FileRead::Read(bytes))) = file_of(alloc, row, shelf) else {
-        return Ok(out.push_str("no file")?);
-    };
-    match std::str::from_utf8(bytes.as_slice()) {
-        Ok(text) => Ok(out.push_str(text)?),
-        Err(_) => Ok(out.push_str("no text")?),
+pub(crate) fn put_text<K: Shelf>(alloc: Global, out: &mut Sheet, row: &str, shelf: &mut K) {
+    match file_of(alloc, row, shelf) {
+        Ok(Some(FileRead::Read(bytes))) => {
+            out.put(std::str::from_utf8(bytes.as_slice()).unwrap_or("no text"));
+        }
+        _ => out.put("no file"),
     }
 }
 
 /// Adds a verdict.
-fn put_said(alloc: Global, out: &mut String, verdict: &Verdict) -> Result<(), Memory> {
+fn put_said(alloc: Global, out: &mut Sheet, verdict: &Verdict) {
     match verdict {
-        Verdict::Sound => out.push_str("sound")?,
-        Verdict::Missing => out.push_str("missing")?,
-        Verdict::Damaged { found } => put_name(alloc, out, found)?,
-        Verdict::BadName { path } => write!(out, "bad {}", path.as_str())?,
-        Verdict::TooLarge { what, limit } => write!(out, "{what:?} {limit}")?,
+        Verdict::Sound => out.put("sound"),
+        Verdict::Missing => out.put("missing"),
+        Verdict::Damaged { found } => out.made(found.text(alloc)),
+        Verdict::BadName { path } => {
+            out.put("bad ");
+            out.put(path.as_str());
+        }
+        Verdict::TooLarge { what, limit } => {
+            out.value(what);
+            out.put(" ");
+            out.value(limit);
+        }
     }
-    Ok(())
 }
 
 /// Adds what is said of the tree of a digest.
-pub(crate) fn put_verdict<K: Shelf>(
-    alloc: Global,
-    out: &mut String,
-    name: &str,
-    shelf: &mut K,
-) -> Result<(), Memory> {
-    let Some(name) = DigestName::parse(name) else {
-        return Ok(out.push_str("no digest")?);
-    };
-    match verify(alloc, &name, shelf) {
+fn put_verdict_of<K: Shelf>(alloc: Global, out: &mut Sheet, name: &DigestName, shelf: &mut K) {
+    match verify(alloc, name, shelf) {
         Ok(verdict) => put_said(alloc, out, &verdict),
-        Err(fault) => put_fault(out, &fault),
+        Err(fault) => out.value(&fault),
+    }
+}
+
+/// Adds what is said of the tree of the digest that a text spells.
+pub(crate) fn put_verdict<K: Shelf>(alloc: Global, out: &mut Sheet, name: &str, shelf: &mut K) {
+    match DigestName::parse(name) {
+        Some(name) => put_verdict_of(alloc, out, &name, shelf),
+        None => out.put("no digest"),
+    }
+}
+
+/// Adds what is said of the tree of a digest, asked of what was checked.
+fn put_checked<K: Shelf>(
+    alloc: Global,
+    out: &mut Sheet,
+    checked: &mut Checked,
+    name: &DigestName,
+    shelf: &mut K,
+) {
+    match checked.verify(alloc, name, shelf) {
+        Ok(verdict) => put_said(alloc, out, &verdict),
+        Err(fault) => out.value(&fault),
+    }
+    out.put("\n");
+}
+
+/// Adds what is said of the tree of a digest when it is asked twice of what was checked.
+pub(crate) fn put_twice<K: Shelf>(alloc: Global, out: &mut Sheet, name: &str, shelf: &mut K) {
+    let Some(name) = DigestName::parse(name) else {
+        return out.put("no digest");
+    };
+    let mut checked = Checked::new(alloc);
+    put_checked(alloc, out, &mut checked, &name, shelf);
+    put_checked(alloc, out, &mut checked, &name, shelf);
+}
+
+/// Adds a manifest, or why there is none.
+fn put_manifest_read(out: &mut Sheet, read: &ManifestRead) {
+    match read {
+        ManifestRead::Read(text) => {
+            out.put(std::str::from_utf8(text.as_slice()).unwrap_or("no text"));
+        }
+        ManifestRead::Missing => out.put("missing"),
+        ManifestRead::BadName { path } => {
+            out.put("bad ");
+            out.value(&path.as_str());
+        }
+        ManifestRead::TooLarge { what, limit } => {
+            out.value(what);
+            out.put(" ");
+            out.value(limit);
+        }
+    }
+}
+
+/// Adds the manifest of a top entry; the row is the algorithm and its name.
+pub(crate) fn put_written<K: Shelf>(alloc: Global, out: &mut Sheet, row: &str, shelf: &mut K) {
+    let (word, top) = halves(row);
+    match manifest_of(alloc, top, algorithm(word), shelf) {
+        Ok(read) => put_manifest_read(out, &read),
+        Err(fault) => out.value(&fault),
     }
 }
 
 /// Adds the digests, a line each.
-fn put_digests(alloc: Global, out: &mut String, names: &List<DigestName>) -> Result<(), Memory> {
+fn put_digests(alloc: Global, out: &mut Sheet, names: &List<DigestName>) {
     for name in names.as_slice() {
-        put_name(alloc, out, name)?;
-        out.push('\n')?;
+        out.made(name.text(alloc));
+        out.put("\n");
     }
-    Ok(())
 }
 
 /// Adds the digests of a store.
-pub(crate) fn put_stored<K: Shelf>(
-    alloc: Global,
-    out: &mut String,
-    shelf: &mut K,
-) -> Result<(), Memory> {
+pub(crate) fn put_stored<K: Shelf>(alloc: Global, out: &mut Sheet, shelf: &mut K) {
     match stored_names(alloc, shelf) {
         Ok(names) => put_digests(alloc, out, &names),
-        Err(fault) => put_fault(out, &fault),
+        Err(fault) => out.value(&fault),
     }
 }
 
-/// Adds which of some digests is used.
-pub(crate) fn put_found<K: Shelf>(
-    alloc: Global,
-    out: &mut String,
-    row: &str,
-    shelf: &mut K,
-) -> Result<(), Memory> {
-    let mut names = Vec::new(alloc);
+/// Adds the digests of a row.
+fn take_digests(names: &mut Vec<DigestName>, row: &str) -> Result<(), Memory> {
     for word in row.split(' ') {
         if let Some(name) = DigestName::parse(word) {
             names.push(name)?;
         }
     }
-    match lookup(alloc, names.as_slice(), shelf) {
-        Ok(Some(name)) => put_name(alloc, out, &name),
-        Ok(None) => Ok(out.push_str("none")?),
-        Err(fault) => put_fault(out, &fault),
+    Ok(())
+}
+
+/// Adds which of some digests is used.
+fn put_used<K: Shelf>(alloc: Global, out: &mut Sheet, names: &[DigestName], shelf: &mut K) {
+    match lookup(alloc, names, shelf) {
+        Ok(Some(name)) => out.made(name.text(alloc)),
+        Ok(None) => out.put("none"),
+        Err(fault) => out.value(&fault),
     }
+}
+
+/// Adds which of the digests of a row is used.
+pub(crate) fn put_found<K: Shelf>(alloc: Global, out: &mut Sheet, row: &str, shelf: &mut K) {
+    let mut names = Vec::new(alloc);
+    out.needs(take_digests(&mut names, row));
+    put_used(alloc, out, names.as_slice(), shelf);
 }

@@ -1,39 +1,48 @@
 //! What is recorded of a shelf's calls, and what it holds.
 use crate::kept::Kept;
-use std::fmt::Write;
+use zi_lines::Sheet;
 use zi_shelf::ShelfCall;
-use zi_text::{List, Memory};
+
+/// Adds a number behind a blank.
+fn put_number(out: &mut Sheet, number: u64) {
+    out.put(" ");
+    out.number(number);
+}
 
 /// Adds a call with all that it has; of its bytes the number.
-fn put_recorded(out: &mut String, call: &ShelfCall) -> Result<(), Memory> {
-    let (top, path) = (call.top.as_str(), call.path.as_str());
-    write!(
-        out,
-        "{:?} {top} {path} {} {}",
-        call.kind, call.offset, call.max
-    )?;
-    writeln!(out, " {} {} {}", call.bytes.len(), call.exec, call.mtime)?;
-    Ok(())
+fn put_recorded(out: &mut Sheet, call: &ShelfCall) {
+    out.value(&call.kind);
+    out.put(" ");
+    out.put(call.top.as_str());
+    out.put(" ");
+    out.put(call.path.as_str());
+    put_number(out, call.offset);
+    put_number(out, u64::from(call.max));
+    put_number(out, call.bytes.len() as u64);
+    out.put(if call.exec { " true " } else { " false " });
+    out.value(&call.mtime);
+    out.put("\n");
 }
 
 /// Adds the calls, a line each.
-pub(crate) fn put_calls(out: &mut String, calls: &List<ShelfCall>) -> Result<(), Memory> {
-    for call in calls.as_slice() {
-        put_recorded(out, call)?;
+pub(crate) fn put_calls(out: &mut Sheet, calls: &[ShelfCall]) {
+    for call in calls {
+        put_recorded(out, call);
     }
-    Ok(())
 }
 
 /// Adds the number of calls.
-pub(crate) fn put_count(out: &mut String, shelf: &Kept) -> Result<(), Memory> {
-    Ok(write!(out, "{}", shelf.calls().len())?)
+pub(crate) fn put_count(out: &mut Sheet, shelf: &Kept) {
+    out.number(shelf.calls().len() as u64);
 }
 
 /// Adds how many entries a top entry has.
-pub(crate) fn put_top(out: &mut String, name: &str, shelf: &Kept) -> Result<(), Memory> {
+pub(crate) fn put_top(out: &mut Sheet, name: &str, shelf: &Kept) {
     match shelf.top(name) {
-        Some(tree) => write!(out, "{} entries", tree.len())?,
-        None => out.push_str("none")?,
+        Some(tree) => {
+            out.number(tree.len() as u64);
+            out.put(" entries");
+        }
+        None => out.put("none"),
     }
-    Ok(())
 }

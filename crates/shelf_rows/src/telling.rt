@@ -1,16 +1,17 @@
 //! What lines tell: nodes of a tree, top entries, which calls fail.
-use crate::halves;
 use crate::kept::Kept;
-use crate::nodes::{bytes_of, path_of};
+use crate::nodes::{path_of, put_bytes};
 use std::alloc::Global;
+use zi_lines::{Sheet, halves, take_numbers};
 use zi_session::Session;
 use zi_shelf::MemoryShelf;
-use zi_text::{Bytes, Memory, Text};
-use zi_tree::{Tree, TreeNode};
+use zi_text::{Bytes, List, Memory, Text};
+use zi_tree::{RelPath, Tree, TreeNode};
 
 /// What was told so far.
 #[derive(Drop)]
 pub(crate) struct Told {
+    rt: HostRuntime,
     /// The tree whose nodes are told; `put` and `begin` take it away.
     pub tree: Tree,
     pub shelf: Kept,
@@ -22,8 +23,10 @@ pub(crate) struct Told {
 
 impl Told {
     /// An empty tree, an empty shelf, no session.
-    pub(crate) fn new(alloc: Global) -> Told {
+    pub(crate) fn new(rt: HostRuntime) -> Told {
+        let alloc = rt.alloc();
         Told {
+            rt,
             tree: Tree::new(alloc),
             shelf: Kept::Planned(MemoryShelf::new(alloc)),
             sessions: Vec::new(alloc),
@@ -38,12 +41,11 @@ impl Told {
 
     /// Adds a node, where its path is one and has room.
     fn take_node(&mut self, alloc: Global, path: &str, node: TreeNode) -> Result<(), Memory> {
-        if let Some(at) = path_of(alloc, path)? {
-            if self.tree.insert(alloc, &at, node).is_err() {
-                return Err(Memory);
-            }
+        match path_of(alloc, path) {
+            Ok(Some(at)) => insert(alloc, &mut self.tree, &at, node),
+            Ok(None) => Ok(()),
+            Err(Memory) => Err(Memory),
         }
-        Ok(())
     }
 
     /// Takes a file: its path, `x` where it is executable, its time, and its bytes.
@@ -51,8 +53,10 @@ impl Told {
         let (path, rest) = halves(row);
         let (exec, rest) = halves(rest);
         let (mtime, text) = halves(rest);
+        let mut bytes = Vec::new(alloc);
+        put_bytes(&mut bytes, text)?;
         let node = TreeNode::File {
-            bytes: Bytes::from_vec(bytes_of(alloc, text)?),
+            bytes: Bytes::from_vec(bytes),
             exec: exec == "x",
             mtime: mtime.parse::<i64>().unwrap_or(0),
         };
@@ -80,10 +84,14 @@ impl Told {
 
     /// Takes a node away again.
     fn take_away(&mut self, alloc: Global, path: &str) -> Result<(), Memory> {
-        if let Some(at) = path_of(alloc, path)? {
-            let _gone = self.tree.take(&at);
+        match path_of(alloc, path) {
+            Ok(Some(at)) => {
+                let _gone = self.tree.take(&at);
+                Ok(())
+            }
+            Ok(None) => Ok(()),
+            Err(Memory) => Err(Memory),
         }
-        Ok(())
     }
 
     /// Sets the top entry of this name to the tree.
@@ -92,49 +100,80 @@ impl Told {
         self.shelf.place(top, tree)
     }
 
+    /// Sets the temporary name of this number to an empty tree.
+    fn fill(&mut self, alloc: Global, number: u32) -> Result<(), Memory> {
+        let mut name = Sheet::new(alloc);
+        name.put("tmp-");
+        name.number(u64::from(number));
+        self.shelf.place(name.text()?, Tree::new(alloc))
+    }
+
     /// Sets the first so many temporary names to empty trees.
     fn crowd(&mut self, alloc: Global, count: u32) -> Result<(), Memory> {
-        for n in 0..count {
-            let name = format!(in alloc; "tmp-{n}")?;
-            self.shelf.place(name.as_str(), Tree::new(alloc))?;
+        for number in 0..count {
+            self.fill(alloc, number)?;
         }
         Ok(())
     }
 
     /// Sets the numbers of the calls that fail.
     fn fail(&mut self, alloc: Global, row: &str) -> Result<(), Memory> {
-        let mut calls = Vec::new(alloc);
-        for word in row.split(' ') {
-            calls.push(word.parse::<u32>().unwrap_or(0))?;
-        }
+        let mut calls = List::new(alloc);
+        take_numbers(&mut calls, row)?;
         self.shelf.fail_at(calls.as_slice())
     }
+
+    /// Takes a shelf: its form and its root.
+    fn take_shelf(&mut self, row: &str) -> Result<(), Memory> {
+        let (form, root) = halves(row);
+        self.shelf = Kept::with_root(self.rt, form, root)?;
+        Ok(())
+    }
+
+    /// Takes who adds.
+    fn take_adder(&mut self, alloc: Global, row: &str) -> Result<(), Memory> {
+        Ok(self.adders.push(Text::from_str(alloc, row)?)?)
+    }
+}
+
+/// Adds a node to a tree; one whose path has no room is taken for want of memory.
+fn insert(alloc: Global, tree: &mut Tree, at: &RelPath, node: TreeNode) -> Result<(), Memory> {
+    match tree.insert(alloc, at, node) {
+        Ok(_) => Ok(()),
+        Err(_) => Err(Memory),
+    }
+}
+
+/// Takes what a line tells of a tree, and says whether it tells such.
+fn tells_of_tree(alloc: Global, out: &mut Sheet, word: &str, rest: &str, told: &mut Told) -> bool {
+    match word {
+        "file" => out.needs(told.take_file(alloc, rest)),
+        "zeros" => out.needs(told.take_zeros(alloc, rest)),
+        "link" => out.needs(told.take_link(alloc, rest)),
+        "folder" => out.needs(told.take_node(alloc, rest, TreeNode::Folder(Tree::new(alloc)))),
+        "away" => out.needs(told.take_away(alloc, rest)),
+        _ => return false,
+    }
+    true
 }
 
 /// Takes what a line tells, and says whether it tells something.
 pub(crate) fn tells(
     alloc: Global,
+    out: &mut Sheet,
     word: &str,
     rest: &str,
     told: &mut Told,
-) -> Result<bool, Memory> {
+) -> bool {
     match word {
         "#" => {}
-        "shelf" => {
-            let (form, root) = halves(rest);
-            told.shelf = Kept::with_root(alloc, form, root)?;
-        }
-        "file" => told.take_file(alloc, rest)?,
-        "zeros" => told.take_zeros(alloc, rest)?,
-        "link" => told.take_link(alloc, rest)?,
-        "folder" => told.take_node(alloc, rest, TreeNode::Folder(Tree::new(alloc)))?,
-        "away" => told.take_away(alloc, rest)?,
-        "put" => told.put(alloc, rest)?,
-        "crowd" => told.crowd(alloc, rest.parse::<u32>().unwrap_or(0))?,
-        "fails" => told.fail(alloc, rest)?,
-        "adder" => told.adders.push(Text::from_str(alloc, rest)?)?,
-        "crash" => told.shelf.crash(rest.parse::<u64>().unwrap_or(0))?,
-        _ => return Ok(false),
+        "shelf" => out.needs(told.take_shelf(rest)),
+        "put" => out.needs(told.put(alloc, rest)),
+        "crowd" => out.needs(told.crowd(alloc, rest.parse::<u32>().unwrap_or(0))),
+        "fails" => out.needs(told.fail(alloc, rest)),
+        "adder" => out.needs(told.take_adder(alloc, rest)),
+        "crash" => out.needs(told.shelf.crash(rest.parse::<u64>().unwrap_or(0))),
+        _ => return tells_of_tree(alloc, out, word, rest, told),
     }
-    Ok(true)
+    true
 }

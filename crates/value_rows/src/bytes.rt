@@ -1,35 +1,37 @@
 use std::alloc::Global;
 use zi_text::Memory;
 
-/// Adds the byte that stands behind a backslash, and what comes behind it; the text itself where no byte is spelled so.
-fn put_byte(bytes: &mut Vec<u8>, text: &str) -> Result<(), Memory> {
+/// The byte that the text behind a backslash begins with, and what comes behind it; none where no byte is spelled so.
+fn spelled(text: &str) -> Option<(u8, &str)> {
     if let Some(rest) = text.strip_prefix('n') {
-        bytes.push(b'\n')?;
-        return Ok(bytes.extend_from_slice(rest.as_bytes())?);
+        return Some((b'\n', rest));
     }
     if let Some(rest) = text.strip_prefix('t') {
-        bytes.push(b'\t')?;
-        return Ok(bytes.extend_from_slice(rest.as_bytes())?);
+        return Some((b'\t', rest));
     }
-    let digits = text.get(1..3).unwrap_or("");
-    match (u8::from_str_radix(digits, 16), text.get(3..)) {
-        (Ok(byte), Some(rest)) => {
+    let byte = u8::from_str_radix(text.get(1..3)?, 16).ok()?;
+    Some((byte, text.get(3..)?))
+}
+
+/// Adds the byte that stands behind a backslash, and what comes behind it; the text itself where no byte is spelled so.
+fn put_byte(bytes: &mut Vec<u8>, text: &str) -> Result<(), Memory> {
+    match spelled(text) {
+        Some((byte, rest)) => {
             bytes.push(byte)?;
             Ok(bytes.extend_from_slice(rest.as_bytes())?)
         }
-        _ => Ok(bytes.extend_from_slice(text.as_bytes())?),
+        None => Ok(bytes.extend_from_slice(text.as_bytes())?),
     }
 }
 
-/// The bytes of a text, in which `\n`, `\t` and `\x` with two hexadecimal digits stand for one each.
-pub(crate) fn bytes_of(alloc: Global, text: &str) -> Result<Vec<u8>, Memory> {
-    let mut bytes = Vec::new(alloc);
+/// Adds the bytes of a text, in which `\n`, `\t` and `\x` with two hexadecimal digits stand for one each.
+pub(crate) fn put_bytes(bytes: &mut Vec<u8>, text: &str) -> Result<(), Memory> {
     for (i, piece) in text.split('\\').enumerate() {
         if i == 0 {
             bytes.extend_from_slice(piece.as_bytes())?;
         } else {
-            put_byte(&mut bytes, piece)?;
+            put_byte(bytes, piece)?;
         }
     }
-    Ok(bytes)
+    Ok(())
 }

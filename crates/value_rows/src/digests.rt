@@ -1,8 +1,7 @@
 //! The names of messages by each algorithm, and spellings that are names or none.
-use crate::halves;
 use std::alloc::Global;
-use std::fmt::Write;
 use zi_digest::{Algorithm, DigestName, Hasher};
+use zi_lines::{Sheet, halves};
 use zi_text::Memory;
 
 /// The algorithm that a word names.
@@ -15,49 +14,58 @@ fn algorithm(word: &str) -> Algorithm {
 }
 
 /// Adds the name of the message that stands in pieces apart by `|`, where the row is the algorithm and the pieces.
-pub(crate) fn put_digest(alloc: Global, out: &mut String, row: &str) -> Result<(), Memory> {
+pub(crate) fn put_digest(alloc: Global, out: &mut Sheet, row: &str) {
     let (word, pieces) = halves(row);
     let mut hasher = Hasher::new(algorithm(word));
     for piece in pieces.split('|') {
         hasher.update(piece.as_bytes());
     }
-    Ok(out.push_str(hasher.finish().text(alloc)?.as_str())?)
+    out.made(hasher.finish().text(alloc));
 }
 
-/// The message of 1,064 bytes whose byte at a place is the low byte of 7 times the place and 3.
-fn long_message(alloc: Global) -> Result<Vec<u8>, Memory> {
-    let mut message = Vec::new(alloc);
+/// Adds the message of 1,064 bytes whose byte at a place is the low byte of 7 times the place and 3.
+fn take_long(message: &mut Vec<u8>) -> Result<(), Memory> {
     let mut byte = 3u8;
     for _ in 0..1064 {
         message.push(byte)?;
         byte = byte.wrapping_add(7);
     }
-    Ok(message)
+    Ok(())
 }
 
-/// Adds the name of the long message in two pieces, where the row is the algorithm and the length of the first piece.
-pub(crate) fn put_pieces(alloc: Global, out: &mut String, row: &str) -> Result<(), Memory> {
+/// Adds the name of a message in two pieces, where the row is the algorithm and the length of the first piece.
+fn put_cut(alloc: Global, out: &mut Sheet, row: &str, message: &[u8]) {
     let (word, cut) = halves(row);
-    let message = long_message(alloc)?;
     let cut = cut.parse::<u32>().unwrap_or(0) as usize;
-    let (first, second) = message.as_slice().split_at(cut.min(message.len()));
+    let (first, second) = message.split_at(cut.min(message.len()));
     let mut hasher = Hasher::new(algorithm(word));
     hasher.update(first);
     hasher.update(second);
-    Ok(out.push_str(hasher.finish().text(alloc)?.as_str())?)
+    out.made(hasher.finish().text(alloc));
+}
+
+/// Adds the name of the long message in two pieces, where the row is the algorithm and the length of the first piece.
+pub(crate) fn put_pieces(alloc: Global, out: &mut Sheet, row: &str) {
+    let mut message = Vec::new(alloc);
+    out.needs(take_long(&mut message));
+    put_cut(alloc, out, row, message.as_slice());
+}
+
+/// Adds what a digest's name has.
+fn put_name(alloc: Global, out: &mut Sheet, name: &DigestName) {
+    out.value(&name.algorithm());
+    out.put(" ");
+    out.number(name.hash().len() as u64);
+    out.put(" ");
+    out.made(name.hex(alloc));
+    out.put(" ");
+    out.made(name.text(alloc));
 }
 
 /// Adds the algorithm of a digest's name, how many bytes its hash has, their digits, and the name again; `none` where a text is no name.
-pub(crate) fn put_parsed(alloc: Global, out: &mut String, text: &str) -> Result<(), Memory> {
-    let Some(name) = DigestName::parse(text) else {
-        return Ok(out.push_str("none")?);
-    };
-    write!(out, "{:?} {} ", name.algorithm(), name.hash().len())?;
-    write!(
-        out,
-        "{} {}",
-        name.hex(alloc)?.as_str(),
-        name.text(alloc)?.as_str()
-    )?;
-    Ok(())
+pub(crate) fn put_parsed(alloc: Global, out: &mut Sheet, text: &str) {
+    match DigestName::parse(text) {
+        Some(name) => put_name(alloc, out, &name),
+        None => out.put("none"),
+    }
 }

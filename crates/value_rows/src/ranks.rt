@@ -1,25 +1,23 @@
 //! Which implementations may be used, and which stands before which. An implementation is a row of words: languages apart by commas (`-` for
 //! none), stability, where it is (`local`, `stored`, `remote` or `nowhere`), version, platform (or `none`), id, feed, and its place as so
 //! many strokes.
-use crate::halves;
-use crate::policies::stability;
+use crate::policies::{no_policy, stability};
 use std::alloc::Global;
 use std::cmp::Ordering;
-use std::fmt::Write;
+use zi_lines::{Sheet, halves};
 use zi_policy::{Arch, Network, Policy};
 use zi_rank::{Standing, before, compare, usable};
 use zi_text::{List, Memory, Text};
 use zi_version::{Version, VersionFault};
 
-/// The languages of a text.
-fn languages(alloc: Global, text: &str) -> Result<List<Text>, Memory> {
-    let mut list = List::new(alloc);
+/// Adds the languages of a text.
+fn take_languages(alloc: Global, langs: &mut List<Text>, text: &str) -> Result<(), Memory> {
     for word in text.split(',') {
         if word != "-" {
-            list.push(Text::from_str(alloc, word)?)?;
+            langs.push(Text::from_str(alloc, word)?)?;
         }
     }
-    Ok(list)
+    Ok(())
 }
 
 /// How far the network that a word names is used.
@@ -31,41 +29,79 @@ fn network(word: &str) -> Network {
     }
 }
 
-/// A policy for Linux on an x86_64.
-fn policy(alloc: Global, langs: &str, level: &str, reach: &str) -> Result<Policy, Memory> {
-    Ok(Policy {
-        os: Text::from_str(alloc, "Linux")?,
-        machine: Text::from_str(alloc, "x86_64")?,
-        langs: languages(alloc, langs)?,
-        level: stability(level),
-        network: network(reach),
-        uses: List::new(alloc),
-        overrides: List::new(alloc),
-    })
+/// Takes Linux on an x86_64 for the host, and languages.
+fn take_linux(alloc: Global, policy: &mut Policy, langs: &str) -> Result<(), Memory> {
+    policy.os.push_str("Linux")?;
+    policy.machine.push_str("x86_64")?;
+    take_languages(alloc, &mut policy.langs, langs)
 }
 
-/// The implementation of a row's words.
-fn standing(alloc: Global, row: &str) -> Result<Standing, VersionFault> {
-    let mut words = row.split(' ');
-    let langs = languages(alloc, words.next().unwrap_or("-"))?;
-    let stability = stability(words.next().unwrap_or(""));
-    let there = words.next().unwrap_or("");
-    let version = Version::parse(alloc, words.next().unwrap_or(""))?;
-    let arch = Arch::parse(alloc, words.next().unwrap_or(""))?;
-    let id = Text::from_str(alloc, words.next().unwrap_or(""))?;
-    let feed = Text::from_str(alloc, words.next().unwrap_or(""))?;
-    Ok(Standing {
+/// An implementation of this version, of which nothing else is said.
+fn no_standing(alloc: Global, version: Version) -> Standing {
+    Standing {
         version,
-        id,
-        feed,
-        place: words.next().unwrap_or("").len() as u64,
-        arch,
-        langs,
-        stability,
-        local: there == "local",
-        stored: there == "stored",
-        retrievable: there == "remote",
-    })
+        id: Text::new(alloc),
+        feed: Text::new(alloc),
+        place: 0,
+        arch: None,
+        langs: List::new(alloc),
+        stability: stability(""),
+        local: false,
+        stored: false,
+        retrievable: false,
+    }
+}
+
+/// Takes where an implementation is.
+fn take_place(one: &mut Standing, word: &str) {
+    one.local = word == "local";
+    one.stored = word == "stored";
+    one.retrievable = word == "remote";
+}
+
+/// Takes the words of a row behind the version.
+fn take_rest(alloc: Global, one: &mut Standing, row: &str) -> Result<(), Memory> {
+    let (arch, row) = halves(row);
+    let (id, row) = halves(row);
+    let (feed, strokes) = halves(row);
+    one.arch = Arch::parse(alloc, arch)?;
+    one.id.push_str(id)?;
+    one.feed.push_str(feed)?;
+    one.place = strokes.len() as u64;
+    Ok(())
+}
+
+/// An implementation of this version, of which the words before the version and those behind it say the rest.
+fn said(
+    alloc: Global,
+    out: &mut Sheet,
+    version: Version,
+    front: [&str; 3],
+    rest: &str,
+) -> Standing {
+    let [langs, tried, there] = front;
+    let mut one = no_standing(alloc, version);
+    one.stability = stability(tried);
+    take_place(&mut one, there);
+    out.needs(take_languages(alloc, &mut one.langs, langs));
+    out.needs(take_rest(alloc, &mut one, rest));
+    one
+}
+
+/// The implementation of a row; none where its version isn't one.
+fn standing(alloc: Global, out: &mut Sheet, row: &str) -> Option<Standing> {
+    let (langs, row) = halves(row);
+    let (tried, row) = halves(row);
+    let (there, row) = halves(row);
+    let (version, rest) = halves(row);
+    match Version::parse(alloc, version) {
+        Ok(version) => Some(said(alloc, out, version, [langs, tried, there], rest)),
+        Err(VersionFault::Bad { .. }) => None,
+        Err(VersionFault::Memory) => {
+            out.lose();
+            None
+        }
+    }
 }
 
 /// Whether the first of two usable ones stands before the second, and not the other way round.
@@ -76,29 +112,57 @@ fn leads(c: &Standing, d: &Standing, p: &Policy) -> bool {
     before(c, d, p) && !before(d, c, p) && compare(d, c, p) == Ordering::Greater
 }
 
+/// Adds whether an implementation stands before that of a row.
+fn put_before(alloc: Global, out: &mut Sheet, policy: &Policy, c: &Standing, row: &str) {
+    match standing(alloc, out, row) {
+        Some(d) => out.whether(leads(c, &d, policy)),
+        None => out.put("no versions"),
+    }
+}
+
+/// Adds whether the first of two implementations stands before the second, apart by `; `.
+fn put_pair(alloc: Global, out: &mut Sheet, policy: &Policy, row: &str) {
+    let (first, second) = row.split_once("; ").unwrap_or((row, ""));
+    match standing(alloc, out, first) {
+        Some(c) => put_before(alloc, out, policy, &c, second),
+        None => out.put("no versions"),
+    }
+}
+
 /// Adds whether the first of two implementations stands before the second, where the row is the languages, the level, the network and the
 /// two, apart by `; `.
-pub(crate) fn put_leads(alloc: Global, out: &mut String, row: &str) -> Result<(), Memory> {
+pub(crate) fn put_leads(alloc: Global, out: &mut Sheet, row: &str) {
     let (asked, rest) = row.split_once("; ").unwrap_or((row, ""));
-    let (first, second) = rest.split_once("; ").unwrap_or((rest, ""));
     let (langs, more) = halves(asked);
     let (level, reach) = halves(more);
-    let policy = policy(alloc, langs, level, reach)?;
-    match (standing(alloc, first), standing(alloc, second)) {
-        (Ok(c), Ok(d)) => Ok(out.push_str(if leads(&c, &d, &policy) { "yes" } else { "no" })?),
-        _ => Ok(out.push_str("no versions")?),
+    let mut policy = no_policy(alloc);
+    policy.level = stability(level);
+    policy.network = network(reach);
+    out.needs(take_linux(alloc, &mut policy, langs));
+    put_pair(alloc, out, &policy, rest);
+}
+
+/// Adds the reason against an implementation, where there is one.
+fn put_reason(out: &mut Sheet, one: &Standing, policy: &Policy) {
+    match usable(one, policy) {
+        Some(reason) => out.value(&reason),
+        None => out.put("usable"),
+    }
+}
+
+/// Adds the reason against the implementation of a row.
+fn put_usable_of(alloc: Global, out: &mut Sheet, policy: &Policy, row: &str) {
+    match standing(alloc, out, row) {
+        Some(one) => put_reason(out, &one, policy),
+        None => out.put("no version"),
     }
 }
 
 /// Adds the reason against an implementation, where the row is the network and, behind `; `, the implementation.
-pub(crate) fn put_usable(alloc: Global, out: &mut String, row: &str) -> Result<(), Memory> {
+pub(crate) fn put_usable(alloc: Global, out: &mut Sheet, row: &str) {
     let (reach, rest) = row.split_once("; ").unwrap_or((row, ""));
-    let policy = policy(alloc, "-", "stable", reach)?;
-    let Ok(one) = standing(alloc, rest) else {
-        return Ok(out.push_str("no version")?);
-    };
-    match usable(&one, &policy) {
-        Some(reason) => Ok(write!(out, "{reason:?}")?),
-        None => Ok(out.push_str("usable")?),
-    }
+    let mut policy = no_policy(alloc);
+    policy.network = network(reach);
+    out.needs(take_linux(alloc, &mut policy, "-"));
+    put_usable_of(alloc, out, &policy, rest);
 }

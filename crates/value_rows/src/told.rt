@@ -1,9 +1,8 @@
 //! What lines tell: the start and end tags of open elements, and a formula.
-use crate::halves;
 use std::alloc::Global;
-use std::fmt::Write;
 use zi_formula::{Constraint, Formula, Lit};
-use zi_names::{Entered, Raw, Scopes};
+use zi_lines::{Sheet, halves, take_numbers};
+use zi_names::{Entered, Raw, Scopes, Started};
 use zi_text::{List, Memory, Text};
 
 /// What was told so far.
@@ -26,79 +25,119 @@ impl Told {
     }
 }
 
-/// The literals of numbers: a variable, or behind `-` its opposite.
-pub(crate) fn lits_of(alloc: Global, row: &str) -> Result<List<Lit>, Memory> {
-    let mut lits = List::new(alloc);
-    for word in row.split_whitespace() {
-        let digits = word.strip_prefix('-');
-        lits.push(Lit {
-            variable: digits.unwrap_or(word).parse::<u32>().unwrap_or(0),
-            positive: digits.is_none(),
-        })?;
+/// The literal of a number: a variable, or behind `-` its opposite.
+fn lit_of(word: &str) -> Lit {
+    let digits = word.strip_prefix('-');
+    Lit {
+        variable: digits.unwrap_or(word).parse::<u32>().unwrap_or(0),
+        positive: digits.is_none(),
     }
-    Ok(lits)
 }
 
-/// Numbers.
-pub(crate) fn numbers_of(alloc: Global, row: &str) -> Result<List<u32>, Memory> {
-    let mut numbers = List::new(alloc);
+/// Adds the literals of numbers.
+pub(crate) fn take_lits(lits: &mut List<Lit>, row: &str) -> Result<(), Memory> {
     for word in row.split_whitespace() {
-        numbers.push(word.parse::<u32>().unwrap_or(0))?;
+        lits.push(lit_of(word))?;
     }
-    Ok(numbers)
+    Ok(())
+}
+
+/// Takes a clause of these literals.
+fn take_clause(alloc: Global, formula: &mut Formula, row: &str) -> Result<(), Memory> {
+    let mut lits = List::new(alloc);
+    take_lits(&mut lits, row)?;
+    formula.constraints.push(Constraint::Clause(lits))
+}
+
+/// Takes a group of which at most one is true.
+fn take_group(alloc: Global, formula: &mut Formula, row: &str) -> Result<(), Memory> {
+    let mut numbers = List::new(alloc);
+    take_numbers(&mut numbers, row)?;
+    formula.constraints.push(Constraint::AtMostOne(numbers))
 }
 
 /// Takes what a line tells, and says whether it tells something.
 pub(crate) fn tells(
     alloc: Global,
+    out: &mut Sheet,
     word: &str,
     rest: &str,
     told: &mut Told,
-) -> Result<bool, Memory> {
-    let constraints = &mut told.formula.constraints;
+) -> bool {
     match word {
         "#" => {}
         "leave" => told.scopes.leave(),
         "variables" => told.formula.variables = rest.parse::<u32>().unwrap_or(0),
-        "clause" => constraints.push(Constraint::Clause(lits_of(alloc, rest)?))?,
-        "group" => constraints.push(Constraint::AtMostOne(numbers_of(alloc, rest)?))?,
-        _ => return Ok(false),
+        "clause" => out.needs(take_clause(alloc, &mut told.formula, rest)),
+        "group" => out.needs(take_group(alloc, &mut told.formula, rest)),
+        _ => return false,
     }
-    Ok(true)
+    true
 }
 
-/// The attributes of a start tag, each a name and behind `=` its value.
-fn raw_of(alloc: Global, row: &str) -> Result<List<Raw>, Memory> {
-    let mut raw = List::new(alloc);
-    for word in row.split_whitespace() {
-        let (name, value) = word.split_once('=').unwrap_or((word, ""));
-        let name = Text::from_str(alloc, name)?;
-        let value = Text::from_str(alloc, value)?;
-        raw.push(Raw { name, value })?;
-    }
+/// An attribute of a start tag: a name and behind `=` its value.
+fn raw_of(alloc: Global, word: &str) -> Result<Raw, Memory> {
+    let (name, value) = word.split_once('=').unwrap_or((word, ""));
+    let mut raw = Raw {
+        name: Text::new(alloc),
+        value: Text::new(alloc),
+    };
+    raw.name.push_str(name)?;
+    raw.value.push_str(value)?;
     Ok(raw)
+}
+
+/// Adds the attributes of a start tag.
+fn take_raw(alloc: Global, all: &mut List<Raw>, row: &str) -> Result<(), Memory> {
+    for word in row.split_whitespace() {
+        all.push(raw_of(alloc, word)?)?;
+    }
+    Ok(())
+}
+
+/// Adds a name, as `{address}name`.
+fn put_name(out: &mut Sheet, space: &Text, name: &Text) {
+    out.put("{");
+    out.put(space.as_str());
+    out.put("}");
+    out.put(name.as_str());
+}
+
+/// Adds the name and the attributes of a start tag.
+fn put_started(out: &mut Sheet, tag: &Started) {
+    put_name(out, &tag.space, &tag.name);
+    for a in tag.attrs.as_slice() {
+        out.put(" ");
+        put_name(out, &a.space, &a.name);
+        out.put("=");
+        out.put(a.value.as_str());
+    }
+}
+
+/// Adds what is said of a start tag.
+fn put_entered(out: &mut Sheet, entered: &Entered) {
+    match entered {
+        Entered::BadPrefix => out.put("bad prefix"),
+        Entered::Repeated => out.put("repeated"),
+        Entered::Started(tag) => put_started(out, tag),
+    }
+}
+
+/// Adds what is said of a start tag of this name and these attributes.
+fn put_opened(alloc: Global, out: &mut Sheet, told: &mut Told, name: &Text, raw: List<Raw>) {
+    match told.scopes.enter(alloc, name, raw) {
+        Ok(entered) => put_entered(out, &entered),
+        Err(Memory) => out.lose(),
+    }
 }
 
 /// Adds what an element is named, as `{address}name`, and its attributes with their values; or what is wrong with its names. It is open from
 /// then on, up to `leave`.
-pub(crate) fn put_tag(
-    alloc: Global,
-    out: &mut String,
-    row: &str,
-    told: &mut Told,
-) -> Result<(), Memory> {
+pub(crate) fn put_tag(alloc: Global, out: &mut Sheet, row: &str, told: &mut Told) {
     let (name, attributes) = halves(row);
-    let name = Text::from_str(alloc, name)?;
-    match told.scopes.enter(alloc, &name, raw_of(alloc, attributes)?)? {
-        Entered::BadPrefix => out.push_str("bad prefix")?,
-        Entered::Repeated => out.push_str("repeated")?,
-        Entered::Started(tag) => {
-            write!(out, "{{{}}}{}", tag.space.as_str(), tag.name.as_str())?;
-            for a in tag.attrs.as_slice() {
-                let (space, name) = (a.space.as_str(), a.name.as_str());
-                write!(out, " {{{space}}}{name}={}", a.value.as_str())?;
-            }
-        }
-    }
-    Ok(())
+    let mut tag = Text::new(alloc);
+    let mut raw = List::new(alloc);
+    out.needs(tag.push_str(name));
+    out.needs(take_raw(alloc, &mut raw, attributes));
+    put_opened(alloc, out, told, &tag, raw);
 }

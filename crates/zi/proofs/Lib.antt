@@ -1,2 +1,1 @@
 pub mod FeedsLemmas
-pub mod FolderLemmas

@@ -2,13 +2,12 @@
 ghost use Rattle.std.specs.Prelude.{◌≡◌, IfOk};
 ghost use Rattle.zi.specs.Found.{FitsIn};
 
-use crate::log::Log;
 use crate::piecewise::{Found, deliver, read_up_to};
-use crate::trouble::{Reason, Trouble};
 use std::fs;
 use std::io::ErrorKind;
 use std::rt::Files;
 use zi_app::feed_file;
+use zi_folder::{Log, Reason, Trouble};
 use zi_outside::{Feeds, FeedsFault, Got};
 use zi_text::{Memory, Text};
 

@@ -3,9 +3,9 @@ ghost use Rattle.std.specs.Prelude.{◌≡◌, ◌≤◌, ℕ, List, None, IfOk,
 ghost use Rattle.zi.specs.Found.{FitsIn};
 ghost use Rattle.zi_outside.specs.Outside.{Finds};
 
-use crate::trouble::{Reason, Trouble};
 use std::alloc::Global;
 use std::io::{self, Read};
+use zi_folder::{Reason, Trouble};
 use zi_outside::{FeedsFault, Got};
 
 // The most bytes that are read at once.

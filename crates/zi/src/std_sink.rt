@@ -1,8 +1,7 @@
 //! The standard streams.
-use crate::log::Log;
-use crate::trouble::Reason;
 use std::alloc::Global;
 use std::io::Write;
+use zi_folder::{Log, Reason};
 use zi_outside::{Sink, SinkFault};
 
 /// A sink over a stream, which doesn't tell what was written.

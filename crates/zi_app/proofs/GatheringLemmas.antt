@@ -2,12 +2,9 @@
 use Rattle.std.proofs.Common.{◌≡◌, ℕ, Bool, true, false, ◌&&◌, List, [], ◌∷◌, ◌++◌, take, length, map, get_or, Option, Some, None, refl, sym, ◌∙◌, ap, subst, bytes_eq, if◌then◌else◌, ◌<◌, arith}
 use Rattle.std.specs.Prelude.{not, slice_get, IsSome, is_some, Ok, Err, IfSome, IsSomeAnd, ◌≤◌, ◌+◌, sum, nat_lt}
 use Rattle.std.proofs.Common.{zero, suc, inl, inr, ◌||◌}
-use Rattle.std.proofs.lemmas.List.Sums.{sum_by_more_le, sum-map}
-use Rattle.std.specs.List.{sum_by}
 use Rattle.std.specs.Option.{option_or}
 use Rattle.std.specs.List.{list_all}
 use Rattle.std.proofs.lemmas.Option.{slice_get_read}
-use Rattle.std.proofs.lemmas.Bool.Decides.{nat_tests}
 use Rattle.std.proofs.lemmas.Slice.Eq.{bytes_eq-Decides}
 use Rattle.std.proofs.lemmas.List.{map-append, take_more, take-map, take_all}
 use Rattle.zi_outside.specs.Count.{Rose}
@@ -23,10 +20,11 @@ use Rattle.zi_tree.proofs.Items.{items_of_dir}
 use Rattle.zi_session.proofs.Placed.{node_placed, node_placed_other, differ_flip, and_parts, and_whole}
 use Rattle.zi_words.specs.Forms.{Word}
 use Rattle.zi_words.specs.Store.{last_part, is_name, is_file}
+use Rattle.zi_app.specs.declared.gathering.Held.{Held}
 use Rattle.zi_app.specs.declared.gathering.Part.{Part}
 use Rattle.zi_app.specs.declared.gathering.GatherFault.{GatherFault}
 use Rattle.zi_app.specs.declared.gathering.GatherFault.TheVariants.{Read, Absent, TooLong, Twice, TooLarge, Memory}
-use Rattle.zi_app.specs.Gathering.{AreParts, IsPart, part_name, names_of, is_among, are_apart, plain, file_named, PutsPart, MakesTree, part_size, size_limit, file_limit, AsksCalmly, GetsAll, Gathers, GetsSome, Refuses, GetsPart}
+use Rattle.zi_app.specs.Gathering.{AreParts, IsPart, part_name, names_of, is_among, are_apart, plain, file_named, PutsPart, MakesTree, part_size, size_limit, file_limit, AsksCalmly, GetsAll, Gathers, GetsSome, GetsHeld, Holds, Refuses, GetsPart, IsFirstTwice, IsTreeOf}
 use Rattle.zi_tree.specs.declared.change.TreeLimit.TheVariants.{Size, Nodes}
 
 -- one more got
@@ -148,8 +146,8 @@ asks_next files i f old mid new lt at a b =
     subst (λ fs. Asks fs old new) (sym (take_more files i f lt ∙ ap (λ x. take i files ++ x ∷ []) (sym at))) (asks_more (take i files) (f ∷ []) old mid new a.asked b)
 
 -- none was got yet
-pub gets_none : (files : List Word) (seen : Feeding) → GetsAll (take 0 files) seen seen []
-gets_none files seen = record { are = tt; asked = calm_none seen }
+pub gets_none : (files : List Word) (seen : Feeding) (held : Held) → Holds [] held → GetsHeld (take 0 files) seen seen held
+gets_none files seen held h = record { parts = []; got = record { are = tt; asked = calm_none seen }; holds = h }
 
 held_since : (P : Holding → Type 0) (files : List Word) (old mid : Feeding) → AsksCalmly files old mid → IfSome (holding mid) P → IfSome (holding old) P
 held_since P files old mid a h = subst (λ told. IfSome told P) (holding_asked files old mid a.asked) h
@@ -165,10 +163,18 @@ parts_next files i old mid new ps qs f p lt at got (is, asked) e = record {
   asked = calm_next files i f old mid new lt at got.asked asked;
 }
 
+pub held_next : (files : List Word) (i : ℕ) (old mid new : Feeding) (h g : Held) (f : Word) (p : Part) → i < length files → f ≡ get_or files i f
+    → (a : GetsHeld (take i files) old mid h) → GetsPart f mid new (Ok p) → Holds (a.parts ++ p ∷ []) g → GetsHeld (take (i + 1) files) old new g
+held_next files i old mid new h g f p lt at a part holds = record {
+  parts = a.parts ++ p ∷ [];
+  got = parts_next files i old mid new a.parts (a.parts ++ p ∷ []) f p lt at a.got part refl;
+  holds = holds;
+}
+
 -- and then there was no memory for it
-pub parts_short : (files : List Word) (i : ℕ) (old mid new : Feeding) (ps : List Part) (f : Word) (p : Part) → i < length files → f ≡ get_or files i f
-    → GetsAll (take i files) old mid ps → GetsPart f mid new (Ok p) → Refuses files old new Memory
-parts_short files i old mid new ps f p lt at got (is, asked) = (i + 1, calm_next files i f old mid new lt at got.asked asked)
+pub parts_short : (files : List Word) (i : ℕ) (old mid new : Feeding) (h : Held) (f : Word) (p : Part) → i < length files → f ≡ get_or files i f
+    → GetsHeld (take i files) old mid h → GetsPart f mid new (Ok p) → Refuses files old new Memory
+parts_short files i old mid new h f p lt at a (is, asked) = (i + 1, calm_next files i f old mid new lt at a.got.asked asked)
 
 -- the next wasn't got
 pub parts_stop : (files : List Word) (i : ℕ) (old mid new : Feeding) (ps : List Part) (f : Word) (fault : GatherFault) → i < length files → f ≡ get_or files i f
@@ -212,22 +218,11 @@ parts_stop files i old mid new ps f (TooLarge what limit) lt at got x = absurd x
 parts_stop files i old mid new ps f Memory lt at got (inl same) = (i, subst (λ seen. AsksCalmly (take i files) old seen) (sym same) got.asked)
 parts_stop files i old mid new ps f Memory lt at got (inr asked) = (i + 1, calm_next files i f old mid new lt at got.asked asked)
 
-pub ruleset getting = (parts_stop, gets_none)
+pub held_stops : (files : List Word) (i : ℕ) (old mid new : Feeding) (h : Held) (f : Word) (fault : GatherFault) → i < length files → f ≡ get_or files i f
+    → GetsHeld (take i files) old mid h → GetsPart f mid new (Err fault) → Refuses files old new fault
+held_stops files i old mid new h f fault lt at a part = parts_stop files i old mid new a.parts f fault lt at a.got part
 
--- Their sizes.
-pub large : (ps : List Part) (i left size : ℕ) (p : Part) → i < length ps → p ≡ get_or ps i p → left + sum (map part_size (take i ps)) ≡ size_limit → size ≡ length p.bytes → left < size
-    → true ≡ nat_lt size_limit (sum (map part_size ps))
-large ps i left size p lt at all is more =
-    let m : sum_by part_size (take i ps) + part_size (get_or ps i p) ≤ sum_by part_size ps = sum_by_more_le part_size ps i p lt in
-    let a : sum (map part_size ps) ≡ sum_by part_size ps = sum-map part_size ps in
-    let b : sum (map part_size (take i ps)) ≡ sum_by part_size (take i ps) = sum-map part_size (take i ps) in
-    let e : size ≡ part_size (get_or ps i p) = is ∙ ap part_size at in
-    past (sum (map part_size ps)) (sum_by part_size ps) (sum (map part_size (take i ps))) (sum_by part_size (take i ps)) left size (part_size (get_or ps i p)) all more m a b e
-  where
-    past : (whole w front f left size s : ℕ) → left + front ≡ size_limit → left < size → f + s ≤ w → whole ≡ w → front ≡ f → size ≡ s → true ≡ nat_lt size_limit whole
-    past whole w front f left size s all more m a b e =
-        let l : size_limit < whole = omega arith in
-        grind (arith, nat_tests)
+pub ruleset getting = (held_stops, gets_none)
 
 -- A part that goes into the tree.
 pub plain_of : (n : List ℕ) → is_name n ≡ true → is_plain n ≡ true
@@ -293,36 +288,41 @@ names_of_parts told (g ∷ fs) (q ∷ ps) h r =
     let p = and_parts (is_file g) (list_all is_file fs) r in
     and_whole (is_name q.name) (list_all is_name (names_of ps)) (ap is_name h.0.named ∙ p.0) (names_of_parts told fs ps h.1 p.1)
 
-pub names_right : (fs : List Word) (old new : Feeding) (ps : List Part) → GetsAll fs old new ps → list_all is_file fs ≡ true → list_all is_name (names_of ps) ≡ true
-names_right fs old new ps got r = names_of_parts (holding old) fs ps got.are r
+pub names_right : (fs : List Word) (old new : Feeding) (h : Held) → GetsHeld fs old new h → list_all is_file fs ≡ true → list_all is_name (names_of h.parts) ≡ true
+names_right fs old new h a r = ap (list_all is_name) a.holds.names ∙ names_of_parts (holding old) fs a.parts a.got.are r
 
 all_got : (fs : List Word) (old new : Feeding) (ps : List Part) → GetsAll fs old new ps → Refuses fs old new Memory
 all_got fs old new ps got = (length fs, subst (λ xs. AsksCalmly xs old new) (sym (take_all (length fs) fs (omega arith))) got.asked)
 
-pub tree_refused : (fs : List Word) (old new : Feeding) (ps : List Part) (fault : GatherFault) → GetsAll fs old new ps → MakesTree ps (Err fault) → Refuses fs old new fault
-tree_refused fs old new ps (Twice name) got x = (ps, got, x)
-tree_refused fs old new ps Memory got x = all_got fs old new ps got
-tree_refused fs old new ps (Read file) got x = absurd x
-tree_refused fs old new ps (Absent file) got x = absurd x
-tree_refused fs old new ps (TooLong file limit) got x = absurd x
-tree_refused fs old new ps (TooLarge what limit) got x = absurd x
+pub tree_refused : (fs : List Word) (old new : Feeding) (h : Held) (fault : GatherFault) → GetsHeld fs old new h → MakesTree h.parts (Err fault) → Refuses fs old new fault
+tree_refused fs old new h (Twice name) a x = (a.parts, a.got, subst (λ ns. IsFirstTwice ns name) a.holds.names x)
+tree_refused fs old new h Memory a x = all_got fs old new a.parts a.got
+tree_refused fs old new h (Read file) a x = absurd x
+tree_refused fs old new h (Absent file) a x = absurd x
+tree_refused fs old new h (TooLong file limit) a x = absurd x
+tree_refused fs old new h (TooLarge what limit) a x = absurd x
 
-pub too_large : (fs : List Word) (old new : Feeding) (ps : List Part) (d : Dir) (b : Bool) → GetsAll fs old new ps → MakesTree ps (Ok d) → b ≡ nat_lt size_limit (sum (map part_size ps)) → b ≡ true
-    → Refuses fs old new (TooLarge Size 268435456)
-too_large fs old new ps d b got m e is =
-    let t : nat_lt size_limit (sum (map part_size ps)) ≡ true = sym e ∙ is in
-    let lt : size_limit < sum (map part_size ps) = grind (arith, nat_tests) in
-    (ps, got, m.0, refl, lt)
+apart_held : (fs : List Word) (old new : Feeding) (h : Held) (d : Dir) → (a : GetsHeld fs old new h) → MakesTree h.parts (Ok d) → are_apart (names_of a.parts) ≡ true
+apart_held fs old new h d a m = ap are_apart (sym a.holds.names) ∙ m.0
 
-small_of : (b : Bool) (n m : ℕ) → b ≡ nat_lt n m → b ≡ false → m ≤ n
-small_of b n m e is = let t : nat_lt n m ≡ false = sym e ∙ is in grind (arith, nat_tests)
+pub too_large : (fs : List Word) (old new : Feeding) (h : Held) (d : Dir) → GetsHeld fs old new h → MakesTree h.parts (Ok d) → h.large ≡ true → Refuses fs old new (TooLarge Size 268435456)
+too_large fs old new h d a m is = (a.parts, a.got, apart_held fs old new h d a m, refl, a.holds.past is)
 
-pub too_many : (fs : List Word) (old new : Feeding) (ps : List Part) (d : Dir) (b : Bool) → GetsAll fs old new ps → MakesTree ps (Ok d) → b ≡ nat_lt size_limit (sum (map part_size ps)) → b ≡ false → 100000 < length fs
-    → Refuses fs old new (TooLarge Nodes 100000)
-too_many fs old new ps d b got m e is lt = (ps, got, m.0, small_of b size_limit (sum (map part_size ps)) e is, refl, lt)
+small_of : (left all : ℕ) → left + all ≡ size_limit → all ≤ size_limit
+small_of left all e = omega (arith, e)
 
-pub gathered : (fs : List Word) (old new : Feeding) (ps : List Part) (d : Dir) (b : Bool) → GetsAll fs old new ps → MakesTree ps (Ok d) → b ≡ nat_lt size_limit (sum (map part_size ps)) → b ≡ false → length fs ≤ 100000 → Gathers fs old new d
-gathered fs old new ps d b got m e is le = record { parts = ps; got = got; apart = m.0; small = small_of b size_limit (sum (map part_size ps)) e is; few = le; tree = m.1 }
+pub too_many : (fs : List Word) (old new : Feeding) (h : Held) (d : Dir) → GetsHeld fs old new h → MakesTree h.parts (Ok d) → h.large ≡ false → 100000 < length fs → Refuses fs old new (TooLarge Nodes 100000)
+too_many fs old new h d a m is lt = (a.parts, a.got, apart_held fs old new h d a m, small_of h.left (sum (map part_size a.parts)) (a.holds.within is).1, refl, lt)
+
+pub gathered : (fs : List Word) (old new : Feeding) (h : Held) (d : Dir) → GetsHeld fs old new h → MakesTree h.parts (Ok d) → h.large ≡ false → length fs ≤ 100000 → Gathers fs old new d
+gathered fs old new h d a m is le = record {
+  parts = a.parts;
+  got = a.got;
+  apart = apart_held fs old new h d a m;
+  small = small_of h.left (sum (map part_size a.parts)) (a.holds.within is).1;
+  few = le;
+  tree = subst (λ ps. IsTreeOf ps d) (a.holds.within is).0 m.1;
+}
 
 -- the first of them were asked for
 pub gathers_some : (fs : List Word) (old new : Feeding) (d : Dir) → Gathers fs old new d → GetsSome fs old new

@@ -13,15 +13,15 @@ use Rattle.zi_adding.specs.declared.adding.AddFault.TheVariants as add
 use Rattle.zi_adding.specs.Trying.{Tried}
 use Rattle.zi_adding.specs.Gains.{Uses, KeepsTrees}
 use Rattle.zi_adding.proofs.HistoryLaws.{one_keeps, told_keeps}
+use Rattle.zi_sels.specs.Written.{document}
 use Rattle.zi_outcome.specs.declared.outcome.Outcome.{Outcome}
-use Rattle.zi_outcome.specs.declared.outcome.Outcome.TheVariants.{Done, Usage, FeedRead, NoRootFeed, BadFeed, FeedTooLong, TooManyFeeds, TooManyInterfaces, TooManyCandidates, TooLarge, NoSolution, Spent, NoFile, BadSels, BadProof, Rejected, Plan, FetchRead, NoRemote, WrongSize, Overlap, NoPath, Mismatch, MissingTree, DamagedTree, BadName, TreeTooLarge, StoreFault, Crowded, Unwritable, SpawnFault, SinkFault, Memory, Child}
+use Rattle.zi_outcome.specs.declared.outcome.Outcome.TheVariants.{Done, Usage, FeedRead, NoRootFeed, BadFeed, FeedTooLong, TooManyFeeds, TooManyInterfaces, TooManyCandidates, TooLarge, NoSolution, Spent, NoFile, BadSels, BadProof, Rejected, Plan, FetchRead, NoRemote, WrongSize, Overlap, NoPath, Mismatch, MissingTree, DamagedTree, BadName, TreeTooLarge, StoreFault, Crowded, SpawnFault, SinkFault, Memory, Child}
+use Rattle.zi_outcome.specs.Writing.{Prints}
 use Rattle.zi_world.specs.Shelves.{Lasts}
 use Rattle.zi_world.specs.World.{World}
 use Rattle.zi_world.specs.Meets.{Meets}
 use Rattle.zi_world.proofs.ShelvesLemmas.{some_is}
-use Rattle.zi_choosing.specs.declared.finding.Chosen.{Chosen}
-use Rattle.zi_choosing.specs.SelectParts.{PrintsDocument}
-use Rattle.zi_sels.specs.declared.types.Selections.{Selections}
+use Rattle.zi_choosing.specs.declared.chosen.Chosen.{Chosen}
 use Rattle.zi_outside.specs.Views.{Sinking}
 use Rattle.zi_fetching.specs.Outcomes.{unmade, unadded}
 use Rattle.zi_fetching.specs.Fetching.{FetchesNot}
@@ -67,7 +67,6 @@ module _ (name : DigestName) (files : List Word) (before after : World) where
   adds_keep (TreeTooLarge what limit) (why, n) = none_kept n
   adds_keep (StoreFault blame) (tmp, is, t, w) = one_kept _ t
   adds_keep (Crowded tried) (is, t, w) = one_kept _ t
-  adds_keep (Unwritable place) d = absurd d
   adds_keep SpawnFault d = absurd d
   adds_keep SinkFault (inl (t, w)) = one_kept _ t
   adds_keep SinkFault (inr (t, w)) = one_kept _ t
@@ -103,18 +102,17 @@ not_right c old index tried new (inl s) = elim s.fails.fails [
 ]
 not_right c old index tried new (inr s) = (let e = s.is in (cc e))
 
-printed_right : (sels : Selections) (old new : Sinking) (index : ℕ) → PrintsDocument sels old new (Usage index) → ⊥
-printed_right sels old new index (inl (inl (w, e))) = (cc e)
-printed_right sels old new index (inl (inr (inl (w, e)))) = (cc e)
-printed_right sels old new index (inl (inr (inr (w, e)))) = (cc e)
-printed_right sels old new index (inr (place, e, amiss, same)) = (cc e)
+printed_right : (text : List ℕ) (old new : Sinking) (index : ℕ) → Prints text old new (Usage index) → ⊥
+printed_right text old new index (inl (w, e)) = (cc e)
+printed_right text old new index (inr (inl (w, e))) = (cc e)
+printed_right text old new index (inr (inr (w, e))) = (cc e)
 
 pub download_right : (ask : Ask) (before after : Meets) (index : ℕ) → Downloads ask before after (Usage index) → ⊥
 download_right ask before after index d = by d.comes
   where
     then_right : (c : Chosen) → FetchesThen c d.tried before after (Usage index) → ⊥
     then_right c (inl (not, same)) = not_right c before.web index d.tried after.web not
-    then_right c (inr fetched) = printed_right c.sels before.out after.out index fetched.printed
+    then_right c (inr fetched) = printed_right (document c.sels) before.out after.out index fetched.printed
 
     by : DownloadsTo ask d.tried before after (Usage index) → ⊥
     by (inl (inl none, nothing, same)) = none.0

@@ -9,7 +9,7 @@ use Rattle.zi_store.specs.declared.verdicts.Verdict.{Verdict}
 use Rattle.zi_store.specs.declared.verdicts.Verdict.TheVariants as verdict
 use Rattle.zi_words.specs.declared.request.Ask.{Ask}
 use Rattle.zi_outcome.specs.declared.outcome.Outcome.{Outcome}
-use Rattle.zi_outcome.specs.declared.outcome.Outcome.TheVariants.{Done, Usage, FeedRead, NoRootFeed, BadFeed, FeedTooLong, TooManyFeeds, TooManyInterfaces, TooManyCandidates, TooLarge, NoSolution, Spent, NoFile, BadSels, BadProof, Rejected, Plan, FetchRead, NoRemote, WrongSize, Overlap, NoPath, Mismatch, MissingTree, DamagedTree, BadName, TreeTooLarge, StoreFault, Crowded, Unwritable, SpawnFault, SinkFault, Memory, Child}
+use Rattle.zi_outcome.specs.declared.outcome.Outcome.TheVariants.{Done, Usage, FeedRead, NoRootFeed, BadFeed, FeedTooLong, TooManyFeeds, TooManyInterfaces, TooManyCandidates, TooLarge, NoSolution, Spent, NoFile, BadSels, BadProof, Rejected, Plan, FetchRead, NoRemote, WrongSize, Overlap, NoPath, Mismatch, MissingTree, DamagedTree, BadName, TreeTooLarge, StoreFault, Crowded, SpawnFault, SinkFault, Memory, Child}
 use Rattle.zi_world.specs.Surroundings.{Surroundings}
 use Rattle.zi_launching.specs.Verifying.{Condemns, FailsToVerify}
 use Rattle.zi_launching.specs.Launching.{Task, Lent, launching, PreparesNot, Starts, LaunchesOver}
@@ -51,7 +51,6 @@ started_quiet launch old new (BadName path) s ne = absurd s
 started_quiet launch old new (TreeTooLarge what limit) s ne = absurd s
 started_quiet launch old new (StoreFault blame) s ne = absurd s
 started_quiet launch old new (Crowded tried) s ne = absurd s
-started_quiet launch old new (Unwritable place) s ne = absurd s
 started_quiet launch old new SpawnFault s ne = s.0.ran
 started_quiet launch old new SinkFault s ne = absurd s
 started_quiet launch old new Memory s ne = ap ran_in s

@@ -124,10 +124,7 @@ never_usage (request.Manifest algorithm name) vars before after index d = elim d
   | inl f ↦ f
   | inr s ↦ elim s.1 [
     | inl none ↦ none
-    | inr t ↦ elim t.2 [
-      | inl p ↦ no_show _ before.out after.out index p.1
-      | inr q ↦ elim q [ inl b ↦ (let e = b.1 in (cc e)) | inr m ↦ (let e = m.0 in (cc e)) ]
-    ]
+    | inr t ↦ no_show _ before.out after.out index t.2
   ]
 ]
 never_usage (request.Add name files) vars before after index d = d.does.does.ended

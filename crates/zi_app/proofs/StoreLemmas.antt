@@ -6,7 +6,8 @@ use Rattle.zi_tree.specs.Dir.{Dir, Nothing, AFile, ALink, AFolder}
 use Rattle.zi_digest.specs.declared.Algorithm.{Algorithm}
 use Rattle.zi_digest.specs.declared.DigestName.{DigestName}
 use Rattle.zi_digest.specs.Name.{name_of}
-use Rattle.zi_manifest.specs.Manifest.{own_name, as_read, first_bad, manifest, HasManifest}
+use Rattle.zi_manifest.specs.Sketch.{sketch, text_of}
+use Rattle.zi_manifest.specs.Manifest.{own_name, as_read, first_bad}
 use Rattle.zi_manifest.specs.Listing.{IsManifest}
 use Rattle.zi_shelf.specs.Names.{Name}
 use Rattle.zi_shelf.specs.Shelved.{Top, Shelved}
@@ -17,12 +18,12 @@ use Rattle.zi_shelf.specs.declared.call.CallKind.{CallKind}
 use Rattle.zi_tree.specs.declared.change.TreeLimit.{TreeLimit}
 use Rattle.zi_store.specs.declared.files.FileRead.{FileRead}
 use Rattle.zi_store.specs.declared.files.FileRead.TheVariants as file
-use Rattle.zi_store.specs.declared.trees.TreeRead.{TreeRead}
-use Rattle.zi_store.specs.declared.trees.TreeRead.TheVariants as read
+use Rattle.zi_store.specs.declared.manifests.ManifestRead.{ManifestRead}
+use Rattle.zi_store.specs.declared.manifests.ManifestRead.TheVariants as read
 use Rattle.zi_store.specs.declared.verdicts.Verdict.{Verdict}
 use Rattle.zi_store.specs.declared.verdicts.Verdict.TheVariants as verdict
 use Rattle.zi_store.specs.Keeping.{Keeps}
-use Rattle.zi_store.specs.TreeAnswers.{ReadsTree}
+use Rattle.zi_store.specs.ManifestAnswers.{ReadsManifest, IsOfSomeTree}
 use Rattle.zi_store.specs.FileAnswers.{file_at, ReadsFile}
 use Rattle.zi_store.specs.Walking.{passed}
 use Rattle.zi_store.specs.Verdicts.{Verifies}
@@ -32,7 +33,6 @@ use Rattle.zi_app.specs.declared.difference.Difference.TheVariants.{NoManifest, 
 use Rattle.zi_world.specs.Shelves.{Held}
 use Rattle.zi_outcome.specs.Writing.{Prints}
 use Rattle.zi_app.specs.StoreList.{name_line}
-use Rattle.zi_app.specs.ManifestCommand.{Shows}
 use Rattle.zi_app.specs.StoreVerify.{manifest_limit, HasOwnManifest, HasDigest, HasComputed, Compares, DiffersBy}
 
 file_twice : (n b : List ℕ) (e : Bool) (t : ℤ) (rest : Dir) (test : Bool) → bytes_eq n own_name ≡ test → as_read (as_read rest) ≡ as_read rest
@@ -47,21 +47,13 @@ as_read_twice (AFile n b e t rest) = file_twice n b e t rest (bytes_eq n own_nam
 as_read_twice (ALink n t rest) = ap (λ d. ALink n t d) (as_read_twice rest)
 as_read_twice (AFolder n inside rest) = ap (λ d. AFolder n inside d) (as_read_twice rest)
 
--- the text of a tree was printed
-pub shown : (a : Algorithm) (d : Dir) (text : List ℕ) (old new : Sinking) (outcome : Outcome) → HasManifest d → text ≡ manifest a d
-    → Prints (text ++ name_line (name_of a text)) old new outcome → Shows a d old new outcome
-shown a d text old new outcome good e w = inl (good, subst (λ t. Prints (t ++ name_line (name_of a t)) old new outcome) e w)
+-- what was read under another spelling
+pub manifest_at : (a : Algorithm) (top spelled : Name) (s : Shelved Dir) (r : Result ManifestRead ShelfFault) (x y : ManifestRead) → r ≡ Ok x → x ≡ y → spelled ≡ top → ReadsManifest a spelled r s → ReadsManifest a top (Ok y) s
+manifest_at a top spelled s r x y at_r at_x at_top reads =
+    subst (λ n. ReadsManifest a n (Ok y) s) at_top (subst (λ z. ReadsManifest a spelled (Ok z) s) at_x (subst (λ z. ReadsManifest a spelled z s) at_r reads))
 
-pub tree_at : (top spelled : Name) (s : Shelved Dir) (d : Dir) (r : Result TreeRead ShelfFault) → r ≡ Ok (read.Read d) → spelled ≡ top → ReadsTree spelled r s → ReadsTree top (Ok (read.Read d)) s
-tree_at top spelled s d r at_r at_top reads = subst (λ x. ReadsTree x (Ok (read.Read d)) s) at_top (subst (λ x. ReadsTree spelled x s) at_r reads)
-
-pub missing_at : (top spelled : Name) (s : Shelved Dir) (r : Result TreeRead ShelfFault) → r ≡ Ok read.Missing → spelled ≡ top → ReadsTree spelled r s → s.tops top ≡ None
-missing_at top spelled s r at_r at_top reads = subst (λ x. s.tops x ≡ None) at_top (subst (λ x. ReadsTree spelled x s) at_r reads)
-
-pub large_at : (top spelled : Name) (s : Shelved Dir) (what : TreeLimit) (limit : ℕ) (r : Result TreeRead ShelfFault) (t : TreeRead) → r ≡ Ok t → t ≡ read.TooLarge what limit → spelled ≡ top → ReadsTree spelled r s
-    → ReadsTree top (Ok (read.TooLarge what limit)) s
-large_at top spelled s what limit r t at_r at_t at_top reads =
-    subst (λ x. ReadsTree x (Ok (read.TooLarge what limit)) s) at_top (subst (λ x. ReadsTree spelled (Ok x) s) at_t (subst (λ x. ReadsTree spelled x s) at_r reads))
+pub some_tree_at : (a : Algorithm) (r : Result ManifestRead ShelfFault) (x y : ManifestRead) → r ≡ Ok x → x ≡ y → IsOfSomeTree a r → IsOfSomeTree a (Ok y)
+some_tree_at a r x y at_r at_x is = subst (λ z. IsOfSomeTree a (Ok z)) at_x (subst (IsOfSomeTree a) at_r is)
 
 -- `store verify`
 
@@ -113,30 +105,28 @@ own_some a top s own r e is = subst (λ x. IfOk x (IsOwn a top s)) e is
 pub own_none : (a : Algorithm) (top : Name) (s : Shelved Dir) (r : Result (Option (List ℕ)) ShelfFault) → r ≡ Ok None → IfOk r (IsOwn a top s) → DiffersBy a top NoManifest s
 own_none a top s r e is = subst (λ x. IfOk x (IsOwn a top s)) e is
 
--- the manifest of the tree that was read is the computed one
-pub computed_is : (a : Algorithm) (top : Name) (s : Shelved Dir) (t : Dir) (text : Option (List ℕ)) → ReadsTree top (Ok (read.Read t)) s
-    → MatchOption text ((path : List ℕ) × (first_bad (as_read t) ≡ Some path)) (λ text. text ≡ manifest a t)
-    → HasDigest top s → MatchOption text ⊥ (λ text. HasComputed a top s text)
-computed_is a top s t None (e, there, is, few) (path, bad) h =
-    let entry : e ≡ h.entry = some_same (sym there ∙ h.there) in
-    let same : as_read t ≡ as_read h.entry.tree = ap as_read is ∙ as_read_twice e.tree ∙ ap (λ (x : Top Dir). as_read x.tree) entry in
-    some_none (sym bad ∙ ap first_bad same ∙ h.good)
-computed_is a top s t (Some text) (e, there, is, few) m h = record { entry = e; there = there; is = m ∙ ap (manifest a) is }
+-- the manifest that was read is the computed one
+entry_is : (top : Name) (s : Shelved Dir) (e : Top Dir) → s.tops top ≡ Some e → (h : HasDigest top s) → e ≡ h.entry
+entry_is top s e there h = some_same (sym there ∙ h.there)
 
-pub computed_read : (a : Algorithm) (top : Name) (s : Shelved Dir) (t : Dir) (answer : Result TreeRead ShelfFault) → answer ≡ Ok (read.Read t) → ReadsTree top answer s → HasDigest top s
-    → (r : Result (Option (List ℕ)) ShelfFault) → IfOk r (λ text. MatchOption text ((path : List ℕ) × (first_bad (as_read t) ≡ Some path)) (λ text. text ≡ manifest a t))
-    → IfOk r (λ text. MatchOption text ⊥ (λ text. HasComputed a top s text))
-computed_read a top s t answer at_answer reads h r m =
-    if_ok (λ text. MatchOption text ((path : List ℕ) × (first_bad (as_read t) ≡ Some path)) (λ text. text ≡ manifest a t)) (λ text. MatchOption text ⊥ (λ text. HasComputed a top s text)) r
-    (λ text x. computed_is a top s t text (subst (λ x. ReadsTree top x s) at_answer reads) x h) m
+pub computed_read : (a : Algorithm) (top : Name) (s : Shelved Dir) (text : List ℕ) → ReadsManifest a top (Ok (read.Read text)) s → HasComputed a top s text
+computed_read a top s text (e, there, within, good, is) = record { entry = e; there = there; is = is ∙ ap (λ d. text_of (sketch a d)) (sym (as_read_twice e.tree)) }
 
-pub computed_missing : (top : Name) (s : Shelved Dir) (r : Result TreeRead ShelfFault) → r ≡ Ok read.Missing → ReadsTree top r s → HasDigest top s → ⊥
-computed_missing top s r e reads h = let f : s.tops top ≡ None = subst (λ x. ReadsTree top x s) e reads in some_none (sym h.there ∙ f)
+-- what has a digest has a manifest
+abbrev IsNoText : ManifestRead → Type 0
+IsNoText (read.Read text) = ⊥
+IsNoText other = Unit {0}
 
-pub computed_large : (top : Name) (s : Shelved Dir) (what : TreeLimit) (limit : ℕ) (r : Result TreeRead ShelfFault) (t : TreeRead) → r ≡ Ok t → t ≡ read.TooLarge what limit → ReadsTree top r s → HasDigest top s → ⊥
-computed_large top s what limit r t at_r at_t reads h =
-    let f : ReadsTree top (Ok (read.TooLarge what limit)) s = subst (λ x. ReadsTree top (Ok x) s) at_t (subst (λ x. ReadsTree top x s) at_r reads) in
-    some_none (sym f.2 ∙ ap (λ (x : Top Dir). passed (as_read x.tree)) (some_same (sym f.1 ∙ h.there)) ∙ h.few)
+not_computed : (a : Algorithm) (top : Name) (s : Shelved Dir) (y : ManifestRead) → ReadsManifest a top (Ok y) s → HasDigest top s → IsNoText y → ⊥
+not_computed a top s (read.Read text) reads h other = other
+not_computed a top s read.Missing none h other = some_none (sym h.there ∙ none)
+not_computed a top s (read.BadName path) (e, there, within, bad) h other =
+    some_none (sym bad ∙ ap (λ (x : Top Dir). first_bad (as_read x.tree)) (entry_is top s e there h) ∙ h.good)
+not_computed a top s (read.TooLarge what limit) (e, there, past, is) h other =
+    some_none (sym past ∙ ap (λ (x : Top Dir). passed (as_read x.tree)) (entry_is top s e there h) ∙ h.few)
+
+pub computed_not : (a : Algorithm) (top : Name) (s : Shelved Dir) (r : Result ManifestRead ShelfFault) (x y : ManifestRead) → r ≡ Ok x → x ≡ y → IsNoText y → ReadsManifest a top r s → HasDigest top s → ⊥
+computed_not a top s r x y at_r at_x other reads h = not_computed a top s y (manifest_at a top top s r x y at_r at_x refl reads) h other
 
 pub against_text : (a : Algorithm) (top : Name) (s : Shelved Dir) (own text : List ℕ) (d : Difference) (r : Result (Option (List ℕ)) ShelfFault) → r ≡ Ok (Some text)
     → IfOk r (λ text. MatchOption text ⊥ (λ text. HasComputed a top s text)) → HasOwnManifest a top s own → Compares own text d → DiffersBy a top d s

@@ -14,6 +14,7 @@ use Rattle.zi_tree.specs.declared.change.TreeLimit.{TreeLimit}
 use Rattle.zi_tree.specs.declared.change.TreeLimit.TheVariants.{Size, Nodes, Depth}
 use Rattle.zi_words.specs.Forms.{Word}
 use Rattle.zi_words.specs.Store.{last_part}
+use Rattle.zi_app.specs.declared.gathering.Held.{Held}
 use Rattle.zi_app.specs.declared.gathering.Part.{Part}
 use Rattle.zi_app.specs.declared.gathering.GatherFault.{GatherFault}
 use Rattle.zi_app.specs.declared.gathering.GatherFault.TheVariants.{Read, Absent, TooLong, Twice, TooLarge, Memory}
@@ -163,9 +164,21 @@ GetsPart file before after (Err (TooLong name limit)) =
 GetsPart file before after (Err Memory) = (after ≡ before) ⊎ AsksCalmly (file ∷ []) before after
 GetsPart file before after (Err other) = ⊥
 
+-- The names of these parts are held, and their bytes where all together have no more than their limit.
+pub record Holds (parts : List Part) (held : Held) : Type 0 where
+  pub names : names_of held.parts ≡ names_of parts
+  pub within : held.large ≡ false → (held.parts ≡ parts) × (held.left + sum (map part_size parts) ≡ size_limit)
+  pub past : held.large ≡ true → size_limit < sum (map part_size parts)
+
+-- these files were got, and what is held is held of them
+pub record GetsHeld (files : List Word) (before after : Feeding) (held : Held) : Type 0 where
+  pub parts : List Part
+  pub got : GetsAll files before after parts
+  pub holds : Holds parts held
+
 -- what that of all gives
-abbrev pub GetsParts : List Word → Feeding → Feeding → Result (List Part) GatherFault → Type 0
-GetsParts files before after (Ok parts) = GetsAll files before after parts
+abbrev pub GetsParts : List Word → Feeding → Feeding → Result Held GatherFault → Type 0
+GetsParts files before after (Ok held) = GetsHeld files before after held
 GetsParts files before after (Err fault) = Refuses files before after fault
 
 -- a part goes into a tree under its name, where that is free

@@ -1,6 +1,6 @@
 //! How the manifest that stands in a stored tree differs from the computed one.
 ghost use Rattle.std.specs.Prelude.{◌≡◌, ◌∷◌, [], List, ℕ, Err, Some, IfOk, MatchOption};
-ghost use Rattle.zi_manifest.specs.Manifest.{own_name, first_bad, as_read, manifest};
+ghost use Rattle.zi_manifest.specs.Manifest.{own_name};
 ghost use Rattle.zi_manifest.specs.Listing.{IsManifest};
 ghost use Rattle.zi_shelf.specs.Told.{Rose};
 ghost use Rattle.zi_store.specs.Keeping.{Keeps, is_reading};
@@ -9,11 +9,11 @@ ghost use Rattle.zi_app.specs.StoreVerify.{HasOwnManifest, HasDigest, HasCompute
 
 use std::alloc::Global;
 use zi_digest::Algorithm;
-use zi_manifest::{ManifestFault, ManifestOutFault, read, write};
+use zi_manifest::{ManifestFault, read};
 use zi_shelf::{Shelf, ShelfFault};
-use zi_store::{FileRead, TreeRead, first_difference, read_file, read_tree};
+use zi_store::{FileRead, ManifestRead, first_difference, manifest_of, read_file};
 use zi_text::{Bytes, Memory};
-use zi_tree::{RelPath, Tree};
+use zi_tree::RelPath;
 
 // The most bytes of a file `.manifest` that is read: 64 MiB.
 const MANIFEST_LIMIT: u64 = 64 * 1024 * 1024;
@@ -76,18 +76,6 @@ fn own_manifest<K: Shelf>(
     }
 }
 
-// The manifest of a tree. None where it has a name that no manifest has.
-fn manifest_of(alloc: Global, a: Algorithm, tree: &Tree) -> Result<Option<Bytes>, ShelfFault>
-    ensures text { IfOk result (λ text. MatchOption text ((path : List ℕ) × (first_bad (as_read tree.now) ≡ Some path)) (λ text. text ≡ manifest a tree.now)) }
-    ensures memory { result ≡ Err ShelfFault.Failed → ⊥ }
-{
-    match write(alloc, tree, a) {
-        Ok(text) => Ok(Some(Bytes::from_vec(text))),
-        Err(ManifestOutFault::BadName { .. }) => Ok(None),
-        Err(ManifestOutFault::Memory) => Err(ShelfFault::Memory),
-    }
-}
-
 // The manifest of a stored tree, which is read for it. None where there is no such tree, it passes a limit, or it has a name that
 // no manifest has.
 fn computed<K: Shelf>(
@@ -102,10 +90,11 @@ fn computed<K: Shelf>(
     ensures count { (result ≡ Err ShelfFault.Failed → ⊥) → (K.seen shelf.new).faults ≡ (K.seen shelf.old).faults }
     ensures sure { (K.seen shelf.old).sure → result ≡ Err ShelfFault.Failed → ⊥ }
 {
-    match read_tree(alloc, top, shelf) {
-        Ok(TreeRead::Read(tree)) => manifest_of(alloc, a, &tree),
-        Ok(TreeRead::Missing) => Ok(None),
-        Ok(TreeRead::TooLarge { .. }) => Ok(None),
+    match manifest_of(alloc, top, a, shelf) {
+        Ok(ManifestRead::Read(text)) => Ok(Some(text)),
+        Ok(ManifestRead::Missing) => Ok(None),
+        Ok(ManifestRead::BadName { .. }) => Ok(None),
+        Ok(ManifestRead::TooLarge { .. }) => Ok(None),
         Err(fault) => Err(fault),
     }
 }

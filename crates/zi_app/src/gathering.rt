@@ -1,8 +1,9 @@
 //! The files of `store add`: they are got in order, and a tree is made of them.
-ghost use Rattle.std.specs.Prelude.{◌≡◌, ◌<◌, true, nat_lt, sum, map, length, MatchResult};
+ghost use Rattle.std.specs.Prelude.{◌≡◌, ◌++◌, ◌∷◌, [], true, List, map, OnOk, MatchResult};
 ghost use Rattle.std.specs.List.{list_all};
 ghost use Rattle.zi_words.specs.Store.{last_part, is_name, is_file};
-ghost use Rattle.zi_app.specs.Gathering.{GetsPart, GetsParts, PutsPart, MakesTree, Gathers, Refuses, part_name, part_size, size_limit};
+ghost use Rattle.zi_app.specs.Gathering.{Holds, GetsPart, GetsParts, PutsPart, MakesTree, Gathers, Refuses, part_name};
+ghost use Rattle.zi_app.specs.declared.gathering.Part.{Part as APart};
 
 use std::alloc::Global;
 use zi_outside::{Feeds, FeedsFault, Got};
@@ -83,41 +84,80 @@ fn get_part<F: Feeds>(alloc: Global, file: &Text, feeds: &mut F) -> Result<Part,
     }
 }
 
+/// What was got of the files. Their bytes are held as long as all together have no more than their limit; past it the rest are
+/// only looked at, and their names are held.
+#[derive(Debug, Drop)]
+pub(crate) struct Held {
+    pub(crate) parts: List<Part>,
+    /// How many bytes more may come.
+    pub(crate) left: u64,
+    /// Whether the files have more bytes together than their limit.
+    pub(crate) large: bool,
+}
+
+impl Held {
+    /// Nothing yet.
+    #[tactic(auto, using(crate::proofs::HeldLemmas::holds_none))]
+    fn new(alloc: Global) -> Held
+        ensures { Holds [] result }
+    {
+        Held {
+            parts: List::new(alloc),
+            left: SIZE_LIMIT,
+            large: false,
+        }
+    }
+
+    /// Adds a name without bytes.
+    fn add_name(&mut self, alloc: Global, name: Text) -> Result<(), Memory>
+        ensures parts { OnOk result (self.new.parts ≡ self.old.parts ++ record { name = name; bytes = [] } ∷ []) }
+        ensures large { self.new.large ≡ self.old.large }
+    {
+        let bytes = Bytes::from_vec(Vec::new(alloc));
+        match self.parts.push(Part { name, bytes }) {
+            Ok(()) => Ok(()),
+            Err(_) => Err(Memory),
+        }
+    }
+
+    /// Adds the next part.
+    #[tactic(auto, using(crate::proofs::HeldLemmas::holding))]
+    fn add(&mut self, alloc: Global, part: Part) -> Result<(), Memory>
+        ensures { (parts : List APart) → Holds parts self.old → OnOk result (Holds (parts ++ part ∷ []) self.new) }
+    {
+        let Part { name, bytes } = part;
+        if self.large {
+            return self.add_name(alloc, name);
+        }
+        let size = bytes.len() as u64;
+        if size > self.left {
+            self.large = true;
+            return self.add_name(alloc, name);
+        }
+        self.left -= size;
+        match self.parts.push(Part { name, bytes }) {
+            Ok(()) => Ok(()),
+            Err(_) => Err(Memory),
+        }
+    }
+}
+
 /// Gets the files in their order.
 #[tactic(auto, using(crate::proofs::GatheringLemmas::getting))]
-fn get_parts<F: Feeds>(
-    alloc: Global,
-    files: &[Text],
-    feeds: &mut F,
-) -> Result<List<Part>, GatherFault>
+fn get_parts<F: Feeds>(alloc: Global, files: &[Text], feeds: &mut F) -> Result<Held, GatherFault>
     ensures { GetsParts files.now (F.seen feeds.old) (F.seen feeds.new) result }
 {
-    let mut parts = List::new(alloc);
+    let mut held = Held::new(alloc);
     for file in files {
         match get_part(alloc, file, feeds) {
-            Ok(part) => match parts.push(part) {
+            Ok(part) => match held.add(alloc, part) {
                 Ok(()) => {}
                 Err(_) => return Err(GatherFault::Memory),
             },
             Err(fault) => return Err(fault),
         }
     }
-    Ok(parts)
-}
-
-/// Whether the files have more bytes together than their limit.
-fn is_large(parts: &[Part]) -> bool
-    ensures { result ≡ nat_lt size_limit (sum (map part_size parts.now)) }
-{
-    let mut left = SIZE_LIMIT;
-    for part in parts {
-        let size = part.bytes.len() as u64;
-        if size > left {
-            return true;
-        }
-        left -= size;
-    }
-    false
+    Ok(held)
 }
 
 /// Puts a file into a tree.
@@ -169,11 +209,11 @@ pub(crate) fn gather<F: Feeds>(
     requires { list_all is_file files.now ≡ true }
     ensures { MatchResult result (Gathers files.now (F.seen feeds.old) (F.seen feeds.new)) (Refuses files.now (F.seen feeds.old) (F.seen feeds.new)) }
 {
-    let parts = match get_parts(alloc, files, feeds) {
-        Ok(parts) => parts,
+    let held = match get_parts(alloc, files, feeds) {
+        Ok(held) => held,
         Err(fault) => return Err(fault),
     };
-    let large = is_large(parts.as_slice());
+    let Held { parts, large, .. } = held;
     let tree = match tree_of(alloc, parts) {
         Ok(tree) => tree,
         Err(fault) => return Err(fault),

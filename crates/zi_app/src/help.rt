@@ -112,7 +112,6 @@ Status, and the line on standard error behind \"zi: \":
     92  cannot start the program
     93  cannot write
     94  out of memory
-    96  cannot write element N
 
 Kinds of faults of documents:
     1  not UTF-8                      5  a reference that means nothing

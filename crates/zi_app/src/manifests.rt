@@ -4,18 +4,16 @@ ghost use Rattle.zi_digest.specs.Name.{name_of};
 ghost use Rattle.zi_outside.specs.Views.{Feeding};
 ghost use Rattle.zi_outcome.specs.Writing.{Prints};
 ghost use Rattle.zi_app.specs.StoreList.{name_line};
-ghost use Rattle.zi_app.specs.ManifestCommand.{Shows, Manifests};
+ghost use Rattle.zi_app.specs.ManifestCommand.{Manifests};
 
 use crate::names::put_name;
 use std::alloc::Global;
 use zi_digest::{Algorithm, DigestName, Hasher};
-use zi_manifest::{ManifestOutFault, write};
 use zi_outcome::{Outcome, put_text};
 use zi_outside::Sink;
 use zi_shelf::{Shelf, ShelfFault};
-use zi_store::{TreeRead, read_tree};
+use zi_store::{ManifestRead, manifest_of};
 use zi_text::{Bytes, Memory, Text};
-use zi_tree::Tree;
 
 // The digest of a manifest.
 fn digest_of_text(a: Algorithm, text: &[u8]) -> DigestName
@@ -47,18 +45,6 @@ fn put_digested<O: Sink>(alloc: Global, a: Algorithm, text: Vec<u8>, out: &mut O
     }
 }
 
-// Writes the manifest of a tree and the line of its digest.
-#[tactic(auto, using(crate::proofs::StoreLemmas::shown))]
-fn show<O: Sink>(alloc: Global, a: Algorithm, tree: &Tree, out: &mut O) -> Outcome
-    ensures { Shows a tree.now (O.seen out.old) (O.seen out.new) result }
-{
-    match write(alloc, tree, a) {
-        Ok(text) => put_digested(alloc, a, text, out),
-        Err(ManifestOutFault::BadName { path }) => Outcome::BadName { path },
-        Err(ManifestOutFault::Memory) => Outcome::Memory,
-    }
-}
-
 /// Writes the manifest of a stored tree by an algorithm, the name of its digest and LF.
 pub fn manifest<K: Shelf, O: Sink>(
     alloc: Global,
@@ -69,10 +55,11 @@ pub fn manifest<K: Shelf, O: Sink>(
 ) -> Outcome
     ensures { (feeds : Feeding) → Manifests algorithm name (record { feeds = feeds; shelf = K.seen shelf.old; out = O.seen out.old }) (record { feeds = feeds; shelf = K.seen shelf.new; out = O.seen out.new }) result }
 {
-    match read_tree(alloc, name.as_str(), shelf) {
-        Ok(TreeRead::Read(tree)) => show(alloc, algorithm, &tree, out),
-        Ok(TreeRead::Missing) => Outcome::MissingTree { name },
-        Ok(TreeRead::TooLarge { what, limit }) => Outcome::TreeTooLarge { what, limit },
+    match manifest_of(alloc, name.as_str(), algorithm, shelf) {
+        Ok(ManifestRead::Read(text)) => put_digested(alloc, algorithm, text.into_vec(), out),
+        Ok(ManifestRead::Missing) => Outcome::MissingTree { name },
+        Ok(ManifestRead::BadName { path }) => Outcome::BadName { path },
+        Ok(ManifestRead::TooLarge { what, limit }) => Outcome::TreeTooLarge { what, limit },
         Err(ShelfFault::Failed) => Outcome::StoreFault { name },
         Err(ShelfFault::Memory) => Outcome::Memory,
     }

@@ -23,7 +23,7 @@ use Rattle.zi_sels.specs.declared.fault.SelsFault.{SelsFault}
 use Rattle.zi_sels.specs.declared.fault.SelsFault.TheVariants as fault
 use Rattle.zi_sels.specs.Reading.{Says, HasFault, FaultMeans as SelsFaultMeans}
 use Rattle.zi_outcome.specs.declared.outcome.Outcome.{Outcome}
-use Rattle.zi_outcome.specs.declared.outcome.Outcome.TheVariants.{Done, Usage, FeedRead, NoRootFeed, BadFeed, FeedTooLong, TooManyFeeds, TooManyInterfaces, TooManyCandidates, TooLarge, NoSolution, Spent, NoFile, BadSels, BadProof, Rejected, Plan, FetchRead, NoRemote, WrongSize, Overlap, NoPath, Mismatch, MissingTree, DamagedTree, BadName, TreeTooLarge, StoreFault, Crowded, Unwritable, SpawnFault, SinkFault, Memory, Child}
+use Rattle.zi_outcome.specs.declared.outcome.Outcome.TheVariants.{Done, Usage, FeedRead, NoRootFeed, BadFeed, FeedTooLong, TooManyFeeds, TooManyInterfaces, TooManyCandidates, TooLarge, NoSolution, Spent, NoFile, BadSels, BadProof, Rejected, Plan, FetchRead, NoRemote, WrongSize, Overlap, NoPath, Mismatch, MissingTree, DamagedTree, BadName, TreeTooLarge, StoreFault, Crowded, SpawnFault, SinkFault, Memory, Child}
 use Rattle.zi_outcome.specs.Refused.{outcome_of}
 use Rattle.zi_outcome.specs.Writing.{Prints}
 use Rattle.std.proofs.lemmas.Bool.{false≢true}
@@ -141,7 +141,6 @@ missing most name before after (BadName path) why = absurd why
 missing most name before after (TreeTooLarge what limit) why = absurd why
 missing most name before after (StoreFault top) why = absurd why
 missing most name before after (Crowded tried) why = absurd why
-missing most name before after (Unwritable place) why = absurd why
 missing most name before after SpawnFault why = absurd why
 missing most name before after SinkFault why = absurd why
 missing most name before after Memory why = inr (inr (inr (refl, why)))
@@ -180,7 +179,6 @@ unsaid bytes (BadName path) why = absurd why
 unsaid bytes (TreeTooLarge what limit) why = absurd why
 unsaid bytes (StoreFault top) why = absurd why
 unsaid bytes (Crowded tried) why = absurd why
-unsaid bytes (Unwritable place) why = absurd why
 unsaid bytes SpawnFault why = absurd why
 unsaid bytes SinkFault why = absurd why
 unsaid bytes Memory why = inr refl
@@ -219,7 +217,6 @@ unreadable bytes (BadName path) why = absurd why
 unreadable bytes (TreeTooLarge what limit) why = absurd why
 unreadable bytes (StoreFault top) why = absurd why
 unreadable bytes (Crowded tried) why = absurd why
-unreadable bytes (Unwritable place) why = absurd why
 unreadable bytes SpawnFault why = absurd why
 unreadable bytes SinkFault why = absurd why
 unreadable bytes Memory why = inr refl
@@ -259,7 +256,6 @@ are_not u req sels c (BadName path) why = absurd why
 are_not u req sels c (TreeTooLarge what limit) why = absurd why
 are_not u req sels c (StoreFault top) why = absurd why
 are_not u req sels c (Crowded tried) why = absurd why
-are_not u req sels c (Unwritable place) why = absurd why
 are_not u req sels c SpawnFault why = absurd why
 are_not u req sels c SinkFault why = absurd why
 are_not u req sels c Memory why = inr (inr refl)

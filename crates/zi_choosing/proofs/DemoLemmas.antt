@@ -1,9 +1,12 @@
 -- The counts of a demonstration, and what they mean for what was asked.
-use Rattle.std.proofs.Common.{◌≡◌, ℕ, inl, inr, List, [], Some, refl, sym, ap, subst, ◌∙◌}
+use Rattle.std.proofs.Common.{◌≡◌, ℕ, true, inl, inr, List, [], Option, Some, None, codes, refl, sym, ap, subst, ◌∙◌}
+use Rattle.std.specs.Prelude.{if◌then◌else◌}
+use Rattle.std.specs.Str.{chars}
 use Rattle.zi_outside.specs.Views.{Feeding, Sinking}
 use Rattle.zi_outside.specs.Memory.{sure_told, sure_seen}
 use Rattle.zi_outside.specs.declared.sure_feeds.SureFeeds.{SureFeeds}
 use Rattle.zi_demo.specs.Feeds.{feeds, Holds}
+use Rattle.zi_words.specs.Forms.{is_address, is_carried}
 use Rattle.zi_universe.specs.declared.types.Interface.{Interface}
 use Rattle.zi_universe.specs.declared.types.Requirement.{Requirement}
 use Rattle.zi_universe.specs.declared.fault.LoadFault.{LoadFault}
@@ -19,13 +22,31 @@ use Rattle.zi_proof.specs.declared.proof.Certificate.{Certificate}
 use Rattle.zi_certificate.specs.Certificates.{Excludes, Refutes}
 use Rattle.zi_solve.specs.Answers.{IsSpent}
 use Rattle.zi_outcome.specs.declared.outcome.Outcome.{Outcome}
-use Rattle.zi_outcome.specs.declared.outcome.Outcome.TheVariants.{Done, Usage, FeedRead, NoRootFeed, BadFeed, FeedTooLong, TooManyFeeds, TooManyInterfaces, TooManyCandidates, TooLarge, NoSolution, Spent, NoFile, BadSels, BadProof, Rejected, Plan, FetchRead, NoRemote, WrongSize, Overlap, NoPath, Mismatch, MissingTree, DamagedTree, BadName, TreeTooLarge, StoreFault, Crowded, Unwritable, SpawnFault, SinkFault, Memory, Child}
+use Rattle.zi_outcome.specs.declared.outcome.Outcome.TheVariants.{Done, Usage, FeedRead, NoRootFeed, BadFeed, FeedTooLong, TooManyFeeds, TooManyInterfaces, TooManyCandidates, TooLarge, NoSolution, Spent, NoFile, BadSels, BadProof, Rejected, Plan, FetchRead, NoRemote, WrongSize, Overlap, NoPath, Mismatch, MissingTree, DamagedTree, BadName, TreeTooLarge, StoreFault, Crowded, SpawnFault, SinkFault, Memory, Child}
 use Rattle.zi_outcome.specs.Refused.{outcome_of}
 use Rattle.zi_outcome.specs.Writing.{Prints}
 use Rattle.zi_choosing.specs.Wanted.{requirement_of}
 use Rattle.zi_choosing.specs.Loaded.{Lent, IsLoaded, IsRefused, AreFew, build_outcome}
 use Rattle.zi_choosing.specs.Demo.{demo_ask, counts_of, lines, IsCounted, CountsOver, Demos}
 use Rattle.zi_choosing.specs.DemoParts.{budget, CountsNothing, CountsBest, CountsFrom}
+
+-- the address of the root is one
+demo_is_address : is_address (codes "/demo/root.xml") ≡ true
+unfolding is_address is_carried chars
+demo_is_address = refl
+
+found_address : (text : List ℕ) → text ≡ codes "/demo/root.xml" → (if is_address text then Some text else None) ≡ Some (codes "/demo/root.xml")
+found_address text e =
+    subst (λ t. (if is_address t then Some t else None) ≡ Some (codes "/demo/root.xml")) (sym e)
+    (ap (λ b. if b then Some (codes "/demo/root.xml") else None) demo_is_address)
+
+pub is_root : (text a : List ℕ) (o : Option (List ℕ)) → text ≡ codes "/demo/root.xml" → o ≡ (if is_address text then Some text else None) → o ≡ Some a → a ≡ codes "/demo/root.xml"
+is_root text a o e is some = let f : Some a ≡ Some (codes "/demo/root.xml") = sym some ∙ (is ∙ found_address text e) in cc
+
+pub is_there : (text : List ℕ) (o : Option (List ℕ)) → text ≡ codes "/demo/root.xml" → o ≡ (if is_address text then Some text else None) → o ≡ None → ⊥
+is_there text o e is none = let f : None ≡ Some (codes "/demo/root.xml") = sym none ∙ (is ∙ found_address text e) in cc
+
+pub ruleset addressed = (is_root, is_there)
 
 module _ (req : Requirement) (u : List Interface) where
   -- the lines of the best choice were printed
@@ -112,7 +133,6 @@ module _ (before after : Lent) where
   uncounted_as u (TreeTooLarge what limit) loaded why w = absurd why
   uncounted_as u (StoreFault top) loaded why w = absurd why
   uncounted_as u (Crowded tried) loaded why w = absurd why
-  uncounted_as u (Unwritable place) loaded why w = absurd why
   uncounted_as u SinkFault loaded why w = absurd why
   uncounted_as u Memory loaded why w = inr (inr (inl ((u, loaded, tt), w)))
 

@@ -13,10 +13,10 @@ use Rattle.zi_build.specs.declared.building.BuildFault.TheVariants as build
 use Rattle.zi_build.specs.Answers.{FaultMeans}
 use Rattle.zi_sels.specs.Chosen.{AreSelected}
 use Rattle.zi_outcome.specs.declared.outcome.Outcome.{Outcome}
-use Rattle.zi_outcome.specs.declared.outcome.Outcome.TheVariants.{Done, Usage, FeedRead, NoRootFeed, BadFeed, FeedTooLong, TooManyFeeds, TooManyInterfaces, TooManyCandidates, TooLarge, NoSolution, Spent, NoFile, BadSels, BadProof, Rejected, Plan, FetchRead, NoRemote, WrongSize, Overlap, NoPath, Mismatch, MissingTree, DamagedTree, BadName, TreeTooLarge, StoreFault, Crowded, Unwritable, SpawnFault, SinkFault, Memory, Child}
+use Rattle.zi_outcome.specs.declared.outcome.Outcome.TheVariants.{Done, Usage, FeedRead, NoRootFeed, BadFeed, FeedTooLong, TooManyFeeds, TooManyInterfaces, TooManyCandidates, TooLarge, NoSolution, Spent, NoFile, BadSels, BadProof, Rejected, Plan, FetchRead, NoRemote, WrongSize, Overlap, NoPath, Mismatch, MissingTree, DamagedTree, BadName, TreeTooLarge, StoreFault, Crowded, SpawnFault, SinkFault, Memory, Child}
 use Rattle.zi_outcome.specs.Refused.{outcome_of}
 use Rattle.zi_world.specs.StoreRead.{AreStored}
-use Rattle.zi_choosing.specs.declared.finding.Chosen.{Chosen}
+use Rattle.zi_choosing.specs.declared.chosen.Chosen.{Chosen}
 use Rattle.zi_choosing.specs.Wanted.{requirement_of}
 use Rattle.zi_choosing.specs.Loaded.{IsLoaded, IsRefused, AreFew, build_outcome}
 use Rattle.zi_choosing.specs.Finding.{Sources, SolvesNot, IsChosen, FindsNot, FindsOver}
@@ -61,7 +61,6 @@ module _ (ask : Ask) (stored : List DigestName) (before after : Feeding) where
   unsolved_as u (TreeTooLarge what limit) loaded why = absurd why
   unsolved_as u (StoreFault name) loaded why = absurd why
   unsolved_as u (Crowded tried) loaded why = absurd why
-  unsolved_as u (Unwritable place) loaded why = absurd why
   unsolved_as u SinkFault loaded why = absurd why
   unsolved_as u Memory loaded why = inr (inr (u, loaded, tt))
 

@@ -1,15 +1,69 @@
--- What was loaded is what the words ask for.
-use Rattle.std.proofs.Common.{◌≡◌, List, ap, subst, ◌∙◌}
+-- The root of what the words ask for, and what was loaded for them.
+use Rattle.std.specs.Prelude.{IsUtf8}
+use Rattle.std.proofs.Common.{◌≡◌, ℕ, Bool, true, false, ◌&&◌, List, [], ◌∷◌, Option, None, refl, sym, ap, subst, ◌∙◌, arith}
+use Rattle.std.specs.List.{list_all}
+use Rattle.std.specs.Str.{chars, is_utf8}
+use Rattle.std.proofs.lemmas.Bool.Decides.{nat_tests}
+use Rattle.std.proofs.lemmas.Str.{is_utf8-from_IsUtf8}
+use Rattle.zi_xml.specs.Chars.{is_char}
+use Rattle.zi_docout.specs.Amiss.{is_carried, first_amiss}
 use Rattle.zi_policy.specs.declared.types.Policy.{Policy}
 use Rattle.zi_digest.specs.declared.DigestName.{DigestName}
-use Rattle.zi_outside.specs.Views.{Feeding}
+use Rattle.zi_outside.specs.Views.{Holding, Feeding, holding}
 use Rattle.zi_words.specs.declared.request.Ask.{Ask}
+use Rattle.zi_words.specs.Forms.{is_address, is_carried as is_right}
 use Rattle.zi_universe.specs.declared.types.Interface.{Interface}
 use Rattle.zi_universe.specs.declared.types.Requirement.{Requirement}
 use Rattle.zi_universe.specs.declared.fault.LoadFault.{LoadFault}
-use Rattle.zi_universe.specs.Loading.{names_of, Task, LoadsAsking, RefusesAsking}
+use Rattle.zi_universe.specs.Candidates.{Store}
+use Rattle.zi_universe.specs.Loading.{names_of, Loads, Task, LoadsAsking, RefusesAsking}
+use Rattle.zi_choice.specs.Choice.{Choice}
+use Rattle.zi_choice.specs.Valid.{IsValid}
+use Rattle.zi_sels.specs.declared.types.Selections.{Selections}
+use Rattle.zi_sels.specs.Chosen.{AreSelected}
+use Rattle.zi_sels.specs.Written.{tree}
 use Rattle.zi_choosing.specs.Wanted.{requirement_of}
 use Rattle.zi_choosing.specs.Loaded.{task_of, IsLoaded, IsRefused}
+use Rattle.zi_choosing.specs.SelectParts.{CanBeWritten}
+
+-- The address of a root can be carried by XML.
+
+both : (a b : Bool) → a ≡ true → b ≡ true → (a && b) ≡ true
+both true b h k = k
+both false b h k = absurd (cc h)
+
+left : (a b : Bool) → (a && b) ≡ true → a ≡ true
+left true b h = refl
+left false b h = absurd (cc h)
+
+right : (a b : Bool) → (a && b) ≡ true → b ≡ true
+right true b h = h
+right false b h = absurd (cc h)
+
+right_char : (c : ℕ) → is_right c ≡ true → is_char c ≡ true
+unfolding is_right is_char
+right_char c h = grind (arith, nat_tests)
+
+right_chars : (cs : List ℕ) → list_all is_right cs ≡ true → list_all is_char cs ≡ true
+right_chars [] h = refl
+right_chars (c ∷ cs) h =
+    both (is_char c) (list_all is_char cs) (right_char c (left (is_right c) (list_all is_right cs) h)) (right_chars cs (right (is_right c) (list_all is_right cs) h))
+
+carried : (t : List ℕ) → is_address t ≡ true → IsUtf8 t → is_carried t ≡ true
+unfolding is_address is_carried
+carried t h utf8 = both (is_utf8 t) (list_all is_char (chars t)) (is_utf8-from_IsUtf8 t utf8) (right_chars (chars t) (right _ (list_all is_right (chars t)) h))
+
+pub root_carried : (text root : List ℕ) → text ≡ root → is_address root ≡ true → IsUtf8 root → is_carried text ≡ true
+root_carried text root e h utf8 = subst (λ t. is_carried t ≡ true) (sym e) (carried root h utf8)
+
+-- What was loaded is what the words ask for.
+
+-- each element of what a valid choice from a loaded universe selects can be written, as the law says
+pub all_written : (before after : Feeding) (req : Requirement) (policy : Policy) (stored : List DigestName) (u : List Interface)
+    → ((told : Option Holding) (r : Requirement) (p : Policy) (s : Store) (universe : List Interface) (choice : Choice) (sels : Selections)
+    → is_carried r.interface ≡ true → Loads told r p s universe → IsValid universe r choice → AreSelected universe r choice sels → first_amiss (tree sels) ≡ None)
+    → is_carried req.interface ≡ true → LoadsAsking (record { req = req; policy = policy; stored = names_of stored }) before u after → CanBeWritten u req
+all_written before after req policy stored u law root loads choice valid sels are = law (holding before) req policy (names_of stored) u choice sels root loads.loads valid are
 
 task_is : (stored : List DigestName) (ask : Ask) (req : Requirement) (policy : Policy) → req ≡ requirement_of ask → policy ≡ ask.policy
     → ◌≡◌ {A = Task} (record { req = req; policy = policy; stored = names_of stored }) (task_of stored ask)

@@ -14,7 +14,7 @@ use Rattle.zi_build.specs.Answers.{FaultMeans}
 use Rattle.zi_proof.specs.declared.proof.Certificate.{Certificate}
 use Rattle.zi_certificate.specs.Certificates.{Refutes}
 use Rattle.zi_outcome.specs.declared.outcome.Outcome.{Outcome}
-use Rattle.zi_outcome.specs.declared.outcome.Outcome.TheVariants.{Done, Usage, FeedRead, NoRootFeed, BadFeed, FeedTooLong, TooManyFeeds, TooManyInterfaces, TooManyCandidates, TooLarge, NoSolution, Spent, NoFile, BadSels, BadProof, Rejected, Plan, FetchRead, NoRemote, WrongSize, Overlap, NoPath, Mismatch, MissingTree, DamagedTree, BadName, TreeTooLarge, StoreFault, Crowded, Unwritable, SpawnFault, SinkFault, Memory, Child}
+use Rattle.zi_outcome.specs.declared.outcome.Outcome.TheVariants.{Done, Usage, FeedRead, NoRootFeed, BadFeed, FeedTooLong, TooManyFeeds, TooManyInterfaces, TooManyCandidates, TooLarge, NoSolution, Spent, NoFile, BadSels, BadProof, Rejected, Plan, FetchRead, NoRemote, WrongSize, Overlap, NoPath, Mismatch, MissingTree, DamagedTree, BadName, TreeTooLarge, StoreFault, Crowded, SpawnFault, SinkFault, Memory, Child}
 use Rattle.zi_outcome.specs.Refused.{outcome_of}
 use Rattle.zi_outcome.specs.Writing.{Prints}
 use Rattle.zi_world.specs.Asking.{FeedsStay}
@@ -89,7 +89,6 @@ module _ (ask : Ask) (name : List ℕ) (stored : List DigestName) (before after 
   none_as c (TreeTooLarge what limit) reads why w = absurd why
   none_as c (StoreFault top) reads why w = absurd why
   none_as c (Crowded tried) reads why w = absurd why
-  none_as c (Unwritable place) reads why w = absurd why
   none_as c SinkFault reads why w = absurd why
   none_as c Memory reads why w = inr (inr (inl ((there, inr reads.got.asked), w)))
 
@@ -126,7 +125,6 @@ module _ (ask : Ask) (name : List ℕ) (stored : List DigestName) (before after 
   bad_as bytes (TreeTooLarge what limit) got why w = absurd why
   bad_as bytes (StoreFault top) got why w = absurd why
   bad_as bytes (Crowded tried) got why w = absurd why
-  bad_as bytes (Unwritable place) got why w = absurd why
   bad_as bytes SinkFault got why w = absurd why
   bad_as bytes Memory got why w = inr (inr (inl ((there, inr got.asked), w)))
 
@@ -162,7 +160,6 @@ module _ (ask : Ask) (name : List ℕ) (stored : List DigestName) (before after 
   no_file_as (TreeTooLarge what limit) why w = absurd why
   no_file_as (StoreFault top) why w = absurd why
   no_file_as (Crowded tried) why w = absurd why
-  no_file_as (Unwritable place) why w = absurd why
   no_file_as SinkFault why w = absurd why
   no_file_as Memory why w = inr (inr (inl ((there, inl why), w)))
 
@@ -232,7 +229,6 @@ no_file_stays name before after (Child status) why = absurd why
 no_file_stays name before after (TreeTooLarge what limit) why = absurd why
 no_file_stays name before after (StoreFault top) why = absurd why
 no_file_stays name before after (Crowded tried) why = absurd why
-no_file_stays name before after (Unwritable place) why = absurd why
 no_file_stays name before after SinkFault why = absurd why
 no_file_stays name before after Memory why = unasked_stay before after why
 

@@ -20,26 +20,14 @@ use Rattle.zi_sels.specs.declared.types.Selections.{Selections}
 use Rattle.zi_sels.specs.Chosen.{AreSelected}
 use Rattle.zi_sels.specs.Written.{document}
 use Rattle.zi_outcome.specs.declared.outcome.Outcome.{Outcome}
-use Rattle.zi_outcome.specs.declared.outcome.Outcome.TheVariants.{Done, Usage, FeedRead, NoRootFeed, BadFeed, FeedTooLong, TooManyFeeds, TooManyInterfaces, TooManyCandidates, TooLarge, NoSolution, Spent, NoFile, BadSels, BadProof, Rejected, Plan, FetchRead, NoRemote, WrongSize, Overlap, NoPath, Mismatch, MissingTree, DamagedTree, BadName, TreeTooLarge, StoreFault, Crowded, Unwritable, SpawnFault, SinkFault, Memory, Child}
+use Rattle.zi_outcome.specs.declared.outcome.Outcome.TheVariants.{Done, Usage, FeedRead, NoRootFeed, BadFeed, FeedTooLong, TooManyFeeds, TooManyInterfaces, TooManyCandidates, TooLarge, NoSolution, Spent, NoFile, BadSels, BadProof, Rejected, Plan, FetchRead, NoRemote, WrongSize, Overlap, NoPath, Mismatch, MissingTree, DamagedTree, BadName, TreeTooLarge, StoreFault, Crowded, SpawnFault, SinkFault, Memory, Child}
 use Rattle.zi_outcome.specs.Refused.{outcome_of}
 use Rattle.zi_outcome.specs.Writing.{Prints}
 use Rattle.zi_outcome.proofs.WritingLemmas.{nothing_put}
 use Rattle.zi_choosing.specs.Wanted.{requirement_of}
 use Rattle.zi_choosing.specs.Loaded.{Lent, IsLoaded, IsRefused, AreFew, build_outcome}
-use Rattle.zi_choosing.specs.Select.{IsAmiss, refutation_text, Chooses, HasNone, SelectsOver}
-use Rattle.zi_choosing.specs.SelectParts.{PrintsDocument, IsUnshown, PrintsChoice, PrintsRefutation, Search, ChoosesNothing, ChoosesBest, ChoosesNone, ChoosesFrom}
-
--- the document was printed, or it can't be written, or there was no memory for it
-pub document_printed : (sels : Selections) (text : List ℕ) (old new : Sinking) (outcome : Outcome) → text ≡ document sels → Prints text old new outcome → PrintsDocument sels old new outcome
-document_printed sels text old new outcome e w = inl (subst (λ t. Prints t old new outcome) e w)
-
-pub document_unmade : (sels : Selections) (out : Sinking) → PrintsDocument sels out out Memory
-document_unmade sels out = inl (inr (inr (nothing_put out (document sels) out refl, refl)))
-
-pub document_amiss : (sels : Selections) (place : ℕ) (out : Sinking) → IsAmiss sels place → PrintsDocument sels out out (Unwritable place)
-document_amiss sels place out amiss = inr (place, refl, amiss, refl)
-
-pub ruleset printing = (document_printed, document_unmade, document_amiss)
+use Rattle.zi_choosing.specs.Select.{refutation_text, Chooses, HasNone, SelectsOver}
+use Rattle.zi_choosing.specs.SelectParts.{PrintsChoice, PrintsRefutation, Search, ChoosesNothing, ChoosesBest, ChoosesNone, ChoosesFrom}
 
 -- a certificate was printed, or there was no memory for it
 pub text_printed : (wanted text : List ℕ) (old new : Sinking) (outcome : Outcome) → text ≡ wanted → Prints text old new outcome → Prints wanted old new outcome
@@ -52,14 +40,12 @@ pub ruleset certifying = (text_printed, text_unmade)
 
 -- what was selected was printed
 pub selected_printed : (u : List Interface) (req : Requirement) (choice : Choice) (sels : Selections) (old new : Sinking) (outcome : Outcome) → AreSelected u req choice sels
-    → PrintsDocument sels old new outcome → PrintsChoice false u req choice old new outcome
-selected_printed u req choice sels old new outcome selected (inl w) = inl (document sels, (sels, selected, refl), w)
-selected_printed u req choice sels old new outcome selected (inr (place, e, amiss, w)) =
-    subst (λ x. PrintsChoice false u req choice old new x) (sym e) (inr ((refl, (sels, selected, amiss)), w))
+    → Prints (document sels) old new outcome → PrintsChoice false u req choice old new outcome
+selected_printed u req choice sels old new outcome selected w = inl (document sels, (sels, selected, refl), w)
 
 -- there was no memory for the selections
 pub unselected : (u : List Interface) (req : Requirement) (choice : Choice) (out : Sinking) → PrintsChoice false u req choice out out Memory
-unselected u req choice out = inr (tt, refl)
+unselected u req choice out = inr (refl, refl)
 
 pub ruleset selecting = (selected_printed, unselected)
 
@@ -104,44 +90,6 @@ module _ (ask : Ask) (proof : Bool) (stored : List DigestName) (before after : L
   chosen_as text outcome chooses (inr (inr (w, e))) =
       subst (λ x. SelectsOver ask proof stored before after x) (sym e) (inr (inr (inr (inl (text, chooses, w)))))
 
-  unshown_as : (u : List Interface) (choice : Choice) (outcome : Outcome) → IsLoaded stored ask before.feeds after.feeds u → AreFew u (requirement_of ask)
-      → IsBest u (requirement_of ask) choice → IsUnshown proof u (requirement_of ask) choice outcome → after.out ≡ before.out
-      → SelectsOver ask proof stored before after outcome
-  unshown_as u choice Done loaded few best why w = absurd why
-  unshown_as u choice (Usage index) loaded few best why w = absurd why
-  unshown_as u choice (FeedRead uri) loaded few best why w = absurd why
-  unshown_as u choice NoRootFeed loaded few best why w = absurd why
-  unshown_as u choice (BadFeed uri fault) loaded few best why w = absurd why
-  unshown_as u choice (FeedTooLong uri limit) loaded few best why w = absurd why
-  unshown_as u choice (TooManyFeeds limit) loaded few best why w = absurd why
-  unshown_as u choice (TooManyInterfaces limit) loaded few best why w = absurd why
-  unshown_as u choice (TooManyCandidates limit) loaded few best why w = absurd why
-  unshown_as u choice (TooLarge limit) loaded few best why w = absurd why
-  unshown_as u choice (NoSolution p) loaded few best why w = absurd why
-  unshown_as u choice (Spent p count) loaded few best why w = absurd why
-  unshown_as u choice (NoFile absent) loaded few best why w = absurd why
-  unshown_as u choice (BadProof line) loaded few best why w = absurd why
-  unshown_as u choice Rejected loaded few best why w = absurd why
-  unshown_as u choice (FetchRead href) loaded few best why w = absurd why
-  unshown_as u choice (NoRemote href) loaded few best why w = absurd why
-  unshown_as u choice (WrongSize href said got) loaded few best why w = absurd why
-  unshown_as u choice (Overlap path) loaded few best why w = absurd why
-  unshown_as u choice (NoPath path) loaded few best why w = absurd why
-  unshown_as u choice (Mismatch wanted found) loaded few best why w = absurd why
-  unshown_as u choice (MissingTree missing) loaded few best why w = absurd why
-  unshown_as u choice (DamagedTree damaged found) loaded few best why w = absurd why
-  unshown_as u choice (BadName path) loaded few best why w = absurd why
-  unshown_as u choice (Plan fault) loaded few best why w = absurd why
-  unshown_as u choice (BadSels fault) loaded few best why w = absurd why
-  unshown_as u choice SpawnFault loaded few best why w = absurd why
-  unshown_as u choice (Child status) loaded few best why w = absurd why
-  unshown_as u choice (TreeTooLarge what limit) loaded few best why w = absurd why
-  unshown_as u choice (StoreFault top) loaded few best why w = absurd why
-  unshown_as u choice (Crowded tried) loaded few best why w = absurd why
-  unshown_as u choice (Unwritable place) loaded few best why w = (why.0, record { there = record { universe = u; loaded = loaded; few = few }; choice = choice; best = best; sels = why.1.0; selected = why.1.1; amiss = why.1.2 }, w)
-  unshown_as u choice SinkFault loaded few best why w = absurd why
-  unshown_as u choice Memory loaded few best why w = inr (inr (inl ((u, loaded, tt), w)))
-
   best_as : (u : List Interface) (outcome : Outcome) → IsLoaded stored ask before.feeds after.feeds u → ChoosesBest (search_of ask proof) u before.out after.out outcome
       → SelectsOver ask proof stored before after outcome
   best_as u outcome loaded b = by b.printed
@@ -149,7 +97,7 @@ module _ (ask : Ask) (proof : Bool) (stored : List DigestName) (before after : L
       by : PrintsChoice proof u (requirement_of ask) b.choice before.out after.out outcome → SelectsOver ask proof stored before after outcome
       by (inl (text, shown, w)) =
           chosen_as text outcome (record { there = record { universe = u; loaded = loaded; few = b.few }; choice = b.choice; best = b.best; shown = shown }) w
-      by (inr (why, w)) = unshown_as u b.choice outcome loaded b.few b.best why w
+      by (inr (e, w)) = subst (λ x. SelectsOver ask proof stored before after x) (sym e) (inr (inr (inl ((u, loaded, tt), w))))
 
   none_as : (u : List Interface) (outcome : Outcome) → IsLoaded stored ask before.feeds after.feeds u → ChoosesNone (search_of ask proof) u before.out after.out outcome
       → SelectsOver ask proof stored before after outcome
@@ -196,7 +144,6 @@ module _ (ask : Ask) (proof : Bool) (stored : List DigestName) (before after : L
   nothing_as u (TreeTooLarge what limit) loaded why w = absurd why
   nothing_as u (StoreFault top) loaded why w = absurd why
   nothing_as u (Crowded tried) loaded why w = absurd why
-  nothing_as u (Unwritable place) loaded why w = absurd why
   nothing_as u SinkFault loaded why w = absurd why
   nothing_as u Memory loaded why w = inr (inr (inl ((u, loaded, tt), w)))
 

@@ -18,7 +18,7 @@ use Rattle.zi_outcome.specs.declared.outcome.Outcome.TheVariants.{FeedRead, NoRo
 use Rattle.zi_world.specs.Asking.{FeedsStay}
 use Rattle.zi_world.specs.Shelves.{ShelfFailed}
 use Rattle.zi_world.specs.StoreRead.{AreStored}
-use Rattle.zi_choosing.specs.declared.finding.Chosen.{Chosen}
+use Rattle.zi_choosing.specs.declared.chosen.Chosen.{Chosen}
 use Rattle.zi_choosing.specs.Wanted.{requirement_of}
 use Rattle.zi_choosing.specs.Loaded.{IsLoaded, IsRefused, AreFew, AreMany}
 use Rattle.zi_choosing.specs.Select.{HasNone, WasSpent, OfLoaded}

@@ -1,5 +1,5 @@
 -- `select`: the best choice from what the words ask for.
-use Rattle.std.specs.Prelude.{◌≡◌, ℕ, ◌⊎◌, Bool, true, false, List, [], Some}
+use Rattle.std.specs.Prelude.{◌≡◌, ℕ, ◌⊎◌, Bool, true, false, List, []}
 use Rattle.zi_digest.specs.declared.DigestName.{DigestName}
 use Rattle.zi_outside.specs.Views.{Feeding}
 use Rattle.zi_outside.specs.Outside.{Writes, WritesFront}
@@ -15,13 +15,11 @@ use Rattle.zi_proof.specs.declared.proof.Certificate.{Certificate}
 use Rattle.zi_proof.specs.ProofText.{certificate_text}
 use Rattle.zi_certificate.specs.Certificates.{Excludes, Refutes}
 use Rattle.zi_solve.specs.Answers.{IsSpent}
-use Rattle.zi_docout.specs.Amiss.{first_amiss}
-use Rattle.zi_docout.specs.Answers.{told}
 use Rattle.zi_sels.specs.declared.types.Selections.{Selections}
 use Rattle.zi_sels.specs.Chosen.{AreSelected}
-use Rattle.zi_sels.specs.Written.{tree, document}
+use Rattle.zi_sels.specs.Written.{document}
 use Rattle.zi_outcome.specs.declared.outcome.Outcome.{Outcome}
-use Rattle.zi_outcome.specs.declared.outcome.Outcome.TheVariants.{Done, FeedRead, NoRootFeed, BadFeed, FeedTooLong, TooManyFeeds, TooManyInterfaces, TooManyCandidates, TooLarge, NoSolution, Spent, Unwritable, SinkFault, Memory}
+use Rattle.zi_outcome.specs.declared.outcome.Outcome.TheVariants.{Done, FeedRead, NoRootFeed, BadFeed, FeedTooLong, TooManyFeeds, TooManyInterfaces, TooManyCandidates, TooLarge, NoSolution, Spent, SinkFault, Memory}
 use Rattle.zi_outcome.specs.Writing.{StopsShort}
 use Rattle.zi_world.specs.World.{World}
 use Rattle.zi_choosing.specs.Wanted.{requirement_of}
@@ -45,19 +43,6 @@ pub record Chooses (stored : List DigestName) (ask : Ask) (proof : Bool) (before
   pub choice : Choice
   pub best : IsBest there.universe (requirement_of ask) choice
   pub shown : IsShown proof there.universe (requirement_of ask) choice text
-
--- The document can't be written: the element of this number is the first that can't.
-abbrev pub IsAmiss : Selections → ℕ → Type 0
-IsAmiss sels place = (n : ℕ) × (first_amiss (tree sels) ≡ Some n) × (place ≡ told n)
-
--- the universe is there, and the document of the best choice from it can't be written
-pub record CantWrite (stored : List DigestName) (ask : Ask) (before after : Feeding) (place : ℕ) : Type 0 where
-  pub there : IsThere stored ask before after
-  pub choice : Choice
-  pub best : IsBest there.universe (requirement_of ask) choice
-  pub sels : Selections
-  pub selected : AreSelected there.universe (requirement_of ask) choice sels
-  pub amiss : IsAmiss sels place
 
 -- The universe is there, no choice from it is valid, and the proof refutes.
 pub record HasNone (stored : List DigestName) (ask : Ask) (before after : Feeding) (p : Proof) : Type 0 where
@@ -97,8 +82,6 @@ SelectsOver ask proof stored before after (TooLarge limit) =
 SelectsOver ask proof stored before after (NoSolution p) =
     HasNone stored ask before.feeds after.feeds p × Writes before.out (refutation_text p) after.out
 SelectsOver ask proof stored before after (Spent p count) = WasSpent stored ask before.feeds after.feeds p count × (after.out ≡ before.out)
-SelectsOver ask proof stored before after (Unwritable place) =
-    (proof ≡ false) × CantWrite stored ask before.feeds after.feeds place × (after.out ≡ before.out)
 -- the output failed in the text
 SelectsOver ask proof stored before after SinkFault =
     ((text : List ℕ) × Chooses stored ask proof before.feeds after.feeds text × WritesFront before.out text after.out)

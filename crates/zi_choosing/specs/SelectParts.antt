@@ -1,39 +1,34 @@
 -- Parts of the work of `select`.
-use Rattle.std.specs.Prelude.{◌≡◌, ℕ, ◌⊎◌, Bool, false, List}
+use Rattle.std.specs.Prelude.{◌≡◌, ℕ, ◌⊎◌, Bool, List, None}
 use Rattle.zi_outside.specs.Views.{Sinking}
 use Rattle.zi_universe.specs.declared.types.Requirement.{Requirement}
 use Rattle.zi_universe.specs.declared.types.Interface.{Interface}
 use Rattle.zi_choice.specs.Choice.{Choice}
-use Rattle.zi_choice.specs.Valid.{NoneIsValid}
+use Rattle.zi_choice.specs.Valid.{IsValid, NoneIsValid}
 use Rattle.zi_choice.specs.Best.{IsBest}
 use Rattle.zi_proof.specs.declared.proof.Proof.{Proof}
 use Rattle.zi_certificate.specs.Certificates.{Refutes}
 use Rattle.zi_solve.specs.Answers.{IsSpent}
+use Rattle.zi_docout.specs.Amiss.{first_amiss}
 use Rattle.zi_sels.specs.declared.types.Selections.{Selections}
 use Rattle.zi_sels.specs.Chosen.{AreSelected}
-use Rattle.zi_sels.specs.Written.{document}
+use Rattle.zi_sels.specs.Written.{tree}
 use Rattle.zi_outcome.specs.declared.outcome.Outcome.{Outcome}
-use Rattle.zi_outcome.specs.declared.outcome.Outcome.TheVariants.{TooLarge, NoSolution, Spent, Unwritable, Memory}
+use Rattle.zi_outcome.specs.declared.outcome.Outcome.TheVariants.{TooLarge, NoSolution, Spent, Memory}
 use Rattle.zi_outcome.specs.Writing.{PrintsThen, Prints}
 use Rattle.zi_choosing.specs.Loaded.{AreFew, AreMany}
-use Rattle.zi_choosing.specs.Select.{IsShown, IsAmiss, refutation_text}
+use Rattle.zi_choosing.specs.Select.{IsShown, refutation_text}
 
--- the document is printed, or it can't be written
-abbrev pub PrintsDocument : Selections → Sinking → Sinking → Outcome → Type 0
-PrintsDocument sels old new outcome =
-    Prints (document sels) old new outcome ⊎ ((place : ℕ) × (outcome ≡ Unwritable place) × IsAmiss sels place × (new ≡ old))
+-- whatever a valid choice selects, each element of its document can be written
+abbrev pub CanBeWritten : List Interface → Requirement → Type 0
+CanBeWritten universe req =
+    (choice : Choice) → IsValid universe req choice → (sels : Selections) → AreSelected universe req choice sels → first_amiss (tree sels) ≡ None
 
--- nothing is printed of a choice, and this is why
-abbrev pub IsUnshown : Bool → List Interface → Requirement → Choice → Outcome → Type 0
-IsUnshown proof universe req choice (Unwritable place) = (proof ≡ false) × ((sels : Selections) × AreSelected universe req choice sels × IsAmiss sels place)
-IsUnshown proof universe req choice Memory = Unit {0}
-IsUnshown proof universe req choice other = ⊥
-
--- what shows a choice is printed
+-- what shows a choice is printed, or there was no memory for it
 abbrev pub PrintsChoice : Bool → List Interface → Requirement → Choice → Sinking → Sinking → Outcome → Type 0
 PrintsChoice proof universe req choice old new outcome =
     ((text : List ℕ) × IsShown proof universe req choice text × Prints text old new outcome)
-    ⊎ (IsUnshown proof universe req choice outcome × (new ≡ old))
+    ⊎ ((outcome ≡ Memory) × (new ≡ old))
 
 -- a refutation is printed
 abbrev pub PrintsRefutation : Proof → Sinking → Sinking → Outcome → Type 0

@@ -1,5 +1,5 @@
 //! The work of `demo`.
-ghost use Rattle.std.specs.Prelude.{◌≡◌, ◌≤◌, IfOk};
+ghost use Rattle.std.specs.Prelude.{◌≡◌, ◌≤◌, IfOk, codes};
 ghost use Rattle.zi_universe.specs.Whole.{BeginsWith};
 ghost use Rattle.zi_choice.specs.Best.{IsBest};
 ghost use Rattle.zi_certificate.specs.Certificates.{Excludes};
@@ -24,24 +24,36 @@ use zi_proof::{Certificate, Proof};
 use zi_solve::{Answer, solve};
 use zi_text::{Memory, Text};
 use zi_universe::{Requirement, Universe, load};
-use zi_words::Ask;
+use zi_words::{Address, Ask};
 
 // How many lemmas the search may learn.
 const BUDGET: u64 = 20_000;
+
+// The address of the demonstration's root.
+#[tactic(auto, using(crate::proofs::DemoLemmas::addressed))]
+fn demo_address(alloc: Global) -> Result<Address, Memory>
+    ensures { IfOk result (λ a. a ≡ codes "/demo/root.xml") }
+{
+    let text = Text::from_str(alloc, "/demo/root.xml")?;
+    match Address::new(text) {
+        Some(address) => Ok(address),
+        None => unreachable!(),
+    }
+}
 
 // What is asked for.
 #[tactic(auto, unfolding(crate::specs::Demo::demo_ask))]
 fn demo_ask(alloc: Global) -> Result<Ask, Memory>
     ensures { IfOk result (λ a. a ≡ demo_ask) }
 {
-    let address = Text::from_str(alloc, "/demo/root.xml")?;
+    let address = demo_address(alloc)?;
     let Ask {
         root,
         command: _,
         limits,
         policy,
         search: _,
-    } = Ask::without_options(alloc, &address)?;
+    } = Ask::without_options(alloc, address)?;
     Ok(Ask {
         root,
         command: None,

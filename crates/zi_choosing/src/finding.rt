@@ -6,6 +6,7 @@ ghost use Rattle.zi_world.specs.Asking.{FeedsStay};
 ghost use Rattle.zi_choosing.specs.Loaded.{AreFew};
 ghost use Rattle.zi_choosing.specs.Finding.{SolvesNot, IsChosen, FindsNot, FindsBest};
 
+use crate::chosen::Chosen;
 use crate::formula::without_formula;
 use crate::selecting::spent;
 use crate::wanted::{Job, into_job};
@@ -14,28 +15,14 @@ use zi_choice::Choice;
 use zi_digest::DigestName;
 use zi_outcome::{Outcome, refused};
 use zi_outside::Feeds;
-use zi_sels::{Selections, from_choice};
+use zi_sels::from_choice;
 use zi_shelf::{Shelf, ShelfFault};
 use zi_solve::{Answer, solve};
 use zi_store::stored_names;
 use zi_text::{List, Text};
 use zi_universe::{Requirement, Universe, load};
 use zi_words::Ask;
-
-/// The best choice, and from what it was chosen.
-#[derive(Drop)]
-pub struct Chosen {
-    /// What was asked for.
-    pub req: Requirement,
-    /// The digest names that were in the store, in byte order of their spellings.
-    pub stored: List<DigestName>,
-    /// The interfaces that may be needed, each with its candidates.
-    pub universe: Universe,
-    /// The best choice from them.
-    pub choice: Choice,
-    /// What it selects, in the order of the document.
-    pub sels: Selections,
-}
+use zi_written_laws::what_is_chosen_can_be_written;
 
 // The best choice from a universe.
 #[tactic(auto, using(crate::proofs::FindLemmas::solving))]
@@ -83,6 +70,7 @@ fn find_over<F: Feeds>(
     };
     let choice = solved(alloc, &universe, &job.req, budget)?;
     let sels = from_choice(alloc, &universe, &job.req, &choice)?;
+    what_is_chosen_can_be_written();
     let Job { req, policy: _ } = job;
     Ok(Chosen {
         req,

@@ -5,13 +5,15 @@
 //! Each command is one function over the objects outside, whose clause says what each outcome means and what became of them.
 //!
 //! Each command has a file of its own: `selecting`, `checking` (with `named`, the choice that selections name, and `own`,
-//! whether selections are those of a choice), `refuting`, `demonstrating` (with `counting`), `finding` (`find_best`).
+//! whether selections are those of a choice), `refuting`, `demonstrating` (with `counting`), `finding` (`find_best`,
+//! which gives a `chosen`).
 //! `wanted` takes the requirement and the policy out of what the words ask for. Read specs/Loaded.antt, which has what they
 //! have in common, then Select.antt, Check.antt, Refute.antt, Demo.antt and Finding.antt, each a case for each outcome with
 //! its cause; the `..Parts` are what the functions inside promise one another.
 #![tactic(auto)]
 
 mod checking;
+mod chosen;
 mod counting;
 mod demonstrating;
 mod finding;
@@ -23,7 +25,8 @@ mod selecting;
 mod wanted;
 
 pub use checking::check;
+pub use chosen::Chosen;
 pub use demonstrating::demonstrate;
-pub use finding::{Chosen, find_best};
+pub use finding::find_best;
 pub use refuting::refute;
 pub use selecting::{put_document, select};

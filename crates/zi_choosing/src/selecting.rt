@@ -1,14 +1,18 @@
 //! The work of `select`.
-ghost use Rattle.std.specs.Prelude.{◌≡◌, ◌≤◌, false};
+ghost use Rattle.std.specs.Prelude.{◌≡◌, ◌≤◌, false, None};
+ghost use Rattle.zi_docout.specs.Amiss.{first_amiss};
 ghost use Rattle.zi_universe.specs.Whole.{BeginsWith};
+ghost use Rattle.zi_choice.specs.Valid.{IsValid};
 ghost use Rattle.zi_proof.specs.ProofText.{certificate_text};
 ghost use Rattle.zi_certificate.specs.Certificates.{Excludes};
+ghost use Rattle.zi_sels.specs.Written.{tree, document};
 ghost use Rattle.zi_outcome.specs.declared.outcome.Outcome.TheVariants.{Spent};
 ghost use Rattle.zi_outcome.specs.Writing.{Prints};
 ghost use Rattle.zi_world.specs.Asking.{FeedsStay};
 ghost use Rattle.zi_choosing.specs.Select.{SelectsOver, Selects};
-ghost use Rattle.zi_choosing.specs.SelectParts.{PrintsDocument, PrintsChoice, PrintsRefutation, ChoosesFrom};
+ghost use Rattle.zi_choosing.specs.SelectParts.{CanBeWritten, PrintsChoice, PrintsRefutation, ChoosesFrom};
 
+use crate::chosen::Chosen;
 use crate::formula::without_formula;
 use crate::wanted::into_job;
 use std::alloc::Global;
@@ -25,18 +29,27 @@ use zi_store::stored_names;
 use zi_text::{List, Memory, Text};
 use zi_universe::{Requirement, Universe, load};
 use zi_words::Ask;
+use zi_written_laws::what_is_chosen_can_be_written;
 
-/// Writes the document of what is selected. `Unwritable` comes exactly where an element of it can't be written.
-#[tactic(auto, using(crate::proofs::SelectLemmas::printing))]
-pub fn put_document<O: Sink>(alloc: Global, sels: &Selections, out: &mut O) -> Outcome
-    ensures { PrintsDocument sels.now (O.seen out.old) (O.seen out.new) result }
+// Writes the document of selections, each element of which can be written.
+#[tactic(auto, using(crate::proofs::SelectLemmas::certifying))]
+fn put_sels<O: Sink>(alloc: Global, sels: &Selections, out: &mut O) -> Outcome
+    requires { first_amiss (tree sels.now) ≡ None }
+    ensures { Prints (document sels.now) (O.seen out.old) (O.seen out.new) result }
 {
     let mut text = Vec::new(alloc);
     match zi_sels::write(alloc, sels, &mut text) {
         Ok(()) => put_text(text.as_slice(), out),
-        Err(WriteFault::Unwritable { place }) => Outcome::Unwritable { place },
+        Err(WriteFault::Unwritable { .. }) => unreachable!(),
         Err(WriteFault::Memory) => Outcome::Memory,
     }
+}
+
+/// Writes the document of what the best choice selects.
+pub fn put_document<O: Sink>(alloc: Global, chosen: &Chosen, out: &mut O) -> Outcome
+    ensures { Prints (document chosen.now.sels) (O.seen out.old) (O.seen out.new) result }
+{
+    put_sels(alloc, &chosen.sels, out)
 }
 
 // Writes the text of a certificate.
@@ -59,10 +72,12 @@ fn put_selected<O: Sink>(
     choice: &Choice,
     out: &mut O,
 ) -> Outcome
+    requires valid { IsValid universe.now req.now choice.now.picks }
+    requires written { CanBeWritten universe.now req.now }
     ensures { PrintsChoice false universe.now req.now choice.now.picks (O.seen out.old) (O.seen out.new) result }
 {
     match from_choice(alloc, universe, req, choice) {
-        Ok(sels) => put_document(alloc, &sels, out),
+        Ok(sels) => put_sels(alloc, &sels, out),
         Err(Memory) => Outcome::Memory,
     }
 }
@@ -77,7 +92,9 @@ fn put_choice<O: Sink>(
     certificate: &Certificate,
     out: &mut O,
 ) -> Outcome
-    requires { Excludes universe.now req.now choice.now.picks certificate.now }
+    requires excludes { Excludes universe.now req.now choice.now.picks certificate.now }
+    requires valid { IsValid universe.now req.now choice.now.picks }
+    requires written { CanBeWritten universe.now req.now }
     ensures { PrintsChoice proof universe.now req.now choice.now.picks (O.seen out.old) (O.seen out.new) result }
 {
     if proof {
@@ -122,6 +139,7 @@ fn choose<O: Sink>(
 ) -> Outcome
     requires rooted { BeginsWith universe.now req.now.interface }
     requires budget { budget ≤ 4000000000 }
+    requires written { CanBeWritten universe.now req.now }
     ensures { ChoosesFrom (record { req = req.now; budget = budget; proof = proof }) universe.now (O.seen out.old) (O.seen out.new) result }
 {
     match solve(alloc, universe, req, budget) {
@@ -159,6 +177,7 @@ fn select_over<F: Feeds, O: Sink>(
     let Ok(job) = into_job(alloc, ask) else {
         return Outcome::Memory;
     };
+    what_is_chosen_can_be_written();
     match load(alloc, &job.req, &job.policy, stored, feeds) {
         Ok(universe) => choose(alloc, &job.req, &universe, budget, proof, out),
         Err(fault) => refused(fault),

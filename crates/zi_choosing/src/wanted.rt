@@ -1,5 +1,6 @@
 //! What a loading is asked for by the words.
-ghost use Rattle.std.specs.Prelude.{◌≡◌, map, IfOk};
+ghost use Rattle.std.specs.Prelude.{◌≡◌, true, map, IfOk};
+ghost use Rattle.zi_docout.specs.Amiss.{is_carried};
 ghost use Rattle.zi_choosing.specs.Wanted.{limit_of, requirement_of};
 
 use std::alloc::Global;
@@ -27,10 +28,12 @@ fn limits(alloc: Global, all: List<Wanted>) -> Result<List<Limit>, Memory>
     Ok(limits)
 }
 
-/// The requirement and the policy of the words.
+/// The requirement and the policy of the words. XML can carry the address of the root.
+#[tactic(auto, using(crate::proofs::LoadedLemmas::root_carried))]
 pub fn into_job(alloc: Global, ask: Ask) -> Result<Job, Memory>
     ensures req { IfOk result (λ j. j.req ≡ requirement_of ask) }
     ensures policy { IfOk result (λ j. j.policy ≡ ask.policy) }
+    ensures root { IfOk result (λ j. is_carried j.req.interface ≡ true) }
 {
     let Ask {
         root,
@@ -41,7 +44,7 @@ pub fn into_job(alloc: Global, ask: Ask) -> Result<Job, Memory>
     } = ask;
     let limits = limits(alloc, all)?;
     let req = Requirement {
-        interface: root,
+        interface: root.into_text(),
         command,
         limits,
     };

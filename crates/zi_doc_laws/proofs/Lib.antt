@@ -1,4 +1,4 @@
-mod CarriedLaws
+pub mod CarriedLaws
 mod PastLaws
 mod FineLaws
 mod TagLaws

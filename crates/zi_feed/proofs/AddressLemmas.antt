@@ -6,6 +6,7 @@ use Rattle.std.proofs.lemmas.List.{take-append-drop, take_more, length-drop, get
 use Rattle.zi_text.specs.Pieces.{pieces}
 use Rattle.zi_feed.specs.Texts.{pieces_of, is_none, same}
 use Rattle.zi_feed.specs.Address.{without_last, settled}
+use Rattle.zi_feed.proofs.WalkLaws.{walked, walk_settles}
 
 abbrev whole : (List ℕ × List (List ℕ)) → List (List ℕ)
 whole p = p.0 ∷ p.1
@@ -68,24 +69,24 @@ folder_of base folder more k at e =
 
 -- the parts that are left of these, the outermost first
 abbrev pub IsLeft : List (List ℕ) → List (List ℕ) → Type 0
-IsLeft ys parts = (rest : List (List ℕ)) → settled [] (ys ++ rest) ≡ settled (reverse parts) rest
+IsLeft ys parts = (rest : List (List ℕ)) → walked [] (ys ++ rest) ≡ walked (reverse parts) rest
 
-one_more : (ys parts left : List (List ℕ)) (part : List ℕ) → IsLeft ys parts → ((rest : List (List ℕ)) → settled (reverse parts) (part ∷ rest) ≡ settled (reverse left) rest)
+one_more : (ys parts left : List (List ℕ)) (part : List ℕ) → IsLeft ys parts → ((rest : List (List ℕ)) → walked (reverse parts) (part ∷ rest) ≡ walked (reverse left) rest)
     → IsLeft (ys ++ part ∷ []) left
-one_more ys parts left part h step = λ rest. ap (settled []) (append_assoc ys (part ∷ []) rest) ∙ h (part ∷ rest) ∙ step rest
+one_more ys parts left part h step = λ rest. ap (walked []) (append_assoc ys (part ∷ []) rest) ∙ h (part ∷ rest) ∙ step rest
 
 -- a part that is kept, and one that takes away the last
 pub kept : (ys parts : List (List ℕ)) (part : List ℕ) → IsLeft ys parts → (is_none part || same part (codes ".")) ≡ false → same part (codes "..") ≡ false
     → IsLeft (ys ++ part ∷ []) (parts ++ part ∷ [])
 kept ys parts part h falls up =
     let e : reverse (parts ++ part ∷ []) ≡ part ∷ reverse parts = reverse-append parts (part ∷ []) in
-    one_more ys parts (parts ++ part ∷ []) part h (λ rest. rw (falls, up) (ap (λ b. settled b rest) (sym e)))
+    one_more ys parts (parts ++ part ∷ []) part h (λ rest. rw (falls, up) (ap (λ b. walked b rest) (sym e)))
 
 pub taken_away : (ys parts : List (List ℕ)) (part last : List ℕ) → IsLeft ys (parts ++ last ∷ []) → (is_none part || same part (codes ".")) ≡ false → same part (codes "..") ≡ true
     → IsLeft (ys ++ part ∷ []) parts
 taken_away ys parts part last h falls up =
     let e : reverse (parts ++ last ∷ []) ≡ last ∷ reverse parts = reverse-append parts (last ∷ []) in
-    one_more ys (parts ++ last ∷ []) parts part h (λ rest. ap (λ b. settled b (part ∷ rest)) e ∙ rw (falls, up) refl)
+    one_more ys (parts ++ last ∷ []) parts part h (λ rest. ap (λ b. walked b (part ∷ rest)) e ∙ rw (falls, up) refl)
 
 -- all parts, where this one comes behind the first n
 all_parts : (all front : List (List ℕ)) (part : List ℕ) (n : ℕ) → front ≡ take n all → (n < length all) × (part ≡ get_or all n part) → all ≡ front ++ part ∷ drop (suc n) all
@@ -96,13 +97,13 @@ all_parts all front part n e at =
 -- a `..` that has no part before it
 pub above_top : (text : List ℕ) (ys : List (List ℕ)) (part : List ℕ) (n : ℕ) → ys ≡ take n (slice_split (λ b. b == 47) text)
     → (n < length (slice_split (λ b. b == 47) text)) × (part ≡ get_or (slice_split (λ b. b == 47) text) n part) → IsLeft ys []
-    → (is_none part || same part (codes ".")) ≡ false → same part (codes "..") ≡ true → settled [] (pieces_of 47 text) ≡ None
+    → (is_none part || same part (codes ".")) ≡ false → same part (codes "..") ≡ true → settled (pieces_of 47 text) ≡ None
 above_top text ys part n e at h falls up =
-    ap (settled []) (sym (cut_alike text) ∙ all_parts (slice_split (λ b. b == 47) text) ys part n e at) ∙ h (part ∷ drop (suc n) (slice_split (λ b. b == 47) text)) ∙ rw (falls, up) refl
+    sym (walk_settles (pieces_of 47 text)) ∙ ap (walked []) (sym (cut_alike text) ∙ all_parts (slice_split (λ b. b == 47) text) ys part n e at) ∙ h (part ∷ drop (suc n) (slice_split (λ b. b == 47) text)) ∙ rw (falls, up) refl
 
 -- the end of a path
-pub at_end : (ys parts : List (List ℕ)) → IsLeft ys parts → settled [] ys ≡ Some parts
-at_end ys parts h = ap (settled []) (sym (append-nil ys)) ∙ h [] ∙ ap Some (reverse-reverse parts)
+pub at_end : (ys parts : List (List ℕ)) → IsLeft ys parts → settled ys ≡ Some parts
+at_end ys parts h = sym (walk_settles ys) ∙ ap (walked []) (sym (append-nil ys)) ∙ h [] ∙ ap Some (reverse-reverse parts)
 
 -- What `pop` of a list of lent parts answers: one, which was the last.
 pub popped : (ys : List (List ℕ)) (parts left : List (Bor (List ℕ))) (part : List ℕ) (last : Option (Bor (List ℕ))) → IsLeft ys (map (λ x. x.now) parts)

@@ -16,3 +16,4 @@ pub mod RepeatLaws
 pub mod SeenLaws
 pub mod SettledLaws
 pub mod TableLaws
+pub mod WalkLaws

@@ -10,6 +10,7 @@ use Rattle.std.proofs.lemmas.List.{drop_all, reverse-append, append-nil}
 use Rattle.zi_text.specs.Pieces.{pieces}
 use Rattle.zi_feed.specs.Texts.{pieces_of, is_none, same}
 use Rattle.zi_feed.specs.Address.{settled, path_of, is_local}
+use Rattle.zi_feed.proofs.WalkLaws.{walked, walk_settles}
 
 -- the scan of a path, where a slash came last or didn't
 abbrev pub scan : Bool → List ℕ → Bool
@@ -34,10 +35,10 @@ abbrev AllStay : List (List ℕ) → Type 0
 AllStay [] = Unit {0}
 AllStay (p ∷ ps) = ((is_none p || same p (codes ".")) ≡ false) × (same p (codes "..") ≡ false) × AllStay ps
 
-all_stay : (before ps : List (List ℕ)) → AllStay ps → settled before ps ≡ Some (reverse before ++ ps)
+all_stay : (before ps : List (List ℕ)) → AllStay ps → walked before ps ≡ Some (reverse before ++ ps)
 all_stay before [] h = ap Some (sym (append-nil (reverse before)))
 all_stay before (p ∷ ps) h =
-    let step : settled before (p ∷ ps) ≡ settled (p ∷ before) ps = rw (h.0, h.1) refl in
+    let step : walked before (p ∷ ps) ≡ walked (p ∷ before) ps = rw (h.0, h.1) refl in
     let front : reverse (p ∷ before) ≡ reverse before ++ p ∷ [] = reverse-append (p ∷ []) before in
     step ∙ all_stay (p ∷ before) ps h.2 ∙ ap Some (ap (λ l. l ++ ps) front ∙ append_assoc (reverse before) (p ∷ []) ps)
 
@@ -98,11 +99,12 @@ joined (x ∷ xs) = ap (λ p. flat_map (λ q. 47 ∷ q) (p.0 ∷ p.1)) (cut_is x
     by_cut true x xs e h = ap (λ l. 47 ∷ l) h ∙ ap (λ y. 47 ∷ y ∷ xs) (sym (eqb-true x 47 e))
     by_cut false x xs e h = ap (λ l. 47 ∷ x ∷ drop 1 l) h
 
-begun : (x : ℕ) (xs : List ℕ) → (x == 47) ≡ true → scan false (x ∷ xs) ≡ true → option_map path_of (settled [] (pieces_of 47 (x ∷ xs))) ≡ Some (x ∷ xs)
+begun : (x : ℕ) (xs : List ℕ) → (x == 47) ≡ true → scan false (x ∷ xs) ≡ true → option_map path_of (settled (pieces_of 47 (x ∷ xs))) ≡ Some (x ∷ xs)
 begun x xs e k =
     let behind : scan true xs ≡ true = ap (λ b. scan b xs) (sym e) ∙ k in
     let parts : pieces 47 (x ∷ xs) ≡ ([], pieces_of 47 xs) = cut_is x xs ∙ ap (λ b. cut b x xs) e in
-    ap (λ p. option_map path_of (settled [] (p.0 ∷ p.1))) parts
+    ap (option_map path_of) (sym (walk_settles (pieces_of 47 (x ∷ xs))))
+    ∙ ap (λ p. option_map path_of (walked [] (p.0 ∷ p.1))) parts
     ∙ ap (option_map path_of) (all_stay [] (pieces_of 47 xs) ((scanned xs).behind behind))
     ∙ ap Some (joined xs ∙ ap (λ y. y ∷ xs) (sym (eqb-true x 47 e)))
 
@@ -110,26 +112,27 @@ slash_first : (x : ℕ) (xs : List ℕ) → is_local (x ∷ xs) ≡ true → x �
 slash_first x xs h = ap (λ l. get_or l 0 0) ((starts_is Decides-eqb (x ∷ xs) (47 ∷ []) (is_local (x ∷ xs)) refl).0 h)
 
 -- a path that begins with a slash and is scanned to its end
-pub is_settled : (path : List ℕ) → is_local path ≡ true → scan false path ≡ true → option_map path_of (settled [] (pieces_of 47 path)) ≡ Some path
+pub is_settled : (path : List ℕ) → is_local path ≡ true → scan false path ≡ true → option_map path_of (settled (pieces_of 47 path)) ≡ Some path
 is_settled [] h k = absurd (false≢true h)
 is_settled (x ∷ xs) h k = begun x xs (eq-eqb x 47 (slash_first x xs h)) k
 
 -- a `.` says nothing, wherever it stands
-pub dot_away : (before xs ys : List (List ℕ)) → settled before (xs ++ (46 ∷ []) ∷ ys) ≡ settled before (xs ++ ys)
+pub dot_away : (before xs ys : List (List ℕ)) → walked before (xs ++ (46 ∷ []) ∷ ys) ≡ walked before (xs ++ ys)
 unfolding same
 dot_away before [] ys = refl
 dot_away [] (x ∷ xs) ys =
-    let more = settled (x ∷ []) (xs ++ (46 ∷ []) ∷ ys) in
+    let more = walked (x ∷ []) (xs ++ (46 ∷ []) ∷ ys) in
     ap (λ k. if is_none x || same x (codes ".") then k else if same x (codes "..") then None else more) (dot_away [] xs ys)
-    ∙ ap (λ k. if is_none x || same x (codes ".") then settled [] (xs ++ ys) else if same x (codes "..") then None else k) (dot_away (x ∷ []) xs ys)
+    ∙ ap (λ k. if is_none x || same x (codes ".") then walked [] (xs ++ ys) else if same x (codes "..") then None else k) (dot_away (x ∷ []) xs ys)
 dot_away (y ∷ before) (x ∷ xs) ys =
-    let less = settled before (xs ++ (46 ∷ []) ∷ ys) in
-    let more = settled (x ∷ y ∷ before) (xs ++ (46 ∷ []) ∷ ys) in
+    let less = walked before (xs ++ (46 ∷ []) ∷ ys) in
+    let more = walked (x ∷ y ∷ before) (xs ++ (46 ∷ []) ∷ ys) in
     ap (λ k. if is_none x || same x (codes ".") then k else if same x (codes "..") then less else more) (dot_away (y ∷ before) xs ys)
-    ∙ ap (λ k. if is_none x || same x (codes ".") then settled (y ∷ before) (xs ++ ys) else if same x (codes "..") then k else more) (dot_away before xs ys)
-    ∙ ap (λ k. if is_none x || same x (codes ".") then settled (y ∷ before) (xs ++ ys) else if same x (codes "..") then settled before (xs ++ ys) else k) (dot_away (x ∷ y ∷ before) xs ys)
+    ∙ ap (λ k. if is_none x || same x (codes ".") then walked (y ∷ before) (xs ++ ys) else if same x (codes "..") then k else more) (dot_away before xs ys)
+    ∙ ap (λ k. if is_none x || same x (codes ".") then walked (y ∷ before) (xs ++ ys) else if same x (codes "..") then walked before (xs ++ ys) else k) (dot_away (x ∷ y ∷ before) xs ys)
 
 -- so does a `./` at the front of a text
-pub front_away : (text behind rest : List ℕ) → text ≡ 46 ∷ behind → behind ≡ 47 ∷ rest → (front : List (List ℕ)) → settled [] (front ++ pieces_of 47 rest) ≡ settled [] (front ++ pieces_of 47 text)
+pub front_away : (text behind rest : List ℕ) → text ≡ 46 ∷ behind → behind ≡ 47 ∷ rest → (front : List (List ℕ)) → settled (front ++ pieces_of 47 rest) ≡ settled (front ++ pieces_of 47 text)
 front_away text behind rest e f front =
-    sym (ap (λ t. settled [] (front ++ pieces_of 47 t)) (e ∙ ap (λ b. 46 ∷ b) f) ∙ dot_away [] front (pieces_of 47 rest))
+    sym (ap (λ t. settled (front ++ pieces_of 47 t)) (e ∙ ap (λ b. 46 ∷ b) f) ∙ (sym (walk_settles (front ++ (46 ∷ []) ∷ pieces_of 47 rest))
+    ∙ (dot_away [] front (pieces_of 47 rest) ∙ walk_settles (front ++ pieces_of 47 rest))))

@@ -31,7 +31,8 @@ decoded text =
     else if starts_with nat_eq text (codes "sha256new_") then Some (name.Sha256new (bytes_in (drop 10 text)))
     else None
 
--- the digest name that is spelled so
+-- The digest name whose spelling the text is, where there is one: so says the law `digests_are_those_spelled`. It is what the text is
+-- decoded to, where that is spelled so.
 unfoldable pub digest_of : List ℕ → Option DigestName
 digest_of text = option_and_then (λ n. if same (spelling n) text then Some n else None) (decoded text)
 

@@ -1,9 +1,10 @@
 //! What the addresses in a feed mean: in a feed of the web joined to its own by the URL Standard, in a local one placed
 //! after the feed's folder.
 ghost use Rattle.std.specs.Prelude.{◌≡◌, ℕ, List, [], ◌∷◌, ◌++◌, ◌==◌, ◌⊎◌, ◌↔◌, true, Some, IsTrue, IfOk, option_map, map, ◌||◌, codes};
+ghost use Rattle.std.specs.List.{list_all};
 ghost use Rattle.url.specs.Parser.{Gives, Parsed, IsOutOfRoom, parse_url};
 ghost use Rattle.url.specs.Parts.{Parts};
-ghost use Rattle.zi_feed.specs.Address.{is_web as is_web_text, is_local as is_local_text, without_last, settled, path_of, placed, resolved, joined_to, Shows};
+ghost use Rattle.zi_feed.specs.Address.{is_web as is_web_text, is_local as is_local_text, is_seen as is_seen_text, without_last, settled, path_of, placed, resolved, joined_to, Shows};
 ghost use Rattle.zi_feed.specs.Texts.{pieces_of, is_none, same};
 
 use std::alloc::Global;
@@ -18,8 +19,9 @@ use zi_text::{Memory, Text};
 /// other feed the text is joined to the feed's address by the URL Standard.
 ///
 /// None exactly where a `..` has no part before it in a local feed, and elsewhere where the URL Standard refuses the feed's
-/// address or the join, or where the join begins with neither `http://` nor `https://`. Memory is the one refusal; a URL of
-/// 4 GiB or more, which `url` doesn't hold, counts as such.
+/// address or the join, or where the join begins with neither `http://` nor `https://`, or has another character than `!` to
+/// `~`, which the URL Standard's serializer never gives. Memory is the one refusal; a URL of 4 GiB or more, which `url` doesn't
+/// hold, counts as such.
 #[tactic(auto, unfolding(crate::specs::Address::resolved))]
 pub fn resolve(alloc: Global, base: &str, text: &str) -> Result<Option<Text>, Memory>
     ensures { IfOk result (λ address. address ≡ resolved base.now text.now) }
@@ -53,7 +55,7 @@ pub(crate) fn place(alloc: Global, base: &str, text: &str) -> Result<Option<Text
 
 /// A text without a `./` at its front, which says nothing in a path.
 fn without_dot(text: &str) -> &str
-    ensures { (front : List (List ℕ)) → settled [] (front ++ pieces_of 47 result.now) ≡ settled [] (front ++ pieces_of 47 text.now) }
+    ensures { (front : List (List ℕ)) → settled (front ++ pieces_of 47 result.now) ≡ settled (front ++ pieces_of 47 text.now) }
 {
     let Some(behind) = text.strip_prefix('.') else {
         return text;
@@ -75,7 +77,7 @@ fn is_slash_or_dot(b: u8) -> bool
 /// slash nor a dot.
 #[tactic(auto, using(crate::proofs::SettledLaws::scan_on, crate::proofs::SettledLaws::scan_end, crate::proofs::SettledLaws::is_settled))]
 fn is_settled(path: &str) -> bool
-    ensures { result ≡ true → option_map path_of (settled [] (pieces_of 47 path.now)) ≡ Some path.now }
+    ensures { result ≡ true → option_map path_of (settled (pieces_of 47 path.now)) ≡ Some path.now }
 {
     if !is_local(path) {
         return false;
@@ -98,6 +100,20 @@ fn is_web(text: &str) -> bool
     bytes.starts_with(b"http://") || bytes.starts_with(b"https://")
 }
 
+/// Whether a byte is a character that is seen: `!` to `~`.
+fn is_seen_byte(b: u8) -> bool
+    ensures { result ≡ is_seen_text b }
+{
+    b'!' <= b && b <= b'~'
+}
+
+/// Whether a text is of characters that are seen.
+fn is_seen(text: &str) -> bool
+    ensures { result ≡ list_all is_seen_text text.now }
+{
+    text.as_bytes().iter().all(|b| is_seen_byte(*b))
+}
+
 /// Whether a text begins with a slash.
 pub(crate) fn is_local(text: &str) -> bool
     ensures { result ≡ is_local_text text.now }
@@ -117,7 +133,7 @@ fn folder(base: &str) -> &str
 
 /// The path of the parts that are left of a text, or None where a `..` has none before it.
 fn settle(alloc: Global, text: &str) -> Result<Option<Text>, Memory>
-    ensures { IfOk result (λ path. path ≡ option_map path_of (settled [] (pieces_of 47 text.now))) }
+    ensures { IfOk result (λ path. path ≡ option_map path_of (settled (pieces_of 47 text.now))) }
 {
     let mut parts: Vec<&str> = Vec::new(alloc);
     for part in text.split('/') {
@@ -169,7 +185,7 @@ fn join(alloc: Global, base: &str, text: &str) -> Result<Option<Text>, Memory>
         return Ok(None);
     };
     let address = url.as_str();
-    if is_web(address) {
+    if is_web(address) && is_seen(address) {
         Ok(Some(Text::from_str(alloc, address)?))
     } else {
         Ok(None)

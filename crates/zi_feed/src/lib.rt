@@ -16,7 +16,8 @@
 //!
 //! `address` has the meaning of addresses. A local one is the feed's own up to its last slash and the text behind it, as one
 //! text; one loop over its parts keeps those that are left in a list of lent pieces, and `..` takes the last away, so the
-//! work is linear. The rest goes to the kit's `url`. `laws` has one law, of where implementations stand (specs/Places.antt).
+//! work is linear. The rest goes to the kit's `url`. `laws` has two laws: of where implementations stand (specs/Places.antt), and
+//! that a digest is the one that is spelled so.
 #![tactic(auto)]
 
 mod address;
@@ -42,4 +43,4 @@ pub use feed::{
     Binding, Command, Dep, DepKind, Extra, Feed, Impl, Import, Method, Mode, Runner, Step, Word,
 };
 pub use from_tree::{binding_of, command_of, counts_as, counts_as_binding, dep_of, digests_of};
-pub use laws::impls_are_in_order;
+pub use laws::{digests_are_those_spelled, impls_are_in_order};

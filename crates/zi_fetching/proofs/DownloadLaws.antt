@@ -18,15 +18,16 @@ use Rattle.zi_universe.specs.Naming.{with_one, joined}
 use Rattle.zi_universe.proofs.NamingLemmas.{joined_from, listed-without_repeats, listed-with_one, bytes_eq-true}
 use Rattle.zi_feed.specs.Words.{first}
 use Rattle.zi_sels.specs.declared.types.Selection.{Selection}
+use Rattle.zi_sels.specs.Written.{document}
 use Rattle.zi_adding.specs.Trying.{Tried, IsDone, Adds, CostsAll}
 use Rattle.zi_adding.specs.Gains.{Uses, IsKept, Gains, GainsOnly}
 use Rattle.zi_adding.proofs.AddingLemmas.{adds_nothing}
 use Rattle.zi_adding.proofs.HistoryLaws.{AreDone, costs_from, uses_gain, names_only_read, reads_use}
 use Rattle.zi_outcome.specs.declared.outcome.Outcome.{Outcome}
+use Rattle.zi_outcome.specs.Writing.{Prints}
 use Rattle.zi_world.specs.StoreRead.{AreStored}
-use Rattle.zi_choosing.specs.declared.finding.Chosen.{Chosen}
+use Rattle.zi_choosing.specs.declared.chosen.Chosen.{Chosen}
 use Rattle.zi_choosing.specs.Finding.{Sources, FindsBest}
-use Rattle.zi_choosing.specs.SelectParts.{PrintsDocument}
 use Rattle.zi_fetching.specs.Known.{Names, is_known, is_there}
 use Rattle.zi_fetching.specs.Fetching.{From, from_chosen, IsFetched, tried_names, names_in, FetchesInTurn, Fetches, FetchesAll}
 use Rattle.zi_fetching.specs.Download.{HasChosen, StandsIn, AreThere, Downloads}
@@ -172,7 +173,7 @@ all_there c tried old new stored before after names f g = λ s h e.
 
 -- All were fetched, and the document is printed.
 pub fetched_and_printed : (ask : Ask) (before mid : Sources) (c : Chosen) (web then : Feeding) (after : Shelving) (out written : Sinking) (stored : Names) (outcome : Outcome) → FindsBest ask before mid (Ok c)
-    → FetchesAll c (record { web = web; shelf = mid.shelf }) (Ok stored) (record { web = then; shelf = after }) → PrintsDocument c.sels out written outcome
+    → FetchesAll c (record { web = web; shelf = mid.shelf }) (Ok stored) (record { web = then; shelf = after }) → Prints (document c.sels) out written outcome
     → Downloads ask (record { feeds = before.feeds; shelf = before.shelf; web = web; out = out }) (record { feeds = mid.feeds; shelf = after; web = then; out = written }) outcome
 fetched_and_printed ask before mid c web then after out written stored outcome f g p =
     let u = used g.tried before.shelf mid.shelf after f.shelf g.adds in

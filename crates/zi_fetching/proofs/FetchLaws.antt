@@ -24,7 +24,7 @@ use Rattle.zi_adding.proofs.AddingLemmas.{adds_nothing}
 use Rattle.zi_adding.proofs.HistoryLaws.{AreDone, adds_then}
 use Rattle.zi_outcome.specs.declared.outcome.Outcome.{Outcome}
 use Rattle.zi_outcome.specs.declared.outcome.Outcome.TheVariants.{Memory}
-use Rattle.zi_choosing.specs.declared.finding.Chosen.{Chosen}
+use Rattle.zi_choosing.specs.declared.chosen.Chosen.{Chosen}
 use Rattle.zi_fetching.specs.Known.{Names, is_known, is_there}
 use Rattle.zi_fetching.specs.Outcomes.{unmade, unadded}
 use Rattle.zi_fetching.specs.Fetching.{Lent, From, from_chosen, method_of, HasWay, HasNoWay, IsFetchable, IsFetched, tried_names, names_in, FetchesInTurn, FetchesAll, FetchesTree, FetchesOne, FetchesItem}

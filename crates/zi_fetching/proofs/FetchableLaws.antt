@@ -27,7 +27,7 @@ use Rattle.zi_choice.specs.Choice.{Choice, chosen, number, pick, candidate_at}
 use Rattle.zi_choice.specs.Walk.{Walk}
 use Rattle.zi_sels.specs.declared.types.Selection.{Selection}
 use Rattle.zi_sels.specs.Chosen.{selection_by, selected_at, selected_from, selected}
-use Rattle.zi_choosing.specs.declared.finding.Chosen.{Chosen}
+use Rattle.zi_choosing.specs.declared.chosen.Chosen.{Chosen}
 use Rattle.zi_choosing.specs.Finding.{IsChosen}
 use Rattle.zi_fetching.specs.Known.{is_known}
 use Rattle.zi_fetching.specs.Fetching.{from_chosen, method_of, IsFetchable, names_in}

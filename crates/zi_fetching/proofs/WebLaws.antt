@@ -14,7 +14,7 @@ use Rattle.zi_adding.specs.Trying.{Tried}
 use Rattle.zi_outcome.specs.declared.outcome.Outcome.{Outcome}
 use Rattle.zi_world.specs.Asking.{FeedsStay}
 use Rattle.zi_world.proofs.AskingLemmas.{unasked_stay, asks_stay}
-use Rattle.zi_choosing.specs.declared.finding.Chosen.{Chosen}
+use Rattle.zi_choosing.specs.declared.chosen.Chosen.{Chosen}
 use Rattle.zi_fetching.specs.Known.{Names}
 use Rattle.zi_fetching.specs.Fetching.{From, from_chosen, names_in, FailsBy, FailsToFetch, FetchesInTurn, FetchesNot, FetchesTo}
 

@@ -9,15 +9,16 @@ use Rattle.zi_shelf.specs.Shelving.{Shelving}
 use Rattle.zi_shelf.specs.Told.{Told}
 use Rattle.zi_words.specs.declared.request.Ask.{Ask}
 use Rattle.zi_sels.specs.declared.types.Selection.{Selection}
+use Rattle.zi_sels.specs.Written.{document}
 use Rattle.zi_adding.specs.Trying.{Tried, CostsAll}
 use Rattle.zi_adding.specs.Gains.{Uses, GainsOnly}
 use Rattle.zi_outcome.specs.declared.outcome.Outcome.{Outcome}
+use Rattle.zi_outcome.specs.Writing.{Prints}
 use Rattle.zi_world.specs.Asking.{FeedsStay}
 use Rattle.zi_world.specs.Meets.{Meets}
 use Rattle.zi_world.specs.StoreRead.{AreStored}
-use Rattle.zi_choosing.specs.declared.finding.Chosen.{Chosen}
+use Rattle.zi_choosing.specs.declared.chosen.Chosen.{Chosen}
 use Rattle.zi_choosing.specs.Finding.{Sources, IsChosen, FindsOver}
-use Rattle.zi_choosing.specs.SelectParts.{PrintsDocument}
 use Rattle.zi_fetching.specs.Known.{Names}
 use Rattle.zi_fetching.specs.Fetching.{Fetches, FetchesNot}
 
@@ -47,7 +48,7 @@ pub record FetchesAndPrints (c : Chosen) (tried : List Tried) (before after : Me
   pub stored : Names
   pub fetched : Fetches c before.web stored tried after.web
   pub there : AreThere before.shelf after.shelf c.sels.items
-  pub printed : PrintsDocument c.sels before.out after.out outcome
+  pub printed : Prints (document c.sels) before.out after.out outcome
 
 -- Behind the choice: one of the selections can't be fetched, and nothing is written; or the document is printed.
 abbrev pub FetchesThen : Chosen → List Tried → Meets → Meets → Outcome → Type 0

@@ -19,7 +19,7 @@ use Rattle.zi_adding.specs.Trying.{Tried, IsDone, Adds}
 use Rattle.zi_adding.specs.Answers.{Ends}
 use Rattle.zi_outcome.specs.declared.outcome.Outcome.{Outcome}
 use Rattle.zi_outcome.specs.declared.outcome.Outcome.TheVariants.{Memory}
-use Rattle.zi_choosing.specs.declared.finding.Chosen.{Chosen}
+use Rattle.zi_choosing.specs.declared.chosen.Chosen.{Chosen}
 use Rattle.zi_fetching.specs.Known.{Names, names_of, is_there}
 use Rattle.zi_fetching.specs.Outcomes.{unmade, unadded}
 

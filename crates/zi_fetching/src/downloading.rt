@@ -29,7 +29,7 @@ pub fn download<F: Feeds, K: Shelf, W: Web, O: Sink>(
     };
     let _whole = chosen.universe.interfaces();
     match fetch_all(alloc, &chosen, web, shelf) {
-        Ok(_) => put_document(alloc, &chosen.sels, out),
+        Ok(_) => put_document(alloc, &chosen, out),
         Err(outcome) => outcome,
     }
 }

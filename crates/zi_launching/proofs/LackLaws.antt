@@ -1,11 +1,10 @@
 -- What the plan of a choice never fails by: each selection and each folder on its way is there, and so is each command.
-use Rattle.std.proofs.Common.{◌≡◌, ℕ, inl, inr, Bool, true, false, cond, List, [], ◌∷◌, map, find, codes, Option, Some, None, IsSome, option_map, unwrap_or, refl, sym, ◌∙◌, ap, subst, All, Result, Ok, Err}
+use Rattle.std.proofs.Common.{◌≡◌, ℕ, inl, inr, Bool, true, false, cond, List, [], ◌∷◌, map, find, Option, Some, None, IsSome, option_map, refl, sym, ◌∙◌, ap, subst, All, Result, Ok, Err}
 use Rattle.std.specs.Prelude.{IfSome, IsSomeAnd, bytes_eq, if◌then◌else◌}
 use Rattle.std.specs.Option.{option_or}
 use Rattle.std.proofs.lemmas.List.Elements.{All-head, All-tail}
 use Rattle.zi_outside.specs.Launched.{Spawning}
 use Rattle.zi_outside.specs.Vars.{value_of}
-use Rattle.zi_outside.specs.declared.launch.Launch.{Launch}
 use Rattle.zi_outside.specs.declared.var.Var.{Var}
 use Rattle.zi_shelf.specs.Shelving.{Shelving}
 use Rattle.zi_store.specs.declared.verdicts.Verdict.{Verdict}
@@ -19,14 +18,13 @@ use Rattle.zi_bind.specs.declared.fault.ApplyFault.TheVariants as apply
 use Rattle.zi_bind.specs.declared.fault.BindFault.{BindFault}
 use Rattle.zi_sels.specs.declared.types.Selection.{Selection}
 use Rattle.zi_sels.specs.declared.types.Selections.{Selections}
-use Rattle.zi_sels.specs.Written.{command_wanted}
 use Rattle.zi_sels_laws.specs.Whole.{IsNamed, HasCommand, RunnerIsThere, CanBeRun, AreWhole}
 use Rattle.zi_plan.specs.declared.fault.PlanFault.{PlanFault}
 use Rattle.zi_plan.specs.declared.fault.PlanFault.TheVariants as fault
 use Rattle.zi_plan.specs.Placed.{Placed, all_placed, without_folder, placed_for}
-use Rattle.zi_plan.specs.Chain.{Asked, Link, is_met, command_of, command_fault, path_fault, checked_link, link_in, link_of, link_at, link_for, asked_by, behind, Leads, stops, ends, goes_on, no_path, last_fault}
+use Rattle.zi_plan.specs.Chain.{Asked, Link, is_met, command_of, command_fault, path_fault, checked_link, link_in, link_of, link_for, asked_by, behind, Leads, stops, ends, goes_on, no_path, last_fault}
 use Rattle.zi_plan.specs.Launches.{all_bindings, bound_by, binding_fault, chain_words, spoken_all}
-use Rattle.zi_plan.specs.Plans.{fault_by, said, launched, checked, of_chain, by_chain, PlansFrom, PlansCommand, PlansPlaced, Plans}
+use Rattle.zi_plan.specs.Plans.{fault_by, said, launched, checked, of_chain, by_chain, PlansCommand, PlansPlaced, Plans}
 use Rattle.zi_outcome.specs.declared.outcome.Outcome.{Outcome}
 use Rattle.zi_outcome.specs.declared.outcome.Outcome.TheVariants.{Plan}
 use Rattle.zi_fetching.specs.Known.{Names}

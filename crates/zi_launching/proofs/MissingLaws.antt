@@ -18,7 +18,7 @@ use Rattle.zi_adding.specs.Gains.{GainsOnly}
 use Rattle.zi_outcome.specs.declared.outcome.Outcome.{Outcome}
 use Rattle.zi_outcome.specs.declared.outcome.Outcome.TheVariants.{MissingTree}
 use Rattle.zi_world.specs.StoreRead.{AreStored}
-use Rattle.zi_choosing.specs.declared.finding.Chosen.{Chosen}
+use Rattle.zi_choosing.specs.declared.chosen.Chosen.{Chosen}
 use Rattle.zi_fetching.specs.Known.{Names, is_known, is_there}
 use Rattle.zi_fetching.specs.Fetching.{from_chosen, names_in, Fetches}
 use Rattle.zi_fetching.specs.Download.{StandsIn}

@@ -20,7 +20,7 @@ use Rattle.zi_adding.proofs.AddingLemmas.{adds_nothing}
 use Rattle.zi_adding.proofs.HistoryLaws.{AreDone, calm_done, uses_gain, names_only_read, reads_use}
 use Rattle.zi_outcome.specs.declared.outcome.Outcome.{Outcome}
 use Rattle.zi_choosing.specs.Wanted.{requirement_of}
-use Rattle.zi_choosing.specs.declared.finding.Chosen.{Chosen}
+use Rattle.zi_choosing.specs.declared.chosen.Chosen.{Chosen}
 use Rattle.zi_choosing.specs.Finding.{Sources, FindsBest}
 use Rattle.zi_fetching.specs.Known.{Names, is_there}
 use Rattle.zi_fetching.specs.Fetching.{from_chosen, names_in, FetchesAll}

@@ -12,7 +12,7 @@ use Rattle.zi_outcome.specs.declared.outcome.Outcome.{Outcome}
 use Rattle.zi_outcome.specs.declared.outcome.Outcome.TheVariants.{MissingTree, Plan}
 use Rattle.zi_world.specs.Asking.{FeedsStay}
 use Rattle.zi_world.specs.Surroundings.{Surroundings, meets_of, NothingStarted}
-use Rattle.zi_choosing.specs.declared.finding.Chosen.{Chosen}
+use Rattle.zi_choosing.specs.declared.chosen.Chosen.{Chosen}
 use Rattle.zi_choosing.specs.Finding.{FindsOver}
 use Rattle.zi_fetching.specs.Known.{Names}
 use Rattle.zi_fetching.specs.Fetching.{Fetches, FetchesNot}

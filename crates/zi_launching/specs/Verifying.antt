@@ -10,6 +10,9 @@ use Rattle.zi_shelf.specs.Told.{Told}
 use Rattle.zi_store.specs.declared.verdicts.Verdict.{Verdict}
 use Rattle.zi_store.specs.declared.verdicts.Verdict.TheVariants as verdict
 use Rattle.zi_store.specs.Verdicts.{Verifies}
+use Rattle.zi_store.specs.Kept.{HoldsSound}
+use Rattle.zi_store.specs.KeptNames.{IsKept}
+use Rattle.zi_store.specs.declared.checked.Checked.{Checked}
 use Rattle.zi_outcome.specs.declared.outcome.Outcome.{Outcome}
 use Rattle.zi_outcome.specs.declared.outcome.Outcome.TheVariants.{MissingTree, DamagedTree, BadName, TreeTooLarge, StoreFault, Memory}
 use Rattle.zi_world.specs.Shelves.{ShelfFailed}
@@ -43,10 +46,6 @@ FailsToVerify d before outcome after =
     ((v : Verdict) × Condemns d v outcome × IsCalm before after × HeldThen before after (λ s. Verifies d (Ok v) s))
     ⊎ (((outcome ≡ StoreFault (spelling d)) × ShelfFailed before after) ⊎ ((outcome ≡ Memory) × IsCalm before after))
 
-abbrev pub VerifiesOne : DigestName → Shelving → Result (Unit {0}) Outcome → Shelving → Type 0
-VerifiesOne d before (Ok x) after = IsCalm before after × HeldThen before after (λ s. IsSound s d)
-VerifiesOne d before (Err outcome) after = FailsToVerify d before outcome after
-
 -- those before one are sound, and that one isn't found so
 pub record StopsVerifying (names : List DigestName) (before : Shelving) (outcome : Outcome) (after : Shelving) : Type 0 where
   pub place : ℕ
@@ -60,6 +59,23 @@ VerifiesAll names before (Ok x) after = IsCalm before after × HeldThen before a
 VerifiesAll names before (Err outcome) after = StopsVerifying names before outcome after
 
 -- Parts of the work.
+
+-- The same of one tree where its name may be kept: what is said of it holds where a kept name has such a tree.
+abbrev pub WhereKept : Type 0 → DigestName → (Shelved Dir → Type 0) → Shelved Dir → Type 0
+WhereKept kept d P s = (kept → HoldsSound d s) → P s
+
+abbrev pub FailsKept : Type 0 → DigestName → Shelving → Outcome → Shelving → Type 0
+FailsKept kept d before outcome after =
+    ((v : Verdict) × Condemns d v outcome × IsCalm before after × HeldThen before after (WhereKept kept d (λ s. Verifies d (Ok v) s)))
+    ⊎ (((outcome ≡ StoreFault (spelling d)) × ShelfFailed before after) ⊎ ((outcome ≡ Memory) × IsCalm before after))
+
+abbrev pub VerifiesKept : Type 0 → DigestName → Shelving → Result (Unit {0}) Outcome → Shelving → Type 0
+VerifiesKept kept d before (Ok x) after = IsCalm before after × HeldThen before after (WhereKept kept d (λ s. IsSound s d))
+VerifiesKept kept d before (Err outcome) after = FailsKept kept d before outcome after
+
+-- each name that is kept has such a tree
+abbrev pub KeepSound : Checked → Shelved Dir → Type 0
+KeepSound c s = (n : DigestName) → IsKept c n → HoldsSound n s
 
 -- the outcome of a tree with another digest
 abbrev pub IsDamaged : List ℕ → DigestName → Outcome → Type 0

@@ -5,7 +5,7 @@ use Rattle.zi_outside.specs.Views.{Sinking}
 use Rattle.zi_outside.specs.Outside.{Writes, WritesFront}
 use Rattle.zi_outcome.specs.Writing.{StopsShort}
 use Rattle.zi_outcome.specs.declared.outcome.Outcome.{Outcome}
-use Rattle.zi_outcome.specs.declared.outcome.Outcome.TheVariants.{Done, Usage, FeedRead, NoRootFeed, BadFeed, FeedTooLong, TooManyFeeds, TooManyInterfaces, TooManyCandidates, TooLarge, NoSolution, Spent, NoFile, BadSels, BadProof, Rejected, Plan, FetchRead, NoRemote, WrongSize, Overlap, NoPath, Mismatch, MissingTree, DamagedTree, BadName, TreeTooLarge, StoreFault, Crowded, Unwritable, SpawnFault, SinkFault, Memory, Child}
+use Rattle.zi_outcome.specs.declared.outcome.Outcome.TheVariants.{Done, Usage, FeedRead, NoRootFeed, BadFeed, FeedTooLong, TooManyFeeds, TooManyInterfaces, TooManyCandidates, TooLarge, NoSolution, Spent, NoFile, BadSels, BadProof, Rejected, Plan, FetchRead, NoRemote, WrongSize, Overlap, NoPath, Mismatch, MissingTree, DamagedTree, BadName, TreeTooLarge, StoreFault, Crowded, SpawnFault, SinkFault, Memory, Child}
 use Rattle.zi_universe.specs.declared.fault.BadFeed.{BadFeed as Fault}
 use Rattle.zi_universe.specs.declared.fault.BadFeed.TheVariants as bad
 use Rattle.zi_tree.specs.declared.change.TreeLimit.{TreeLimit}
@@ -79,7 +79,6 @@ text_of (BadName path) = codes "bad name " ++ path
 text_of (TreeTooLarge what limit) = codes "tree too large: " ++ measure_of what ++ codes " past " ++ decimal limit
 text_of (StoreFault name) = codes "store fault at " ++ name
 text_of (Crowded tried) = decimal tried ++ codes " temporary names taken"
-text_of (Unwritable place) = codes "cannot write element " ++ decimal place
 text_of SpawnFault = codes "cannot start the program"
 text_of SinkFault = codes "cannot write"
 text_of Memory = codes "out of memory"
@@ -120,7 +119,6 @@ code_of (BadName path) = 88
 code_of (TreeTooLarge what limit) = 89
 code_of (StoreFault name) = 90
 code_of (Crowded tried) = 91
-code_of (Unwritable place) = 96
 code_of SpawnFault = 92
 code_of SinkFault = 93
 code_of Memory = 94

@@ -304,9 +304,6 @@ pub fn tell<E: Sink>(outcome: &Outcome, err: &mut E) -> Result<(), SinkFault>
         Outcome::Crowded { tried } => {
             put_around(b"zi: ", u64::from(*tried), b" temporary names taken\n", err)
         }
-        Outcome::Unwritable { place } => {
-            put_around(b"zi: cannot write element ", *place, b"\n", err)
-        }
         Outcome::SpawnFault => put_piece(b"zi: cannot start the program\n", err),
         Outcome::SinkFault => put_piece(b"zi: cannot write\n", err),
         Outcome::Memory => put_piece(b"zi: out of memory\n", err),

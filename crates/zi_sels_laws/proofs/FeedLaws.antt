@@ -53,9 +53,9 @@ placed_local base text = either (is_local text) refl
     of_parts None = refl
     of_parts (Some parts) = ap not (path_local parts)
 
-    either : (b : Bool) → is_local text ≡ b → is_wrong is_local (if b then Some text else option_map path_of (settled [] (without_last (pieces_of 47 base) ++ pieces_of 47 text))) ≡ false
+    either : (b : Bool) → is_local text ≡ b → is_wrong is_local (if b then Some text else option_map path_of (settled (without_last (pieces_of 47 base) ++ pieces_of 47 text))) ≡ false
     either true h = ap not h
-    either false h = of_parts (settled [] (without_last (pieces_of 47 base) ++ pieces_of 47 text))
+    either false h = of_parts (settled (without_last (pieces_of 47 base) ++ pieces_of 47 text))
 
 local_given : (uri : List ℕ) (s : Said) (e : Elem) → is_wrong is_local (local_of (Some uri) s e) ≡ false
 local_given uri s e = either (is_local uri) (local_text s e)

@@ -1,29 +1,29 @@
-mod LikeLaws
-mod FieldLaws
-mod PlainLaws
-mod CleanLaws
-mod BindingLaws
-mod DepLaws
-mod WordLaws
-mod RunnerLaws
-mod CommandLaws
-mod DigestsLaws
-mod ItemLaws
-mod AskedLaws
-mod RootLaws
-mod FreeLaws
-mod SoundLaws
-mod SaidLaws
-mod ReadBackLaws
-mod GivenLaws
-mod AlongLaws
-mod ApartLaws
-mod SpelledLaws
-mod FeedLaws
-mod EachLaws
-mod LoadedLaws
-mod SelectedLaws
-mod MadeLaws
-mod UsedLaws
-mod ChosenLaws
+pub mod LikeLaws
+pub mod FieldLaws
+pub mod PlainLaws
+pub mod CleanLaws
+pub mod BindingLaws
+pub mod DepLaws
+pub mod WordLaws
+pub mod RunnerLaws
+pub mod CommandLaws
+pub mod DigestsLaws
+pub mod ItemLaws
+pub mod AskedLaws
+pub mod RootLaws
+pub mod FreeLaws
+pub mod SoundLaws
+pub mod SaidLaws
+pub mod ReadBackLaws
+pub mod GivenLaws
+pub mod AlongLaws
+pub mod ApartLaws
+pub mod SpelledLaws
+pub mod FeedLaws
+pub mod EachLaws
+pub mod LoadedLaws
+pub mod SelectedLaws
+pub mod MadeLaws
+pub mod UsedLaws
+pub mod ChosenLaws
 pub mod WholeLaws

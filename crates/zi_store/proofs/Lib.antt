@@ -9,6 +9,7 @@ pub mod ListingLemmas
 pub mod FrontLemmas
 pub mod LoopLemmas
 pub mod WritingLemmas
+pub mod SomeTreeLemmas
 pub mod LeafLemmas
 pub mod TreeLemmas
 pub mod ManifestLemmas

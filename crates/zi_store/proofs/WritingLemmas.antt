@@ -36,7 +36,7 @@ use Rattle.zi_store.proofs.StandingLemmas.{folder_there}
 use Rattle.zi_store.proofs.WalkLemmas.{leaves_entry, folders_entry, passes_none, passes_then, stops_nodes, stops_size}
 use Rattle.zi_store.proofs.LoopLemmas.{Split, turn, turn_listed, split_more, split_end, leaves_split, leaves_more, folders_split, folders_more, stops_in}
 
-or_none : (o : Option (List ℕ)) → option_or o None ≡ o
+pub or_none : (o : Option (List ℕ)) → option_or o None ≡ o
 or_none None = refl
 or_none (Some x) = refl
 
@@ -51,13 +51,13 @@ adds_then old mid new l m b c p q = record {
 }
 
 -- the lines of some entries and of others
-text_split : (a : Algorithm) (done rest : List Item) → leaf_text (sketch a (dir (done ++ rest))) ≡ leaf_text (sketch a (dir done)) ++ leaf_text (sketch a (dir rest))
+pub text_split : (a : Algorithm) (done rest : List Item) → leaf_text (sketch a (dir (done ++ rest))) ≡ leaf_text (sketch a (dir done)) ++ leaf_text (sketch a (dir rest))
 text_split a [] rest = refl
 text_split a (i ∷ done) rest =
     text_entry a false i.0 i.1 (dir (done ++ rest)) ∙ ap (λ l. node_text a false i.0 i.1 ++ l) (text_split a done rest)
     ∙ sym (append_assoc (node_text a false i.0 i.1) (leaf_text (sketch a (dir done))) (leaf_text (sketch a (dir rest)))) ∙ ap (λ l. l ++ leaf_text (sketch a (dir rest))) (sym (text_entry a false i.0 i.1 (dir done)))
 
-bad_split : (p : List ℕ) (done rest : List Item) → leaf_bad p (dir (done ++ rest)) ≡ option_or (leaf_bad p (dir done)) (leaf_bad p (dir rest))
+pub bad_split : (p : List ℕ) (done rest : List Item) → leaf_bad p (dir (done ++ rest)) ≡ option_or (leaf_bad p (dir done)) (leaf_bad p (dir rest))
 bad_split p [] rest = refl
 bad_split p (i ∷ done) rest =
     bad_entry false p i.0 i.1 (dir (done ++ rest)) ∙ ap (option_or (node_bad false p i.0 i.1)) (bad_split p done rest)
@@ -69,13 +69,13 @@ text_more a done n x = text_split a done ((n, x) ∷ []) ∙ ap (λ l. leaf_text
 bad_more : (p : List ℕ) (done : List Item) (n : Name) (x : TreeNode) → leaf_bad p (dir (done ++ (n, x) ∷ [])) ≡ option_or (leaf_bad p (dir done)) (node_bad false p n x)
 bad_more p done n x = bad_split p done ((n, x) ∷ []) ∙ ap (option_or (leaf_bad p (dir done))) (bad_entry false p n x Nothing ∙ or_none (node_bad false p n x))
 
-inner_split : (a : Algorithm) (p : List ℕ) (done rest : List Item) → folder_text p (sketch a (dir (done ++ rest))) ≡ folder_text p (sketch a (dir done)) ++ folder_text p (sketch a (dir rest))
+pub inner_split : (a : Algorithm) (p : List ℕ) (done rest : List Item) → folder_text p (sketch a (dir (done ++ rest))) ≡ folder_text p (sketch a (dir done)) ++ folder_text p (sketch a (dir rest))
 inner_split a p [] rest = refl
 inner_split a p (i ∷ done) rest =
     inner_text_entry a p i.0 i.1 (dir (done ++ rest)) ∙ ap (λ l. inner_text a p i.0 i.1 ++ l) (inner_split a p done rest)
     ∙ sym (append_assoc (inner_text a p i.0 i.1) (folder_text p (sketch a (dir done))) (folder_text p (sketch a (dir rest)))) ∙ ap (λ l. l ++ folder_text p (sketch a (dir rest))) (sym (inner_text_entry a p i.0 i.1 (dir done)))
 
-inner_bad_split : (p : List ℕ) (done rest : List Item) → folder_bad p (dir (done ++ rest)) ≡ option_or (folder_bad p (dir done)) (folder_bad p (dir rest))
+pub inner_bad_split : (p : List ℕ) (done rest : List Item) → folder_bad p (dir (done ++ rest)) ≡ option_or (folder_bad p (dir done)) (folder_bad p (dir rest))
 inner_bad_split p [] rest = refl
 inner_bad_split p (i ∷ done) rest =
     inner_bad_entry p i.0 i.1 (dir (done ++ rest)) ∙ ap (option_or (inner_bad p i.0 i.1)) (inner_bad_split p done rest)
@@ -252,7 +252,7 @@ folder_bads p n i =
     let within = option_or (leaf_bad (joined p n) i) (folder_bad (joined p n) i) in
     elim (is_bad n) as (λ t. option_or (if t then Some (joined p n) else None) within ≡ (if t then Some (joined p n) else within)) [ true ↦ refl | false ↦ refl ]
 
-adds_inner : (r : Result (Unit {0}) Stop) (a : Algorithm) (p n q : List ℕ) (i : Dir) (old noted new : Written) → q ≡ joined p n → Adds old noted [] (bad_name p n)
+pub adds_inner : (r : Result (Unit {0}) Stop) (a : Algorithm) (p n q : List ℕ) (i : Dir) (old noted new : Written) → q ≡ joined p n → Adds old noted [] (bad_name p n)
     → OnOk r (Adds noted new (folder_line q ++ (leaf_text (sketch a i) ++ folder_text q (sketch a i))) (option_or (leaf_bad q i) (folder_bad q i))) → OnOk r (Adds old new (inner_text a p n (Folder i)) (inner_bad p n (Folder i)))
 adds_inner (Ok u) a p n q i old noted new e p1 p2 =
     let here : Adds noted new (folder_line (joined p n) ++ (leaf_text (sketch a i) ++ folder_text (joined p n) (sketch a i))) (option_or (leaf_bad (joined p n) i) (folder_bad (joined p n) i)) =

@@ -5,7 +5,7 @@ use Rattle.zi_digest.specs.declared.Algorithm.{Algorithm}
 use Rattle.zi_shelf.specs.Names.{Name}
 use Rattle.zi_shelf.specs.Shelved.{Top, Shelved}
 use Rattle.zi_shelf.specs.declared.shelf.ShelfFault.{ShelfFault}
-use Rattle.zi_manifest.specs.Manifest.{as_read, first_bad, manifest}
+use Rattle.zi_manifest.specs.Manifest.{as_read, first_bad, manifest, HasManifest}
 use Rattle.zi_store.specs.Walking.{passed, limit_of}
 use Rattle.zi_store.specs.declared.stop.Stop.{Stop}
 use Rattle.zi_store.specs.declared.stop.Stop.TheVariants as stop
@@ -21,7 +21,15 @@ ReadsManifest a top (Ok (read.BadName path)) s = (e : Top Dir) × (s.tops top �
 ReadsManifest a top (Ok (read.TooLarge what limit)) s = (e : Top Dir) × (s.tops top ≡ Some e) × (passed (as_read e.tree) ≡ Some what) × (limit ≡ limit_of what)
 ReadsManifest a top (Err e) s = Unit {0}
 
--- the same of the walk through the tree
+-- What holds whatever the shelf is: a text is the manifest of some tree, and a bad name is the first one of some tree.
+abbrev pub IsOfSomeTree : Algorithm → Result ManifestRead ShelfFault → Type 0
+IsOfSomeTree a (Ok (read.Read text)) = (d : Dir) × HasManifest d × (text ≡ manifest a d)
+IsOfSomeTree a (Ok (read.BadName path)) = (d : Dir) × (first_bad (as_read d) ≡ Some path)
+IsOfSomeTree a (Ok read.Missing) = Unit {0}
+IsOfSomeTree a (Ok (read.TooLarge what limit)) = Unit {0}
+IsOfSomeTree a (Err e) = Unit {0}
+
+-- the same as ReadsManifest of the walk through the tree
 abbrev pub WritesWhole : Algorithm → Name → Result Written Stop → Shelved Dir → Type 0
 WritesWhole a top (Ok w) s = (e : Top Dir) × (s.tops top ≡ Some e) × (passed (as_read e.tree) ≡ None) × (w.bad ≡ first_bad (as_read e.tree)) × (w.text.items ≡ manifest a e.tree)
 WritesWhole a top (Err stop.Missing) s = s.tops top ≡ None

@@ -1,10 +1,11 @@
 //! The manifest of a tree on a shelf.
 
-ghost use Rattle.std.specs.Prelude.{◌≡◌, Err, Some};
+ghost use Rattle.std.specs.Prelude.{◌≡◌, Err, Some, IfOk};
 ghost use Rattle.zi_digest.specs.declared.Algorithm.{Algorithm as Alg};
 ghost use Rattle.zi_shelf.specs.Told.{Told, Rose};
 ghost use Rattle.zi_store.specs.Keeping.{Keeps, is_reading};
-ghost use Rattle.zi_store.specs.ManifestAnswers.{Ends, ReadsManifest, WritesWhole};
+ghost use Rattle.zi_store.specs.ManifestAnswers.{Ends, IsOfSomeTree, ReadsManifest, WritesWhole};
+ghost use Rattle.zi_store.specs.Written.{IsOfTree};
 
 use crate::counts::limit_of;
 use crate::listings::listing;
@@ -34,8 +35,8 @@ pub enum ManifestRead {
 /// hashed piece by piece: no more than one piece is held.
 ///
 /// Missing comes exactly where there is no such entry, TooLarge exactly where the tree passes a limit, as `read_tree` says, with
-/// the first one; else BadName exactly where a name is bad, with the first one. Failed comes only where the shelf's count of
-/// faults rose, Memory where memory is refused.
+/// the first one; else BadName exactly where a name is bad, with the first one. Whatever the shelf is, a text is the manifest of
+/// some tree. Failed comes only where the shelf's count of faults rose, Memory where memory is refused.
 pub fn manifest_of<K: Shelf>(
     alloc: Global,
     top: &str,
@@ -43,6 +44,7 @@ pub fn manifest_of<K: Shelf>(
     k: &mut K,
 ) -> Result<ManifestRead, ShelfFault>
     ensures manifest { (s : Told) → (K.seen k.old).honest → (K.seen k.old).told ≡ Some s → ReadsManifest a top.now result s.shelf }
+    ensures tree { IsOfSomeTree a result }
     ensures keeps { Keeps is_reading (K.seen k.old) (K.seen k.new) }
     ensures cause { result ≡ Err ShelfFault.Failed → Rose ((K.seen k.old).faults) ((K.seen k.new).faults) }
     ensures count { (result ≡ Err ShelfFault.Failed → ⊥) → (K.seen k.new).faults ≡ (K.seen k.old).faults }
@@ -78,6 +80,7 @@ fn whole_manifest<K: Shelf>(
     k: &mut K,
 ) -> Result<Written, Stop>
     ensures manifest { (s : Told) → (K.seen k.old).honest → (K.seen k.old).told ≡ Some s → WritesWhole a top.now result s.shelf }
+    ensures tree { IfOk result (λ written. IsOfTree a written) }
     ensures keeps { Keeps is_reading (K.seen k.old) (K.seen k.new) }
     ensures cause { result ≡ Err (Stop.Fault ShelfFault.Failed) → Rose ((K.seen k.old).faults) ((K.seen k.new).faults) }
     ensures count { (result ≡ Err (Stop.Fault ShelfFault.Failed) → ⊥) → (K.seen k.new).faults ≡ (K.seen k.old).faults }

@@ -5,7 +5,7 @@ ghost use Rattle.zi_tree.specs.declared.tree.TreeNode.TheVariants.{File};
 ghost use Rattle.zi_shelf.specs.Told.{Rose};
 ghost use Rattle.zi_store.specs.Keeping.{Keeps, is_reading};
 ghost use Rattle.zi_store.specs.Standing.{StandsNode};
-ghost use Rattle.zi_store.specs.Written.{HashesBytes};
+ghost use Rattle.zi_store.specs.Written.{HashesBytes, HashesSome};
 
 use crate::calls::ask_bytes;
 use crate::stop::Stop;
@@ -35,6 +35,7 @@ pub(crate) fn hash_file<K: Shelf>(
 ) -> Result<Hashed, Stop>
     requires { limit ≤ 268435456 }
     ensures hash { (bytes : List ℕ) (exec : Bool) (mtime : ℤ) → StandsNode ((K.seen k.old).honest) ((K.seen k.old).told) top.now path.now (File bytes exec mtime) → HashesBytes a bytes limit result }
+    ensures some { IfOk result (λ hashed. HashesSome a hashed) }
     ensures size { IfOk result (λ hashed. hashed.size ≤ limit) }
     ensures keeps { Keeps is_reading (K.seen k.old) (K.seen k.new) }
     ensures cause { result ≡ Err (Stop.Fault ShelfFault.Failed) → Rose ((K.seen k.old).faults) ((K.seen k.new).faults) }

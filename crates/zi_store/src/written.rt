@@ -15,7 +15,7 @@ ghost use Rattle.zi_store.specs.Keeping.{Keeps, is_reading};
 ghost use Rattle.zi_store.specs.Standing.{Stands, StandsNode, IsListed};
 ghost use Rattle.zi_store.specs.Walking.{met, leaves_met};
 ghost use Rattle.zi_store.specs.Entries.{entries_of, leaf_met, inner_met, Walks};
-ghost use Rattle.zi_store.specs.Written.{Adds};
+ghost use Rattle.zi_store.specs.Written.{Adds, AddsAll, AddsFolder, AddsFolders, AddsLeaves};
 
 use crate::calls::ask_target;
 use crate::counts::{Counts, SIZE_LIMIT};
@@ -154,6 +154,7 @@ pub(crate) fn write_folder<K: Shelf>(
     requires { at.depth ≤ 64 }
     ensures walks { (whole : Bool) (d : Dir) → Stands ((K.seen k.old).honest) ((K.seen k.old).told) at.entry.top.now at.entry.path.now d → is_tree d ≡ true → entries.now ≡ entries_of (shown whole d) → Walks tt (met at.entry.depth (shown whole d)) written.old.counts.nodes written.old.counts.bytes result written.new.counts.nodes written.new.counts.bytes }
     ensures adds { (whole : Bool) (d : Dir) → Stands ((K.seen k.old).honest) ((K.seen k.old).told) at.entry.top.now at.entry.path.now d → is_tree d ≡ true → entries.now ≡ entries_of (shown whole d) → OnOk result (Adds written.old written.new (leaf_text (sketch a (shown whole d)) ++ folder_text at.entry.text.now (sketch a (shown whole d))) (option_or (leaf_bad at.entry.text.now (shown whole d)) (folder_bad at.entry.text.now (shown whole d)))) }
+    ensures tree { OnOk result (AddsAll a at.entry.text.now written.old written.new) }
     ensures keeps { Keeps is_reading (K.seen k.old) (K.seen k.new) }
     ensures cause { result ≡ Err (Stop.Fault ShelfFault.Failed) → Rose ((K.seen k.old).faults) ((K.seen k.new).faults) }
     ensures count { (result ≡ Err (Stop.Fault ShelfFault.Failed) → ⊥) → (K.seen k.new).faults ≡ (K.seen k.old).faults }
@@ -177,6 +178,7 @@ fn write_leaves<K: Shelf>(
 ) -> Result<(), Stop>
     ensures walks { (whole : Bool) (d : Dir) → Stands ((K.seen k.old).honest) ((K.seen k.old).told) at.entry.top.now at.entry.path.now d → is_tree d ≡ true → entries.now ≡ entries_of (shown whole d) → Walks tt (leaves_met (shown whole d)) written.old.counts.nodes written.old.counts.bytes result written.new.counts.nodes written.new.counts.bytes }
     ensures adds { (whole : Bool) (d : Dir) → Stands ((K.seen k.old).honest) ((K.seen k.old).told) at.entry.top.now at.entry.path.now d → is_tree d ≡ true → entries.now ≡ entries_of (shown whole d) → OnOk result (Adds written.old written.new (leaf_text (sketch a (shown whole d))) (leaf_bad at.entry.text.now (shown whole d))) }
+    ensures tree { OnOk result (AddsLeaves a at.entry.text.now written.old written.new) }
     ensures keeps { Keeps is_reading (K.seen k.old) (K.seen k.new) }
     ensures cause { result ≡ Err (Stop.Fault ShelfFault.Failed) → Rose ((K.seen k.old).faults) ((K.seen k.new).faults) }
     ensures count { (result ≡ Err (Stop.Fault ShelfFault.Failed) → ⊥) → (K.seen k.new).faults ≡ (K.seen k.old).faults }
@@ -200,6 +202,7 @@ fn write_leaf<K: Shelf>(
 ) -> Result<(), Stop>
     ensures walks { (x : Node) → IsListed ((K.seen k.old).honest) ((K.seen k.old).told) at.entry.top.now at.entry.path.now entry.now x → Walks tt (leaf_met x) written.old.counts.nodes written.old.counts.bytes result written.new.counts.nodes written.new.counts.bytes }
     ensures adds { (x : Node) → IsListed ((K.seen k.old).honest) ((K.seen k.old).told) at.entry.top.now at.entry.path.now entry.now x → OnOk result (Adds written.old written.new (node_text a false entry.now.name x) (node_bad false at.entry.text.now entry.now.name x)) }
+    ensures tree { OnOk result (AddsLeaves a at.entry.text.now written.old written.new) }
     ensures keeps { Keeps is_reading (K.seen k.old) (K.seen k.new) }
     ensures cause { result ≡ Err (Stop.Fault ShelfFault.Failed) → Rose ((K.seen k.old).faults) ((K.seen k.new).faults) }
     ensures count { (result ≡ Err (Stop.Fault ShelfFault.Failed) → ⊥) → (K.seen k.new).faults ≡ (K.seen k.old).faults }
@@ -230,6 +233,7 @@ fn write_link<K: Shelf>(
 ) -> Result<(), Stop>
     ensures walks { (target : List ℕ) → StandsNode ((K.seen k.old).honest) ((K.seen k.old).told) at.entry.top.now path.now (Link target) → Walks tt (leaf_met (Link target)) written.old.counts.nodes written.old.counts.bytes result written.new.counts.nodes written.new.counts.bytes }
     ensures adds { (target : List ℕ) → StandsNode ((K.seen k.old).honest) ((K.seen k.old).told) at.entry.top.now path.now (Link target) → OnOk result (Adds written.old written.new (node_text a false name.now (Link target)) (node_bad false at.entry.text.now name.now (Link target))) }
+    ensures tree { OnOk result (AddsLeaves a at.entry.text.now written.old written.new) }
     ensures keeps { Keeps is_reading (K.seen k.old) (K.seen k.new) }
     ensures cause { result ≡ Err (Stop.Fault ShelfFault.Failed) → Rose ((K.seen k.old).faults) ((K.seen k.new).faults) }
     ensures count { (result ≡ Err (Stop.Fault ShelfFault.Failed) → ⊥) → (K.seen k.new).faults ≡ (K.seen k.old).faults }
@@ -255,6 +259,7 @@ fn write_file<K: Shelf>(
 ) -> Result<(), Stop>
     ensures walks { (bytes : List ℕ) → StandsNode ((K.seen k.old).honest) ((K.seen k.old).told) at.entry.top.now path.now (File bytes exec mtime) → Walks tt (leaf_met (File bytes exec mtime)) written.old.counts.nodes written.old.counts.bytes result written.new.counts.nodes written.new.counts.bytes }
     ensures adds { (bytes : List ℕ) → StandsNode ((K.seen k.old).honest) ((K.seen k.old).told) at.entry.top.now path.now (File bytes exec mtime) → OnOk result (Adds written.old written.new (node_text a false name.now (File bytes exec mtime)) (node_bad false at.entry.text.now name.now (File bytes exec mtime))) }
+    ensures tree { OnOk result (AddsLeaves a at.entry.text.now written.old written.new) }
     ensures keeps { Keeps is_reading (K.seen k.old) (K.seen k.new) }
     ensures cause { result ≡ Err (Stop.Fault ShelfFault.Failed) → Rose ((K.seen k.old).faults) ((K.seen k.new).faults) }
     ensures count { (result ≡ Err (Stop.Fault ShelfFault.Failed) → ⊥) → (K.seen k.new).faults ≡ (K.seen k.old).faults }
@@ -282,6 +287,7 @@ fn write_inner<K: Shelf>(
     requires { at.depth ≤ 64 }
     ensures walks { (x : Node) → IsListed ((K.seen k.old).honest) ((K.seen k.old).told) at.entry.top.now at.entry.path.now entry.now x → node_is_tree x ≡ true → Walks tt (inner_met at.entry.depth x) written.old.counts.nodes written.old.counts.bytes result written.new.counts.nodes written.new.counts.bytes }
     ensures adds { (x : Node) → IsListed ((K.seen k.old).honest) ((K.seen k.old).told) at.entry.top.now at.entry.path.now entry.now x → node_is_tree x ≡ true → OnOk result (Adds written.old written.new (inner_text a at.entry.text.now entry.now.name x) (inner_bad at.entry.text.now entry.now.name x)) }
+    ensures tree { OnOk result (AddsFolders a at.entry.text.now written.old written.new) }
     ensures keeps { Keeps is_reading (K.seen k.old) (K.seen k.new) }
     ensures cause { result ≡ Err (Stop.Fault ShelfFault.Failed) → Rose ((K.seen k.old).faults) ((K.seen k.new).faults) }
     ensures count { (result ≡ Err (Stop.Fault ShelfFault.Failed) → ⊥) → (K.seen k.new).faults ≡ (K.seen k.old).faults }
@@ -317,6 +323,7 @@ fn write_deeper<K: Shelf>(
     requires { at.depth ≤ 65 }
     ensures walks { (inside : Dir) → Stands ((K.seen k.old).honest) ((K.seen k.old).told) at.entry.top.now at.entry.path.now inside → is_tree inside ≡ true → Walks tt (record { depth = at.entry.depth; size = 0 } ∷ met at.entry.depth inside) written.old.counts.nodes written.old.counts.bytes result written.new.counts.nodes written.new.counts.bytes }
     ensures adds { (inside : Dir) → Stands ((K.seen k.old).honest) ((K.seen k.old).told) at.entry.top.now at.entry.path.now inside → is_tree inside ≡ true → OnOk result (Adds written.old written.new (folder_line at.entry.text.now ++ (leaf_text (sketch a inside) ++ folder_text at.entry.text.now (sketch a inside))) (option_or (leaf_bad at.entry.text.now inside) (folder_bad at.entry.text.now inside))) }
+    ensures tree { OnOk result (AddsFolder a at.entry.text.now written.old written.new) }
     ensures keeps { Keeps is_reading (K.seen k.old) (K.seen k.new) }
     ensures cause { result ≡ Err (Stop.Fault ShelfFault.Failed) → Rose ((K.seen k.old).faults) ((K.seen k.new).faults) }
     ensures count { (result ≡ Err (Stop.Fault ShelfFault.Failed) → ⊥) → (K.seen k.new).faults ≡ (K.seen k.old).faults }

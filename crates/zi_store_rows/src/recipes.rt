@@ -4,77 +4,62 @@ use std::test::Fail;
 use zi_feed::{Method, Step};
 use zi_outside::{Got, SureWeb, Web, WebFault};
 use zi_recipe::{RecipeFault, make_tree};
-use zi_text::{List, Text};
-use zi_tree::RelPath;
+use zi_text::{List, Memory, Text};
+use zi_tree::{RelPath, TreeLimit};
 
-fn path(alloc: Global, text: &str) -> Result<RelPath, Fail> {
-    let parsed = RelPath::parse(alloc, text)?;
-    Ok(parsed.ok_or("no path")?)
-}
-
-/// The step that a row spells.
-fn step(alloc: Global, text: &str) -> Result<Step, Fail> {
-    let mut words = text.split(' ');
-    let kind = words.next().unwrap_or("");
-    let first = words.next().unwrap_or("");
-    let second = words.next().unwrap_or("");
-    let third = words.next().unwrap_or("");
-    Ok(match kind {
-        "rename" => Step::Rename {
-            source: path(alloc, first)?,
-            dest: path(alloc, second)?,
-        },
-        "remove" => Step::Remove {
-            path: path(alloc, first)?,
-        },
-        _ => Step::File {
-            href: Text::from_str(alloc, first)?,
-            size: second.parse::<u64>()?,
-            dest: path(alloc, third)?,
-            exec: kind == "run",
-        },
-    })
-}
-
-fn method(alloc: Global, steps: &str) -> Result<Method, Fail> {
-    let mut list = List::new(alloc);
-    for text in steps.split(';') {
-        list.push(step(alloc, text)?)?;
+/// The path of a text; the root where it is none.
+fn path(alloc: Global, text: &str) -> Result<RelPath, Memory> {
+    match RelPath::parse(alloc, text)? {
+        Some(path) => Ok(path),
+        None => Ok(RelPath::root(alloc)),
     }
-    Ok(Method { steps: list })
 }
 
-/// A web of two files.
-fn web(alloc: Global) -> Result<SureWeb, Fail> {
-    let mut web = SureWeb::new(alloc);
-    web.put("a", b"abc".as_slice())?;
-    web.put("none", b"".as_slice())?;
-    Ok(web)
-}
-
-/// The answer over a web, a fault with its fields.
-fn answer<W: Web>(alloc: Global, m: &Method, web: &mut W) -> Result<String, Fail> {
-    Ok(match make_tree(alloc, m, web) {
-        Ok(tree) => format!(in alloc; "a tree of {}", tree.len())?,
-        Err(RecipeFault::FetchRead { href }) => format!(in alloc; "failed {}", href.as_str())?,
-        Err(RecipeFault::NoRemote { href }) => format!(in alloc; "nothing {}", href.as_str())?,
-        Err(RecipeFault::WrongSize { href, said, got }) => {
-            format!(in alloc; "wrong {} {said} {got}", href.as_str())?
-        }
-        Err(RecipeFault::Overlap { path }) => format!(in alloc; "overlap {}", path.as_str())?,
-        Err(RecipeFault::NoPath { path }) => format!(in alloc; "no {}", path.as_str())?,
-        Err(RecipeFault::TooLarge { what, limit }) => {
-            format!(in alloc; "large {what:?} {limit}")?
-        }
-        Err(RecipeFault::Memory) => Err("out of memory")?,
+/// Adds a step that fetches a file of so many bytes.
+fn take_file(
+    alloc: Global,
+    m: &mut Method,
+    href: &str,
+    size: u64,
+    dest: &str,
+) -> Result<(), Memory> {
+    let dest = path(alloc, dest)?;
+    let href = Text::from_str(alloc, href)?;
+    m.steps.push(Step::File {
+        href,
+        size,
+        dest,
+        exec: false,
     })
+}
+
+/// Adds a step that renames.
+fn take_rename(alloc: Global, m: &mut Method, source: &str, dest: &str) -> Result<(), Memory> {
+    let source = path(alloc, source)?;
+    let dest = path(alloc, dest)?;
+    m.steps.push(Step::Rename { source, dest })
+}
+
+/// No step.
+fn no_steps(alloc: Global) -> Method {
+    Method {
+        steps: List::new(alloc),
+    }
+}
+
+/// What is answered over a web that holds an empty file `none`, and `a` with three bytes.
+fn answer(alloc: Global, m: &Method) -> Result<usize, RecipeFault> {
+    let mut web = SureWeb::new(alloc);
+    web.put("none", b"")?;
+    web.put("a", b"abc")?;
+    Ok(make_tree(alloc, m, &mut web)?.len())
 }
 
 #[test]
 fn the_top_is_there(rt: HostRuntime) -> Result<(), Fail> {
-    let alloc = rt.alloc();
-    let m = method(alloc, "file a 3 .")?;
-    assert_eq!(rt; answer(alloc, &m, &mut web(alloc)?)?.as_str(), "overlap ");
+    let mut m = no_steps(rt.alloc());
+    take_file(rt.alloc(), &mut m, "a", 3, ".")?;
+    assert!(rt; matches!(answer(rt.alloc(), &m), Err(RecipeFault::Overlap { .. })));
     Ok(())
 }
 
@@ -98,65 +83,81 @@ impl Web for EndlessWeb {
 #[test]
 fn an_endless_web_is_asked_for_what_is_said(rt: HostRuntime) -> Result<(), Fail> {
     let mut web = EndlessWeb { most: 0 };
-    let m = method(rt.alloc(), "file a 3 x")?;
-    assert_eq!(rt; answer(rt.alloc(), &m, &mut web)?.as_str(), "wrong a 3 4");
+    let mut m = no_steps(rt.alloc());
+    take_file(rt.alloc(), &mut m, "a", 3, "x")?;
+    let fault = make_tree(rt.alloc(), &m, &mut web);
+    assert!(rt;
+        matches!(
+            fault,
+            Err(RecipeFault::WrongSize {
+                said: 3,
+                got: 4,
+                ..
+            })
+        )
+    );
     assert_eq!(rt; web.most, 3);
     Ok(())
 }
 
-/// A way to fetch `none` to a place in so many folders, one in another.
-fn deep(alloc: Global, folders: usize) -> Result<Method, Fail> {
-    let mut dest = Text::new(alloc);
+/// Adds so many folders to a path, and a name.
+fn take_folders(dest: &mut Text, folders: usize) -> Result<(), Memory> {
     for _ in 0..folders {
         dest.push_str("a/")?;
     }
-    dest.push_str("x")?;
-    let mut steps = List::new(alloc);
-    steps.push(Step::File {
-        href: Text::from_str(alloc, "none")?,
-        size: 0,
-        dest: path(alloc, dest.as_str())?,
-        exec: false,
-    })?;
-    Ok(Method { steps })
+    dest.push_str("x")
+}
+
+/// Adds a step that fetches `none` to a place in so many folders, one in another.
+fn take_deep(alloc: Global, m: &mut Method, folders: usize) -> Result<(), Memory> {
+    let mut dest = Text::new(alloc);
+    take_folders(&mut dest, folders)?;
+    take_file(alloc, m, "none", 0, dest.as_str())
+}
+
+/// The limit that is passed by a place in so many folders.
+fn passed(alloc: Global, folders: usize) -> Result<Option<TreeLimit>, Memory> {
+    let mut m = no_steps(alloc);
+    take_deep(alloc, &mut m, folders)?;
+    match answer(alloc, &m) {
+        Err(RecipeFault::TooLarge { what, .. }) => Ok(Some(what)),
+        _ => Ok(None),
+    }
 }
 
 #[test]
 fn folders_one_in_another(rt: HostRuntime) -> Result<(), Fail> {
     let alloc = rt.alloc();
-    let m = deep(alloc, 64)?;
-    assert!(rt; make_tree(alloc, &m, &mut web(alloc)?).is_ok());
-    for (folders, want) in [
-        (65, "large Depth 64"),
-        (99_999, "large Depth 64"),
-        (100_000, "large Nodes 100000"),
-    ] {
-        let m = deep(alloc, folders)?;
-        assert_eq!(rt; answer(alloc, &m, &mut web(alloc)?)?.as_str(), want);
-    }
+    assert_eq!(rt; passed(alloc, 64)?, None);
+    assert_eq!(rt; passed(alloc, 65)?, Some(TreeLimit::Depth));
+    assert_eq!(rt; passed(alloc, 99_999)?, Some(TreeLimit::Depth));
+    assert_eq!(rt; passed(alloc, 100_000)?, Some(TreeLimit::Nodes));
     Ok(())
 }
 
 #[test]
 fn two_million_parts(rt: HostRuntime) -> Result<(), Fail> {
-    let alloc = rt.alloc();
-    let m = deep(alloc, 2_000_000)?;
-    assert_eq!(rt;
-        answer(alloc, &m, &mut web(alloc)?)?.as_str(),
-        "large Nodes 100000"
-    );
+    assert_eq!(rt; passed(rt.alloc(), 2_000_000)?, Some(TreeLimit::Nodes));
+    Ok(())
+}
+
+/// Adds so many times two steps that undo one another.
+fn take_undone(alloc: Global, m: &mut Method, times: usize) -> Result<(), Memory> {
+    for _ in 0..times {
+        take_rename(alloc, m, "a", "b")?;
+        take_rename(alloc, m, "b", "a")?;
+    }
     Ok(())
 }
 
 #[test]
 fn steps_that_undo_one_another(rt: HostRuntime) -> Result<(), Fail> {
-    let alloc = rt.alloc();
-    let mut m = deep(alloc, 60_000)?;
-    for _ in 0..20_000 {
-        m.steps.push(step(alloc, "rename a b")?)?;
-        m.steps.push(step(alloc, "rename b a")?)?;
-    }
-    m.steps.push(step(alloc, "remove b")?)?;
-    assert_eq!(rt; answer(alloc, &m, &mut web(alloc)?)?.as_str(), "no b");
+    let mut m = no_steps(rt.alloc());
+    take_deep(rt.alloc(), &mut m, 60_000)?;
+    take_undone(rt.alloc(), &mut m, 20_000)?;
+    m.steps.push(Step::Remove {
+        path: path(rt.alloc(), "b")?,
+    })?;
+    assert!(rt; matches!(answer(rt.alloc(), &m), Err(RecipeFault::NoPath { .. })));
     Ok(())
 }

@@ -1,5 +1,5 @@
 -- Which options stand already, by what was set.
-use Rattle.std.proofs.Common.{◌≡◌, Bool, true, false, ◌||◌, ◌&&◌, List, [], ◌∷◌, ◌++◌, is_some, refl, sym, ap, ◌∙◌}
+use Rattle.std.proofs.Common.{◌≡◌, Bool, true, false, ◌||◌, ◌&&◌, List, [], ◌∷◌, ◌++◌, is_some, refl, sym, ap, ◌∙◌, append_assoc}
 use Rattle.std.specs.Prelude.{fold, bytes_eq}
 use Rattle.std.specs.List.{list_any}
 use Rattle.std.specs.declared.cmp.Ordering.{Ordering}
@@ -7,6 +7,7 @@ use Rattle.std.specs.declared.cmp.Ordering.TheVariants.{Less, Equal, Greater}
 use Rattle.std.specs.Ordering.{nat_cmp, is_eq, ordering_then}
 use Rattle.std.specs.Cmp.Lexicographic.{slice_cmp}
 use Rattle.std.specs.BTreeSet.{BTreeSet}
+use Rattle.std.proofs.lemmas.List.{append-nil}
 use Rattle.std.proofs.lemmas.Map.Text.{is_eq-slice_cmp}
 use Rattle.zi_words.specs.declared.kind.Kind.{Kind}
 use Rattle.zi_words.specs.declared.kind.Kind.TheVariants as kind
@@ -15,6 +16,7 @@ use Rattle.zi_words.specs.declared.asked.Asked.{Asked}
 use Rattle.zi_words.specs.Forms.{Word, Form, Level, Network', Budget, Is, Are}
 use Rattle.zi_words.specs.Options.{Item, Once, OncePerPair, Often, AreItems, forms, rule_of, alike, first, second, clash, clash_by, set, nothing, gathered}
 use Rattle.zi_words.specs.Taken.{Key, key_cmp, holds, IsKey, SamePairs, AddsPair, AddsBy, has}
+use Rattle.zi_words.proofs.OptionLemmas.{gathered-none, gathered-more}
 use Rattle.zi_words.proofs.ClashLemmas.{or_none, or_true, and_false, and_true, any_push, any_same, any_never}
 
 first_is : (f : Form) (fs : List Form) (args : List Word) → Are (f ∷ fs) args → Is f (first args)
@@ -74,10 +76,18 @@ has_nothing kind.Rate = refl
 has_nothing kind.Search = refl
 has_nothing kind.Proof = refl
 
+-- what options say is set one option after another
+folds : (before is : List Item) → gathered (before ++ is) ≡ fold (λ (b : Asked) (i : Item). set i.kind i.arguments b) (gathered before) is
+folds before [] = ap gathered (append-nil before)
+folds before (i ∷ is) =
+    ap gathered (sym (append_assoc before (i ∷ []) is)) ∙ folds (before ++ i ∷ []) is
+    ∙ ap (λ a. fold (λ (b : Asked) (j : Item). set j.kind j.arguments b) a is) (gathered-more before i)
+
 -- an option that may stand once was set exactly where it stands
 pub has_gathered : (l : Loader) (k : Kind) (is : List Item) → rule_of k ≡ Once → AreItems l is → has k (gathered is) ≡ list_any (λ i. alike i.kind k) is
-unfolding gathered
-has_gathered l k is h items = has_fold l k is nothing h items ∙ ap (λ v. v || list_any (λ (j : Item). alike j.kind k) is) (has_nothing k)
+has_gathered l k is h items =
+    ap (has k) (folds [] is) ∙ has_fold l k is (gathered []) h items
+    ∙ ap (λ v. v || list_any (λ (j : Item). alike j.kind k) is) (ap (has k) gathered-none ∙ has_nothing k)
 
 pub has_once : (k : Kind) (a : Asked) → has k a ≡ true → rule_of k ≡ Once
 has_once kind.Command a h = refl

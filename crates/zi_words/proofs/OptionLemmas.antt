@@ -1,17 +1,21 @@
 -- What goes on behind some options, and that something does.
-use Rattle.std.proofs.Common.{◌≡◌, ℕ, Bool, true, false, List, [], ◌∷◌, ◌++◌, length, replicate, refl, sym, ap, ◌∙◌, subst, append_assoc, arith, inl, inr}
+use Rattle.std.proofs.Common.{◌≡◌, ℕ, Bool, true, false, List, [], ◌∷◌, ◌++◌, length, replicate, Some, refl, sym, ap, ◌∙◌, subst, append_assoc, arith, inl, inr}
 use Rattle.std.specs.Prelude.{codes}
 use Rattle.std.specs.List.{list_any}
+use Rattle.std.specs.Option.{option_or}
 use Rattle.std.specs.Str.{chars}
 use Rattle.std.proofs.lemmas.List.{append-nil, length-replicate}
-use Rattle.std.proofs.lemmas.List.Sums.{fold-append}
+use Rattle.std.proofs.lemmas.List.Folds.{list_any-append}
+use Rattle.std.proofs.lemmas.Grind.{flat_map-append}
+use Rattle.std.proofs.Math.Bool.{or-false, or-true}
 use Rattle.zi_text.specs.Front.{BeginsRight}
 use Rattle.zi_words.specs.declared.kind.Kind.{Kind}
+use Rattle.zi_words.specs.declared.kind.Kind.TheVariants as kind
 use Rattle.zi_words.specs.declared.loader.Loader.{Loader}
 use Rattle.zi_words.specs.declared.asked.Asked.{Asked}
 use Rattle.zi_words.specs.declared.request.Request.{Request}
 use Rattle.zi_words.specs.Forms.{Word, Form, Are, is_address, is_carried}
-use Rattle.zi_words.specs.Options.{Item, IsItem, AreItems, name_of, forms, spelled, clash, any_clash, set, nothing, gathered}
+use Rattle.zi_words.specs.Options.{Item, IsItem, AreItems, name_of, forms, spelled, clash, any_clash, set, nothing, last, gathered}
 use Rattle.zi_words.specs.Words.{EndsOptions, count_of, takes_more, AreMany, HasMany, asking, AsksLoading}
 use Rattle.zi_words.specs.Refused.{Asks}
 use Rattle.zi_words.proofs.ClashLemmas.{clash_push}
@@ -233,9 +237,32 @@ live_within l before k front rest apart item free =
     (rest ++ on.0, (on.1.0, subst P (append_assoc front rest on.0) (step_out l before i on.0 on.1.0 item on.1.1)))
 
 -- one option more sets what it says
-pub gathered-more : (before : List Item) (i : Item) → gathered (before ++ i ∷ []) ≡ set i.kind i.arguments (gathered before)
+last_push : {X : Type 0} → (xs : List X) (x : X) → last (xs ++ x ∷ []) ≡ Some x
+last_push [] x = refl
+last_push (y ∷ xs) x = ap (λ o. option_or o (Some y)) (last_push xs x)
+
+one_more : (before : List Item) (k : Kind) (args : List Word) → gathered (before ++ record { kind = k; arguments = args } ∷ []) ≡ set k args (gathered before)
 unfolding gathered
-gathered-more before i = fold-append (λ (a : Asked) (j : Item). set j.kind j.arguments a) nothing before (i ∷ [])
+one_more before kind.Command args = simp (flat_map-append, list_any-append, append-nil, or-false, last_push)
+one_more before kind.NoCommand args = simp (flat_map-append, list_any-append, append-nil, or-false, last_push)
+one_more before kind.Version args = simp (or-true, flat_map-append, list_any-append, append-nil, or-false)
+one_more before kind.VersionFor args = simp (flat_map-append, list_any-append, append-nil, or-false)
+one_more before kind.Os args = simp (flat_map-append, list_any-append, append-nil, or-false, last_push)
+one_more before kind.Cpu args = simp (flat_map-append, list_any-append, append-nil, or-false, last_push)
+one_more before kind.Lang args = simp (flat_map-append, list_any-append, append-nil, or-false)
+one_more before kind.Level args = simp (flat_map-append, list_any-append, append-nil, or-false, last_push)
+one_more before kind.Network args = simp (flat_map-append, list_any-append, append-nil, or-false, last_push)
+one_more before kind.Use args = simp (flat_map-append, list_any-append, append-nil, or-false)
+one_more before kind.Rate args = simp (flat_map-append, list_any-append, append-nil, or-false)
+one_more before kind.Search args = simp (flat_map-append, list_any-append, append-nil, or-false, last_push)
+one_more before kind.Proof args = simp (or-true, flat_map-append, list_any-append, append-nil, or-false)
+
+pub gathered-none : gathered [] ≡ nothing
+unfolding gathered
+gathered-none = refl
+
+pub gathered-more : (before : List Item) (i : Item) → gathered (before ++ i ∷ []) ≡ set i.kind i.arguments (gathered before)
+gathered-more before i = one_more before i.kind i.arguments
 
 pub spelled-append : (is js : List Item) → spelled (is ++ js) ≡ spelled is ++ spelled js
 spelled-append [] js = refl

@@ -1,6 +1,7 @@
 -- The numbers that are asked for: that of lemmas is never past the greatest, and that of a demonstration is one.
 use Rattle.std.proofs.Common.{◌≡◌, ℕ, ◌≤◌, Bool, true, false, List, [], ◌∷◌, Option, Some, None, refl, sym, subst, arith, inl, inr}
-use Rattle.std.specs.Prelude.{fold, nat_le, if◌then◌else◌, unwrap_or}
+use Rattle.std.specs.Prelude.{nat_le, if◌then◌else◌, unwrap_or}
+use Rattle.std.specs.Option.{option_and_then}
 use Rattle.std.proofs.lemmas.Bool.Decides.{nat_tests}
 use Rattle.zi_text.specs.Numeral.{numeral}
 use Rattle.zi_words.specs.declared.kind.Kind.{Kind}
@@ -12,7 +13,7 @@ use Rattle.zi_words.specs.declared.request.Ask.{Ask}
 use Rattle.zi_words.specs.declared.request.Request.{Request}
 use Rattle.zi_words.specs.declared.request.Request.TheVariants as request
 use Rattle.zi_words.specs.Forms.{Word, is_between, most_lemmas, up_to, budget_of, if_between, demo_number}
-use Rattle.zi_words.specs.Options.{Item, first, set, nothing, gathered, ask_of}
+use Rattle.zi_words.specs.Options.{Item, last, arguments_of, gathered, ask_of}
 use Rattle.zi_words.specs.Store.{AsksStore}
 use Rattle.zi_words.specs.Words.{request_of, Right}
 
@@ -33,28 +34,13 @@ budget_fits : (w : Word) → Fits (budget_of w)
 unfolding budget_of
 budget_fits w = up_to_fits (numeral w)
 
-set_fits : (k : Kind) (args : List Word) (a : Asked) → Fits a.search → Fits (set k args a).search
-set_fits kind.Command args a h = h
-set_fits kind.NoCommand args a h = h
-set_fits kind.Version args a h = h
-set_fits kind.VersionFor args a h = h
-set_fits kind.Os args a h = h
-set_fits kind.Cpu args a h = h
-set_fits kind.Lang args a h = h
-set_fits kind.Level args a h = h
-set_fits kind.Network args a h = h
-set_fits kind.Use args a h = h
-set_fits kind.Rate args a h = h
-set_fits kind.Search args a h = budget_fits (first args)
-set_fits kind.Proof args a h = h
-
-all_fit : (is : List Item) (a : Asked) → Fits a.search → Fits (fold (λ (b : Asked) (i : Item). set i.kind i.arguments b) a is).search
-all_fit [] a h = h
-all_fit (i ∷ is) a h = all_fit is (set i.kind i.arguments a) (set_fits i.kind i.arguments a h)
+said_fits : (o : Option Word) → Fits (option_and_then budget_of o)
+said_fits None = tt
+said_fits (Some w) = budget_fits w
 
 gathered_fits : (is : List Item) → Fits (gathered is).search
 unfolding gathered
-gathered_fits is = all_fit is nothing tt
+gathered_fits is = said_fits (last (arguments_of kind.Search is))
 
 or_fits : (o : Option ℕ) → Fits o → unwrap_or o 100000 ≤ most_lemmas
 or_fits None h = omega arith

@@ -17,7 +17,7 @@ use Rattle.zi_words.specs.Refused.{Asks, LeftAt, Refused}
 use Rattle.zi_words.specs.Taken.{Key, key_cmp, holds, Takes, AddsBy, BreaksBy, has, NoOption, Gathers}
 use Rattle.zi_words.proofs.LeftLemmas.{behind}
 use Rattle.zi_words.proofs.ClashLemmas.{clash_push}
-use Rattle.zi_words.proofs.OptionLemmas.{After, after_none, none_after, all_in, all_out, gathered-more, spelled-append, items_append}
+use Rattle.zi_words.proofs.OptionLemmas.{After, after_none, none_after, all_in, all_out, gathered-none, gathered-more, spelled-append, items_append}
 use Rattle.zi_words.proofs.HasLemmas.{Told, told_next, free}
 use Rattle.zi_words.proofs.RateLemmas.{again, off}
 
@@ -83,10 +83,6 @@ gathers l ws left asked pairs s none = record {
   set_by = s.set_by;
   last = none;
 }
-
-gathered-none : gathered [] ≡ nothing
-unfolding gathered
-gathered-none = refl
 
 -- no option yet
 pub begun : (l : Loader) (ws : List Word) (asked : Asked) (pairs : BTreeSet Key) → asked ≡ nothing → tree.IsEmpty pairs → Reads l ws ws asked pairs

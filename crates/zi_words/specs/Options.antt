@@ -1,6 +1,7 @@
 -- The options of the commands that load feeds: what each is called, what stands behind it, and what it sets.
-use Rattle.std.specs.Prelude.{◌≡◌, Bool, true, false, ◌&&◌, ◌||◌, List, [], ◌∷◌, ◌++◌, codes, bytes_eq, fold, map, get_or, Option, Some, None, unwrap_or}
-use Rattle.std.specs.List.{list_any}
+use Rattle.std.specs.Prelude.{◌≡◌, Bool, true, false, ◌&&◌, ◌||◌, List, [], ◌∷◌, ◌++◌, codes, bytes_eq, map, get_or, Option, Some, None, unwrap_or, option_and_then, if◌then◌else◌}
+use Rattle.std.specs.List.{list_any, flat_map}
+use Rattle.std.specs.Option.{option_or}
 use Rattle.zi_version.specs.Range.{range_of}
 use Rattle.zi_version.specs.declared.alternative.Range.{Range}
 use Rattle.zi_policy.specs.declared.types.Stability.{Stability}
@@ -139,7 +140,7 @@ abbrev pub override_of : Word → Word → Option Stability → List Override
 override_of interface id None = []
 override_of interface id (Some s) = record { interface = interface; id = id; stability = s } ∷ []
 
--- what an option sets
+-- what one more option sets
 abbrev pub set : Kind → List Word → Asked → Asked
 set kind.Command args a = record a { command = Some (Some (first args)) }
 set kind.NoCommand args a = record a { command = Some None }
@@ -172,9 +173,61 @@ nothing = record {
   proof = false;
 }
 
--- what options set, each in turn
+-- What options say, each setting by itself.
+
+-- it is an option of this kind
+abbrev pub is_kind : Kind → Item → Bool
+is_kind k i = bytes_eq (name_of k) (name_of i.kind)
+
+-- an option of a kind stands among them
+abbrev pub stands : Kind → List Item → Bool
+stands k is = list_any (is_kind k) is
+
+abbrev pub argument_in : Kind → Item → List Word
+argument_in k i = if is_kind k i then first i.arguments ∷ [] else []
+
+-- the first arguments of the options of a kind, in their order
+abbrev pub arguments_of : Kind → List Item → List Word
+arguments_of k is = flat_map (argument_in k) is
+
+-- the last of some, where there is one
+abbrev pub last : {X : Type 0} → List X → Option X
+last [] = None
+last (x ∷ xs) = option_or (last xs) (Some x)
+
+-- which command an option says, or that it says none
+abbrev pub command_by : Kind → List Word → List (Option Word)
+command_by kind.Command args = Some (first args) ∷ []
+command_by kind.NoCommand args = None ∷ []
+command_by k args = []
+
+-- the limit that an option says
+abbrev pub limit_by : Kind → List Word → List Limit
+limit_by kind.Version args = limit_of None (range_of (first args))
+limit_by kind.VersionFor args = limit_of (Some (first args)) (range_of (second args))
+limit_by k args = []
+
+-- the stability that an option says
+abbrev pub override_by : Kind → List Word → List Override
+override_by kind.Rate args = override_of (first args) (second args) (stability_of (get_or args 2 []))
+override_by k args = []
+
+-- What options say. What may stand once is as the last one says it; what may stand often is in the order of the words.
 unfoldable pub gathered : List Item → Asked
-gathered is = fold (λ a i. set i.kind i.arguments a) nothing is
+gathered is = record {
+  command = last (flat_map (λ i. command_by i.kind i.arguments) is);
+  version = stands kind.Version is;
+  limits = flat_map (λ i. limit_by i.kind i.arguments) is;
+  os = last (arguments_of kind.Os is);
+  cpu = last (arguments_of kind.Cpu is);
+  langs = arguments_of kind.Lang is;
+  level = option_and_then level_of (last (arguments_of kind.Level is));
+  network = option_and_then network_of (last (arguments_of kind.Network is));
+  uses = arguments_of kind.Use is;
+  overrides = flat_map (λ i. override_by i.kind i.arguments) is;
+  search = option_and_then budget_of (last (arguments_of kind.Search is));
+  proof = stands kind.Proof is;
+}
 
 -- the languages, or English
 abbrev pub or_english : List Word → List Word

@@ -14,6 +14,7 @@
 //! (which words are addresses, levels and the like).
 #![tactic(auto)]
 
+mod address;
 mod arguments;
 mod asked;
 mod demo;
@@ -28,5 +29,6 @@ mod refusal;
 mod request;
 mod store;
 
+pub use address::Address;
 pub use request::{Ask, Request, Wanted, WordsFault};
 pub use store::last_part;

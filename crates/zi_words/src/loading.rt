@@ -6,6 +6,7 @@ ghost use Rattle.zi_words.specs.Words.{HasMany, request_of, AsksLoading};
 ghost use Rattle.zi_words.specs.Refused.{Refused};
 ghost use Rattle.zi_words.specs.Taken.{PastDashes, IsEnd};
 
+use crate::address::Address;
 use crate::arguments::is_address;
 use crate::asked::{Asked, Limit};
 use crate::loader::Loader;
@@ -84,20 +85,20 @@ fn or_english(alloc: Global, langs: List<Text>) -> Result<List<Text>, Memory>
 }
 
 // What a limit wants, by the program's address.
-fn wanted(alloc: Global, root: &Text, limit: Limit) -> Result<Wanted, Memory>
+fn wanted(alloc: Global, root: &str, limit: Limit) -> Result<Wanted, Memory>
     ensures { IfOk result (λ w. w ≡ wanted root.now limit) }
 {
     let Limit { interface, range } = limit;
     match interface {
         Some(interface) => Ok(Wanted { interface, range }),
         None => {
-            let interface = root.copy(alloc)?;
+            let interface = Text::from_str(alloc, root)?;
             Ok(Wanted { interface, range })
         }
     }
 }
 
-fn all_wanted(alloc: Global, root: &Text, limits: List<Limit>) -> Result<List<Wanted>, Memory>
+fn all_wanted(alloc: Global, root: &str, limits: List<Limit>) -> Result<List<Wanted>, Memory>
     ensures { IfOk result (λ l. l ≡ map (wanted root.now) limits) }
 {
     let mut all = List::new(alloc);
@@ -111,8 +112,8 @@ fn all_wanted(alloc: Global, root: &Text, limits: List<Limit>) -> Result<List<Wa
 impl Asked {
     // What is asked of the program at an address, with the defaults for what isn't said.
     #[tactic(auto, unfolding(crate::specs::Options::ask_of))]
-    fn into_ask(self, alloc: Global, root: &Text) -> Result<Ask, Memory>
-        ensures { IfOk result (λ a. a ≡ ask_of root.now self) }
+    fn into_ask(self, alloc: Global, root: Address) -> Result<Ask, Memory>
+        ensures { IfOk result (λ a. a ≡ ask_of root self) }
     {
         let Asked {
             command,
@@ -132,8 +133,7 @@ impl Asked {
         let os = or_default(alloc, os, "Linux")?;
         let machine = or_default(alloc, cpu, "x86_64")?;
         let langs = or_english(alloc, langs)?;
-        let limits = all_wanted(alloc, root, limits)?;
-        let root = root.copy(alloc)?;
+        let limits = all_wanted(alloc, root.as_str(), limits)?;
         Ok(Ask {
             root,
             command,
@@ -155,8 +155,8 @@ impl Asked {
 impl Ask {
     /// What is asked of the program at an address where no option is given: its command `run`, each version, and what the
     /// policy has by itself. Memory is its one refusal.
-    pub fn without_options(alloc: Global, root: &Text) -> Result<Ask, Memory>
-        ensures { IfOk result (λ a. a ≡ ask_of root.now nothing) }
+    pub fn without_options(alloc: Global, root: Address) -> Result<Ask, Memory>
+        ensures { IfOk result (λ a. a ≡ ask_of root nothing) }
     {
         Asked::new(alloc).into_ask(alloc, root)
     }
@@ -213,7 +213,8 @@ pub fn loading(alloc: Global, loader: Loader, words: &[Text]) -> Result<Request,
         Err(refusal) => return Err(refusal),
     };
     let proof = asked.proof;
-    let ask = asked.into_ask(alloc, root)?;
+    let text = root.copy(alloc)?;
+    let ask = asked.into_ask(alloc, Address::of(text))?;
     let request = request(alloc, loader, ask, proof, named)?;
     Ok(request)
 }

@@ -1,5 +1,6 @@
 //! What the words of the command line can ask for.
 
+use crate::address::Address;
 use zi_digest::{Algorithm, DigestName};
 use zi_policy::Policy;
 use zi_text::{List, Text};
@@ -18,7 +19,7 @@ pub struct Wanted {
 #[derive(Debug, Drop)]
 pub struct Ask {
     /// The address of the program's interface.
-    pub root: Text,
+    pub root: Address,
     /// The command of it that is wanted, if any: `run` where the words don't say.
     pub command: Option<Text>,
     /// Versions that are wanted, in the order of the words.

@@ -1,6 +1,9 @@
-use Rattle.std.proofs.Common.{inl, inr, refl}
+use Rattle.std.proofs.Common.{inl, inr, refl, subst, ◌++◌}
+use Rattle.zi_digest.specs.Name.{name_of}
+use Rattle.zi_outcome.specs.Writing.{Prints}
 use Rattle.zi_world.proofs.CallLemmas.{failed, not_failed, answered}
-use Rattle.zi_app.proofs.StoreLemmas.{tree_at, missing_at, large_at}
+use Rattle.zi_app.specs.StoreList.{name_line}
+use Rattle.zi_app.proofs.StoreLemmas.{manifest_at, some_tree_at}
 use Rattle.zi_app.proofs.manifests.manifest.Goals as goal
 
 pub returns-in-Ok-Read : goal.returns-in-Ok-Read
@@ -9,7 +12,7 @@ returns-in-Ok-Read g c = λ feeds. record {
   shelf = c.in-Ok-Read.ensures.keeps;
   answer = inr (
     c.in-Ok-Read.ensures.count (answered c.in-Ok-Read.field-0),
-    inr (c.in-Ok-Read.tree, (λ s h e. tree_at _ _ _ c.in-Ok-Read.tree _ (cc (c.in-Ok-Read.is, c.in-Ok-Read.field-0-is)) c.as_str.ensures (c.read_tree.ensures.tree s h e)), c.show.ensures),
+    inr (c.in-Ok-Read.text, ((λ s h e. manifest_at c.args.algorithm _ _ s.shelf c.manifest_of.result _ _ c.in-Ok-Read.is c.in-Ok-Read.field-0-is c.as_str.ensures (c.manifest_of.ensures.manifest s h e)), some_tree_at c.args.algorithm c.manifest_of.result _ _ c.in-Ok-Read.is c.in-Ok-Read.field-0-is c.manifest_of.ensures.tree), subst (λ t. Prints (t ++ name_line (name_of c.args.algorithm t)) (g.O.Sink.seen c.args.out.now) (g.O.Sink.seen c.put_digested.new.out) c.put_digested.result) c.into_vec.ensures c.put_digested.ensures),
   );
 }
 
@@ -19,7 +22,17 @@ returns-in-Ok-Missing g c = λ feeds. record {
   shelf = c.in-Ok-Missing.ensures.keeps;
   answer = inr (
     c.in-Ok-Missing.ensures.count (answered c.in-Ok-Missing.field-0),
-    inl (refl, (λ s h e. missing_at _ _ _ _ (cc (c.in-Ok-Missing.is, c.in-Ok-Missing.field-0-is)) c.as_str.ensures (c.read_tree.ensures.tree s h e)), refl),
+    inl (refl, ((λ s h e. manifest_at c.args.algorithm _ _ s.shelf c.manifest_of.result _ _ c.in-Ok-Missing.is c.in-Ok-Missing.field-0-is c.as_str.ensures (c.manifest_of.ensures.manifest s h e)), tt), refl),
+  );
+}
+
+pub returns-in-Ok-BadName : goal.returns-in-Ok-BadName
+returns-in-Ok-BadName g c = λ feeds. record {
+  feeds = refl;
+  shelf = c.in-Ok-BadName.ensures.keeps;
+  answer = inr (
+    c.in-Ok-BadName.ensures.count (answered c.in-Ok-BadName.field-0),
+    inl (((λ s h e. manifest_at c.args.algorithm _ _ s.shelf c.manifest_of.result _ _ c.in-Ok-BadName.is c.in-Ok-BadName.field-0-is c.as_str.ensures (c.manifest_of.ensures.manifest s h e)), some_tree_at c.args.algorithm c.manifest_of.result _ _ c.in-Ok-BadName.is c.in-Ok-BadName.field-0-is c.manifest_of.ensures.tree), refl),
   );
 }
 
@@ -29,7 +42,7 @@ returns-in-Ok-TooLarge g c = λ feeds. record {
   shelf = c.in-Ok-TooLarge.ensures.keeps;
   answer = inr (
     c.in-Ok-TooLarge.ensures.count (answered c.in-Ok-TooLarge.field-0),
-    inl ((λ s h e. large_at _ _ _ _ _ _ _ c.in-Ok-TooLarge.is c.in-Ok-TooLarge.field-0-is c.as_str.ensures (c.read_tree.ensures.tree s h e)), refl),
+    inl (((λ s h e. manifest_at c.args.algorithm _ _ s.shelf c.manifest_of.result _ _ c.in-Ok-TooLarge.is c.in-Ok-TooLarge.field-0-is c.as_str.ensures (c.manifest_of.ensures.manifest s h e)), tt), refl),
   );
 }
 

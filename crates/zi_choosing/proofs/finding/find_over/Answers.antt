@@ -1,9 +1,16 @@
 use Rattle.std.proofs.Common.{refl}
 use Rattle.std.proofs.lemmas.Result.{err_from_is_err_and}
 use Rattle.zi_world.proofs.AskingLemmas.{asks_stay, feeds_same}
-use Rattle.zi_choosing.proofs.LoadedLemmas.{loaded_as, refused_as}
+use Rattle.zi_choosing.proofs.LoadedLemmas.{loaded_as, refused_as, all_written}
 use Rattle.zi_choosing.proofs.FindLemmas.{no_job, refused_find, unsolved, loaded_alone, found}
 use Rattle.zi_choosing.proofs.finding.find_over.Goals as goal
+
+pub invariant_of-result : goal.invariant_of-result
+invariant_of-result g c = record {
+  written =
+      all_written (g.F.Feeds.seen c.args.feeds.now) (g.F.Feeds.seen c.load.new.feeds) c.in_ok-job.job.req c.in_ok-job.job.policy c.as_slice.result.now c.in-Ok.universe
+      c.what_is_chosen_can_be_written.ensures c.in_ok-job.ensures.root c.in-Ok.ensures.loads c.in_ok-choice.choice.picks c.in_ok-choice.ensures.1.valid c.in_ok-sels.sels c.in_ok-sels.ensures;
+}
 
 pub returns-in_err-job : goal.returns-in_err-job
 returns-in_err-job g c =

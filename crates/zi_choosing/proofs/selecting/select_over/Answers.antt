@@ -1,6 +1,6 @@
 use Rattle.std.proofs.Common.{refl}
 use Rattle.zi_world.proofs.AskingLemmas.{asks_stay, feeds_same}
-use Rattle.zi_choosing.proofs.LoadedLemmas.{loaded_as, refused_as}
+use Rattle.zi_choosing.proofs.LoadedLemmas.{loaded_as, refused_as, all_written}
 use Rattle.zi_choosing.proofs.SelectLemmas.{selected, refused_over, no_task}
 use Rattle.zi_choosing.proofs.selecting.select_over.Goals as goal
 
@@ -9,6 +9,11 @@ returns-in_default g c = record {
   over = no_task c.args.ask c.args.proof c.args.stored.now (record { feeds = g.F.Feeds.seen c.args.feeds.now; out = g.O.Sink.seen c.args.out.now });
   feeds = feeds_same (g.F.Feeds.seen c.args.feeds.now);
 }
+
+pub choose-requires-clause-written : goal.choose-requires-clause-written
+choose-requires-clause-written g c =
+    all_written (g.F.Feeds.seen c.args.feeds.now) (g.F.Feeds.seen c.load.new.feeds) c.in-Ok.job.req c.in-Ok.job.policy c.args.stored.now c.in-Ok-load.universe
+    c.what_is_chosen_can_be_written.ensures c.in-Ok.ensures.root c.in-Ok-load.ensures.loads
 
 pub returns-in-Ok-load : goal.returns-in-Ok-load
 returns-in-Ok-load g c =

@@ -53,6 +53,6 @@ returns c =
     let i = c.into_iter-part-iterator.ensures.into_iter_gives in
     let source = YieldsList-from_str_split 47 text (lit< tt) (ap split_text i ∙ c.split-part-items.ensures.text) (ap split_has_more i ∙ c.split-part-items.ensures.has_more) (ap split_pattern i ∙ c.split-part-items.ensures.pattern) in
     let t = YieldsList-end source c.loop-part.yielded _ c.loop-part.yielded_by _ _ c.in-None.is c.next.ensures.steps in
-    let left : settled [] (pieces_of 47 text) ≡ Some (map (λ x. x.now) c.loop-part.parts.items) =
-    ap (settled []) (sym (t.0 ∙ cut_alike text)) ∙ at_end (map (λ x. x.now) c.loop-part.yielded) (map (λ x. x.now) c.loop-part.parts.items) c.loop-part.invariant.2 in
+    let left : settled (pieces_of 47 text) ≡ Some (map (λ x. x.now) c.loop-part.parts.items) =
+    ap settled (sym (t.0 ∙ cut_alike text)) ∙ at_end (map (λ x. x.now) c.loop-part.yielded) (map (λ x. x.now) c.loop-part.parts.items) c.loop-part.invariant.2 in
     ap Some (c.in_ok-path_with.ensures ∙ ap (λ parts. path_of (map (λ x. x.now) parts)) c.as_slice.ensures.value) ∙ ap (option_map path_of) (sym left)

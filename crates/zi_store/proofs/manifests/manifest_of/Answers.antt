@@ -1,6 +1,7 @@
 use Rattle.std.proofs.Common.{subst, Err}
 use Rattle.zi_store.specs.ManifestAnswers.{WritesWhole}
 use Rattle.zi_store.proofs.ManifestLemmas.{ended}
+use Rattle.zi_store.proofs.SomeTreeLemmas.{ended_some}
 use Rattle.zi_store.proofs.manifests.manifest_of.Goals as goal
 
 pub returns-in-Ok-clause-manifest : goal.returns-in-Ok-clause-manifest
@@ -13,3 +14,6 @@ pub returns-in-Err-TooLarge-clause-manifest : goal.returns-in-Err-TooLarge-claus
 returns-in-Err-TooLarge-clause-manifest g c s keeps e =
     let r = subst (λ x. WritesWhole c.args.a c.args.top.now (Err x) s.shelf) c.in-Err-TooLarge.field-0-is (c.in-Err-TooLarge.ensures.manifest s keeps e) in
     (r.0, r.1, r.2, c.limit_of.ensures)
+
+pub returns-in-Ok-clause-tree : goal.returns-in-Ok-clause-tree
+returns-in-Ok-clause-tree g c = ended_some c.args.a c.in-Ok.written c.read_of.result c.read_of.ensures c.in-Ok.ensures.tree

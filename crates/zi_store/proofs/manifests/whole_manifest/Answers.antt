@@ -5,6 +5,7 @@ use Rattle.zi_store.proofs.KeepingLemmas.{some_of, stands_later}
 use Rattle.zi_store.proofs.WalkLemmas.{failed_passed}
 use Rattle.zi_store.proofs.TreeLemmas.{whole_there}
 use Rattle.zi_store.proofs.ManifestLemmas.{wrote, wrote_less, not_listed}
+use Rattle.zi_store.proofs.SomeTreeLemmas.{whole_some}
 use Rattle.zi_store.proofs.manifests.whole_manifest.Goals as goal
 
 pub returns-in_err-entries-clause-manifest : goal.returns-in_err-entries-clause-manifest
@@ -33,3 +34,6 @@ returns-clause-manifest g c s keeps e =
     let w = whole_there c.root-path.result s c.root-path.ensures (λ k. g.met.K.Shelf.holds_trees c.args.k.now k) keeps e (c.in_ok-entries.ensures.there s keeps e) in
     wrote w c.args.a _ c.new-written.result c.write_folder.new.written refl c.new-written.ensures.text c.new-written.ensures.bad c.new-written.ensures.nodes c.new-written.ensures.bytes
     ((c.in_ok-write_folder.ensures.walks true w.entry.tree (stands_later c.in_ok-entries.ensures.keeps w.stands) w.tree (c.as_slice.ensures.value ∙ c.in_ok-entries.ensures.entries w.entry.tree w.stands w.tree)).1) (c.in_ok-write_folder.ensures.adds true w.entry.tree (stands_later c.in_ok-entries.ensures.keeps w.stands) w.tree (c.as_slice.ensures.value ∙ c.in_ok-entries.ensures.entries w.entry.tree w.stands w.tree))
+
+pub returns-clause-tree : goal.returns-clause-tree
+returns-clause-tree g c = whole_some c.args.a _ c.new-written.result c.write_folder.new.written refl c.new-written.ensures.text c.new-written.ensures.bad c.in_ok-write_folder.ensures.tree

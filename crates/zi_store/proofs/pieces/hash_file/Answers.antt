@@ -14,6 +14,7 @@ loop-size-init g c = (
   keeps_none is_reading _,
   λ all exec mtime st. ([], (all, refl), c.new-hasher.ensures, refl),
   refl,
+  ([], c.new-hasher.ensures, refl),
 )
 
 pub loop-size-preserved : goal.loop-size-preserved
@@ -29,7 +30,16 @@ loop-size-preserved g c = (
       let bytes = subst (λ l. HasTaken c.update.new.self c.args.a (front ++ l)) c.as_slice.ensures.value (c.update.ensures c.args.a front taken) in
       (front ++ piece, more, bytes, omega (arith, size, c.len.ensures, length-append front piece)),
   c.in_ok-ask_bytes.ensures.count (λ e. cc e) ∙ c.loop-size.invariant.2,
+  let (front, taken, size) = c.loop-size.invariant.3 in
+      let piece = c.ask_bytes.new.into.items in
+      let bytes = subst (λ l. HasTaken c.update.new.self c.args.a (front ++ l)) c.as_slice.ensures.value (c.update.ensures c.args.a front taken) in
+      (front ++ piece, bytes, omega (arith, size, c.len.ensures, length-append front piece)),
 )
+
+pub returns-then-is_empty-clause-some : goal.returns-then-is_empty-clause-some
+returns-then-is_empty-clause-some g c =
+    let (front, taken, size) = c.loop-size.invariant.3 in
+    record { bytes = front; hash = c.finish.ensures c.args.a front taken; size = size }
 
 pub returns-then-is_empty-clause-hash : goal.returns-then-is_empty-clause-hash
 returns-then-is_empty-clause-hash g c all exec mtime st =

@@ -12,6 +12,7 @@ invariant-loop-size g l =
     × ((all : List ℕ) (exec : Bool) (mtime : ℤ) → StandsNode ((g.K.Shelf.seen l.fn.k).honest) ((g.K.Shelf.seen l.fn.k).told) l.top l.path (File all exec mtime)
     → (front : List ℕ) × IsFront front all × HasTaken l.hasher l.fn.a front × (l.size ≡ length front))
     × ((g.K.Shelf.seen l.k).faults ≡ (g.K.Shelf.seen l.fn.k).faults)
+    × ((front : List ℕ) × HasTaken l.hasher l.fn.a front × (l.size ≡ length front))
 
 abbrev pub decreases-loop-size : goal.decreases-loop-size
 decreases-loop-size g l = (l.limit + 1) - l.size

@@ -19,6 +19,7 @@ use Rattle.zi_store.proofs.WalkLemmas.{failed_passed}
 use Rattle.zi_store.proofs.LoopLemmas.{next_asks, left_at, left_none}
 use Rattle.zi_store.proofs.FolderLemmas.{stops_more, walks_then, unlisted_stops}
 use Rattle.zi_store.proofs.WritingLemmas.{folders_start, folders_next, folders_stop, folders_end, inner_none, inner_written, line_then, as_folder}
+use Rattle.zi_store.proofs.SomeTreeLemmas.{so_far_none, so_far_more, so_far_all, folders_none, folder_some, named_some}
 use Rattle.zi_store.proofs.written.+writing.Goals as goal
 
 pub write_folder-returns-in_err-write_leaves-clause-walks : goal.write_folder-returns-in_err-write_leaves-clause-walks
@@ -40,6 +41,7 @@ write_folder-loop-entry-init g t c = (
       let w = c.in_ok-write_leaves.ensures.walks whole d st tree e in
       folders_start c.args.a c.args.at.text.now c.args.at.depth (shown whole d) _ c.args.written.now c.write_leaves.new.written e (c.in_ok-write_leaves.ensures.adds whole d st tree e) w.1,
   c.in_ok-write_leaves.ensures.count (λ e. cc e),
+  so_far_none c.args.a c.args.at.text.now c.args.written.now c.write_leaves.new.written c.in_ok-write_leaves.ensures.tree,
 )
 
 pub write_folder-returns-in_err-write_inner-clause-walks : goal.write_folder-returns-in_err-write_inner-clause-walks
@@ -75,6 +77,7 @@ write_folder-loop-entry-preserved g t c =
           folders_next c.args.a c.args.at.text.now c.args.at.depth whole d c.entry-item.result _ _ c.args.written.now l.written c.write_inner.new.written
           (stands_later l.invariant.0 st) tree (l.invariant.1 whole d st tree e) left (λ x listed good. (c.in_ok-write_inner.ensures.walks x listed good).1) c.in_ok-write_inner.ensures.adds,
       c.in_ok-write_inner.ensures.count (λ e. cc e) ∙ l.invariant.2,
+      so_far_more c.args.a c.args.at.text.now c.args.written.now l.written c.write_inner.new.written l.invariant.3 c.in_ok-write_inner.ensures.tree,
     )
 
 pub write_folder-returns-clause-walks : goal.write_folder-returns-clause-walks
@@ -163,3 +166,23 @@ write_inner-returns-clause-sure g t c sure x l tree e =
     as_folder (λ (y : TreeNode). c.write_deeper.result ≡ Err (Fault Failed) → ⊥)
     c.args.at.path.now _ c.args.entry.now.name x c.args.entry.now.kind l.kind (sym c.is_folder.ensures ∙ folder) tree here (listed_at c.args.at.path.now c.args.entry.now x _ here l)
     (λ i there good. c.write_deeper.ensures.sure sure i there good) e
+
+pub write_folder-returns-clause-tree : goal.write_folder-returns-clause-tree
+write_folder-returns-clause-tree g t c = so_far_all c.args.a c.args.at.text.now c.args.written.now c.loop-entry.written c.loop-entry.invariant.3
+
+pub write_deeper-returns-clause-tree : goal.write_deeper-returns-clause-tree
+write_deeper-returns-clause-tree g t c =
+    let text = c.args.at.text.now in
+    let first : Adds c.args.written.now c.put_folder.new.self (folder_line text) None = record { text = c.in_ok-put_folder.ensures.line.text; first = c.in_ok-put_folder.ensures.line.first } in
+    folder_some c.write_folder.result c.args.a text c.args.written.now c.put_folder.new.self c.write_folder.new.written first c.write_folder.ensures.tree
+
+pub write_inner-returns-then-not-is_folder-clause-tree : goal.write_inner-returns-then-not-is_folder-clause-tree
+write_inner-returns-then-not-is_folder-clause-tree g t c = folders_none c.args.a c.args.at.text.now c.args.written.now
+
+pub write_inner-returns-in_default-clause-tree : goal.write_inner-returns-in_default-clause-tree
+write_inner-returns-in_default-clause-tree g t c = folders_none c.args.a c.args.at.text.now c.args.written.now
+
+pub write_inner-returns-clause-tree : goal.write_inner-returns-clause-tree
+write_inner-returns-clause-tree g t c =
+    let text = c.as_str.ensures ∙ c.in_ok-text.ensures in
+    named_some c.write_deeper.result c.args.a c.args.at.text.now c.as_str-name.result.now c.as_str.result.now c.args.written.now c.note.new.self c.write_deeper.new.written text c.in_ok-note.ensures.noted c.write_deeper.ensures.tree

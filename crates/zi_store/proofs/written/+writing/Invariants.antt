@@ -6,6 +6,7 @@ use Rattle.zi_store.specs.Keeping.{Keeps, is_reading}
 use Rattle.zi_store.specs.Standing.{Stands}
 use Rattle.zi_store.specs.Entries.{entries_of}
 use Rattle.zi_store.proofs.WritingLemmas.{FoldersTo}
+use Rattle.zi_store.proofs.SomeTreeLemmas.{AddsSoFar}
 use Rattle.zi_store.proofs.written.+writing.Given as goal
 
 abbrev pub decreases-write_folder : goal.decreases-write_folder
@@ -23,3 +24,4 @@ invariant-write_folder-loop-entry g l =
     × ((whole : Bool) (d : Dir) → Stands ((g.K.Shelf.seen l.fn.k).honest) ((g.K.Shelf.seen l.fn.k).told) l.at.top.now l.at.path.now d → is_tree d ≡ true → l.entries ≡ entries_of (shown whole d)
     → FoldersTo l.a l.at.text.now l.at.depth (shown whole d) (drop l.entry-index l.entries) l.fn.written l.written)
     × ((g.K.Shelf.seen l.k).faults ≡ (g.K.Shelf.seen l.fn.k).faults)
+    × AddsSoFar l.a l.at.text.now l.fn.written l.written

@@ -8,6 +8,7 @@ use Rattle.zi_store.specs.Written.{Adds}
 use Rattle.zi_store.specs.declared.counts.Counts.{Counts}
 use Rattle.zi_store.proofs.WalkLemmas.{walks_passed, failed_passed, sized}
 use Rattle.zi_store.proofs.WritingLemmas.{no_room, hash_stops, file_node, adds_leaf}
+use Rattle.zi_store.proofs.SomeTreeLemmas.{leaf_some}
 use Rattle.zi_store.proofs.written.write_file.Goals as goal
 
 pub returns-in_err-room-clause-walks : goal.returns-in_err-room-clause-walks
@@ -50,3 +51,14 @@ returns-clause-adds g c bytes st =
     let line = subst (λ l. Adds c.meet.new.self c.put_file.new.self l None) is c.in_ok-put_file.ensures.line in
     let noted : Adds c.args.written.now c.meet.new.self [] (bad_name c.args.at.text.now n) = record { text = c.in_ok-meet.ensures.noted.text; first = c.in_ok-meet.ensures.noted.first } in
     adds_leaf c.args.written.now c.meet.new.self c.put_file.new.self (node_text c.args.a false n (File bytes c.args.exec c.args.mtime)) (bad_name c.args.at.text.now n) noted line
+
+pub returns-clause-tree : goal.returns-clause-tree
+returns-clause-tree g c =
+    let r = c.in_ok-hashed.ensures.some in
+    let n = c.args.name.now in
+    let fits : FitsSigned w64 c.args.mtime = search rules in
+    let is = file_node c.args.a n r.bytes c.args.exec c.args.mtime _ c.in_ok-hashed.hashed.hash c.in_ok-hashed.hashed.size (to_z-of_z w64 c.args.mtime fits) r.hash r.size in
+    let line = subst (λ l. Adds c.meet.new.self c.put_file.new.self l None) is c.in_ok-put_file.ensures.line in
+    let noted : Adds c.args.written.now c.meet.new.self [] (bad_name c.args.at.text.now n) = record { text = c.in_ok-meet.ensures.noted.text; first = c.in_ok-meet.ensures.noted.first } in
+    leaf_some c.args.a c.args.at.text.now n (File r.bytes c.args.exec c.args.mtime) c.args.written.now c.put_file.new.self
+    (adds_leaf c.args.written.now c.meet.new.self c.put_file.new.self (node_text c.args.a false n (File r.bytes c.args.exec c.args.mtime)) (bad_name c.args.at.text.now n) noted line)

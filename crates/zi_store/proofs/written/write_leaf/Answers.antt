@@ -8,6 +8,7 @@ use Rattle.zi_store.specs.Written.{Adds}
 use Rattle.zi_store.specs.declared.stop.Stop.TheVariants.{Fault}
 use Rattle.zi_store.proofs.LeafLemmas.{has_child, child_is, listed_at}
 use Rattle.zi_store.proofs.WritingLemmas.{leaf_none, leaf_unmet, as_link, as_told}
+use Rattle.zi_store.proofs.SomeTreeLemmas.{leaves_none}
 use Rattle.zi_store.proofs.written.write_leaf.Goals as goal
 
 pub returns-in_default-clause-walks : goal.returns-in_default-clause-walks
@@ -52,3 +53,9 @@ returns-clause-sure g c sure x l e =
     let fits : FitsSigned w64 c.in-File.mtime = search rules in
     let here = child_is c.args.entry.now.name c.as_str-name.result.now _ c.args.at.path.now _ c.as_str-name.ensures (sym c.in-Some.is ∙ c.in_ok-path.ensures) in
     as_told (λ (y : TreeNode). c.write_file.result ≡ Err (Fault Failed) → ⊥) x c.args.entry.now.kind c.in-File.exec c.in-File.mtime _ c.in-File.size (to_z-of_z w64 c.in-File.mtime fits) l.kind c.in-File.is (listed_at c.args.at.path.now c.args.entry.now x _ here l) (λ bytes st. c.write_file.ensures.sure sure bytes st) e
+
+pub returns-in_default-clause-tree : goal.returns-in_default-clause-tree
+returns-in_default-clause-tree g c = leaves_none c.args.a c.args.at.text.now c.args.written.now
+
+pub returns-in-Folder-clause-tree : goal.returns-in-Folder-clause-tree
+returns-in-Folder-clause-tree g c = leaves_none c.args.a c.args.at.text.now c.args.written.now

@@ -6,6 +6,7 @@ use Rattle.zi_store.proofs.KeepingLemmas.{keeps_none, keeps_then, stands_later, 
 use Rattle.zi_store.proofs.WalkLemmas.{failed_passed}
 use Rattle.zi_store.proofs.LoopLemmas.{next_asks, left_at, left_none}
 use Rattle.zi_store.proofs.WritingLemmas.{write_start, write_more, write_stops, write_end}
+use Rattle.zi_store.proofs.SomeTreeLemmas.{leaves_none, leaves_then}
 use Rattle.zi_store.proofs.written.write_leaves.Goals as goal
 
 pub loop-entry-init : goal.loop-entry-init
@@ -13,6 +14,7 @@ loop-entry-init g c = (
   keeps_none is_reading _,
   λ whole d st t e. write_start c.args.a c.args.at.text.now (shown whole d) _ c.args.written.now e,
   refl,
+  leaves_none c.args.a c.args.at.text.now c.args.written.now,
 )
 
 pub returns-in_err-write_leaf-clause-walks : goal.returns-in_err-write_leaf-clause-walks
@@ -48,6 +50,7 @@ loop-entry-preserved g c =
           write_more c.args.a c.args.at.text.now whole d c.entry-item.result _ _ c.args.written.now l.written c.write_leaf.new.written
           (stands_later l.invariant.0 st) t (l.invariant.1 whole d st t e) left (λ x listed. (c.in_ok-write_leaf.ensures.walks x listed).1) c.in_ok-write_leaf.ensures.adds,
       c.in_ok-write_leaf.ensures.count (λ e. cc e) ∙ l.invariant.2,
+      leaves_then c.args.a c.args.at.text.now c.args.written.now l.written c.write_leaf.new.written l.invariant.3 c.in_ok-write_leaf.ensures.tree,
     )
 
 pub returns-clause-walks : goal.returns-clause-walks
@@ -62,3 +65,6 @@ returns-clause-adds g c whole d st t e =
 
 pub returns-clause-keeps : goal.returns-clause-keeps
 returns-clause-keeps g c = c.loop-entry.invariant.0
+
+pub returns-clause-tree : goal.returns-clause-tree
+returns-clause-tree g c = c.loop-entry.invariant.3

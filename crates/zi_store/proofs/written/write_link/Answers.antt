@@ -7,6 +7,7 @@ use Rattle.zi_store.specs.Written.{Adds}
 use Rattle.zi_store.specs.declared.counts.Counts.{Counts}
 use Rattle.zi_store.proofs.WalkLemmas.{walks_passed}
 use Rattle.zi_store.proofs.WritingLemmas.{target_is, adds_leaf}
+use Rattle.zi_store.proofs.SomeTreeLemmas.{leaf_some}
 use Rattle.zi_store.proofs.written.write_link.Goals as goal
 
 pub returns-in_err-meet-clause-walks : goal.returns-in_err-meet-clause-walks
@@ -24,3 +25,9 @@ returns-clause-adds g c target st =
     let same = target_is target c.in_ok-target.target st (c.in_ok-target.ensures.answer st.state st.keeps st.tells) in
     let line = subst (λ t. Adds c.meet.new.self c.put_link.new.self (node_text c.args.a false c.args.name.now (Link t)) None) (c.as_str.ensures ∙ same) c.in_ok-put_link.ensures.line in
     adds_leaf c.args.written.now c.meet.new.self c.put_link.new.self (node_text c.args.a false c.args.name.now (Link target)) (bad_name c.args.at.text.now c.args.name.now) c.in_ok-meet.ensures.noted line
+
+pub returns-clause-tree : goal.returns-clause-tree
+returns-clause-tree g c =
+    let n = c.args.name.now in
+    let target = Link c.as_str.result.now in
+    leaf_some c.args.a c.args.at.text.now n target c.args.written.now c.put_link.new.self (adds_leaf c.args.written.now c.meet.new.self c.put_link.new.self (node_text c.args.a false n target) (bad_name c.args.at.text.now n) c.in_ok-meet.ensures.noted c.in_ok-put_link.ensures.line)

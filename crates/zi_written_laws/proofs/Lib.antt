@@ -1,0 +1,12 @@
+mod TextLaws
+mod AddressLaws
+mod ElemLaws
+mod PartLaws
+mod ImplLaws
+mod UniverseLaws
+mod DigitLaws
+mod MadeLaws
+mod DrawnLaws
+mod StandLaws
+mod WrittenLaws
+mod EndLaws
