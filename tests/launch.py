@@ -250,7 +250,9 @@ def an_interrupt_goes_to_the_program(folder):
     """An interrupt of the terminal goes to both: zi ends by it, since the kit has no handling of signals, and the program ends as it sees fit."""
     program(folder, "main", '#!/bin/sh\ntrap "echo told; exit 7" INT\necho ready\nwhile :; do sleep 0.1; done\n')
     root = app(folder, command())
-    process = subprocess.Popen([PROGRAM, "run", root], cwd=folder, stdout=subprocess.PIPE, start_new_session=True)
+    # a shell that starts this in the background has interrupts ignored, and what is ignored stays so in programs
+    heard = lambda: signal.signal(signal.SIGINT, signal.SIG_DFL)
+    process = subprocess.Popen([PROGRAM, "run", root], cwd=folder, stdout=subprocess.PIPE, start_new_session=True, preexec_fn=heard)
     holds("ready", process.stdout.readline() == b"ready\n")
     os.killpg(process.pid, signal.SIGINT)
     holds("told", process.stdout.read() == b"told\n")
