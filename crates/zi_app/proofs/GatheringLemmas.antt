@@ -1,12 +1,13 @@
 -- The tree of the parts, as it grows.
 use Rattle.std.proofs.Common.{◌≡◌, ℕ, Bool, true, false, ◌&&◌, List, [], ◌∷◌, ◌++◌, take, length, map, get_or, Option, Some, None, refl, sym, ◌∙◌, ap, subst, bytes_eq, if◌then◌else◌, ◌<◌, arith}
-use Rattle.std.specs.Prelude.{not, slice_get, IsSome, is_some, Ok, Err, IfSome, IsSomeAnd, ◌≤◌, ◌+◌, sum, nat_lt}
+use Rattle.std.specs.Prelude.{not, slice_get, IsSome, is_some, Ok, Err, IfSome, IsSomeAnd, ◌≤◌, ◌+◌, sum}
 use Rattle.std.proofs.Common.{zero, suc, inl, inr, ◌||◌}
 use Rattle.std.specs.Option.{option_or}
 use Rattle.std.specs.List.{list_all}
 use Rattle.std.proofs.lemmas.Option.{slice_get_read}
 use Rattle.std.proofs.lemmas.Slice.Eq.{bytes_eq-Decides}
 use Rattle.std.proofs.lemmas.List.{map-append, take_more, take-map, take_all}
+use Rattle.std.proofs.lemmas.Bool.{and_parts, and_from}
 use Rattle.zi_outside.specs.Count.{Rose}
 use Rattle.zi_outside.specs.Outside.{Asks}
 use Rattle.zi_outside.specs.Views.{Holding, Feeding, holding}
@@ -17,7 +18,7 @@ use Rattle.zi_tree.specs.Paths.{items, node_in, placed, placed_new, inserted}
 use Rattle.zi_tree.specs.Views.{dir, Item}
 use Rattle.zi_tree.specs.declared.tree.TreeNode.{TreeNode}
 use Rattle.zi_tree.proofs.Items.{items_of_dir}
-use Rattle.zi_session.proofs.Placed.{node_placed, node_placed_other, differ_flip, and_parts, and_whole}
+use Rattle.zi_session.proofs.Placed.{node_placed, node_placed_other, differ_flip}
 use Rattle.zi_words.specs.Forms.{Word}
 use Rattle.zi_words.specs.Store.{last_part, is_name, is_file}
 use Rattle.zi_app.specs.declared.gathering.Held.{Held}
@@ -286,7 +287,7 @@ names_of_parts told [] (q ∷ ps) h r = absurd h
 names_of_parts told (g ∷ fs) [] h r = absurd h
 names_of_parts told (g ∷ fs) (q ∷ ps) h r =
     let p = and_parts (is_file g) (list_all is_file fs) r in
-    and_whole (is_name q.name) (list_all is_name (names_of ps)) (ap is_name h.0.named ∙ p.0) (names_of_parts told fs ps h.1 p.1)
+    and_from (is_name q.name) (list_all is_name (names_of ps)) (ap is_name h.0.named ∙ p.0) (names_of_parts told fs ps h.1 p.1)
 
 pub names_right : (fs : List Word) (old new : Feeding) (h : Held) → GetsHeld fs old new h → list_all is_file fs ≡ true → list_all is_name (names_of h.parts) ≡ true
 names_right fs old new h a r = ap (list_all is_name) a.holds.names ∙ names_of_parts (holding old) fs a.parts a.got.are r

@@ -3,7 +3,7 @@
 use Rattle.std.proofs.Common.{◌≡◌, ℕ, suc, ◌==◌, ◌+◌, ◌<◌, ◌≤◌, Bool, true, false, not, cond, ◌||◌, ◌&&◌, List, [], ◌∷◌, ◌++◌, length, map, refl, sym, ap, ap₂, ◌∙◌, subst, arith, Option, Some, None, eqb-true}
 use Rattle.std.specs.Prelude.{slice_get}
 use Rattle.std.specs.List.{All}
-use Rattle.std.proofs.lemmas.Bool.{false≢true}
+use Rattle.std.proofs.lemmas.Bool.{false≢true, and_parts, and_from}
 use Rattle.std.proofs.lemmas.List.Elements.{All-nil, All-cons}
 use Rattle.zi_policy.specs.declared.types.Width.{Width}
 use Rattle.zi_policy.specs.declared.types.Width.TheVariants.{Any, Bits32, Bits64}
@@ -20,7 +20,7 @@ use Rattle.zi_formula.specs.Form.{ConstraintWithin, Within, same_lit, has_lit, h
 use Rattle.zi_choice.specs.Vars.{Var, Cand, Cmd, Wide, candidates_of, var_number, var_count}
 use Rattle.zi_build.specs.Clauses.{same_var, Says, yes, no, Rule, Some_of, One_of, same_says, without, once, clause, each, keep, is_admitted, at_target, among, admitted_one, refused_one, admission, having, named_one, naming, named_by, need, needs, of_width, of_command, of_candidate, of_interface, two_or_more, one_var, group_of, root_one, wanted_one, of_requirement, rules, lit_of, constraint_of, formula, size_of, literals}
 use Rattle.zi_build.specs.Laws.{IsFormed}
-use Rattle.zi_choice.proofs.Base.{and_split, and_both, nat_same, found_of, candidates_at}
+use Rattle.zi_choice.proofs.Base.{nat_same, found_of, candidates_at}
 use Rattle.zi_build.proofs.Meaning.{IsAt}
 use Rattle.zi_build.proofs.Read.{some_true, none_of, one_true, rule_true, rules_true}
 use Rattle.zi_build.proofs.Numbers.{one_number, number_low, number_high}
@@ -124,8 +124,8 @@ once_once [] = tt
 once_once (l ∷ ls) = (without_lacks l (once ls), without_once l (once ls) (once_once ls))
 
 var_same : (x : Var) → same_var x x ≡ true
-var_same (Cand i c) = and_both (i == i) (c == c) (nat_same i) (nat_same c)
-var_same (Cmd i c n) = and_both (i == i) (c == c && n == n) (nat_same i) (and_both (c == c) (n == n) (nat_same c) (nat_same n))
+var_same (Cand i c) = and_from (i == i) (c == c) (nat_same i) (nat_same c)
+var_same (Cmd i c n) = and_from (i == i) (c == c && n == n) (nat_same i) (and_from (c == c) (n == n) (nat_same c) (nat_same n))
 var_same Wide = refl
 
 sign_turned : (a b : Bool) → cond a b (not b) ≡ true → cond b a (not a) ≡ true
@@ -144,9 +144,9 @@ lit_lacks u l (m ∷ ms) a h e =
     at : (b : Bool) → same_lit (lit_of u m) (lit_of u l) ≡ b → same_says l m ≡ false → has_lit (map (lit_of u) ms) (lit_of u l) ≡ false → cond b true (has_lit (map (lit_of u) ms) (lit_of u l)) ≡ false
     at false p q r = r
     at true p q r =
-        let b = and_split (var_number u m.of == var_number u l.of) (cond m.holds l.holds (not l.holds)) p in
+        let b = and_parts (var_number u m.of == var_number u l.of) (cond m.holds l.holds (not l.holds)) p in
         let same : m.of ≡ l.of = one_number u m.of l.of h.0 a (eqb-true (var_number u m.of) (var_number u l.of) b.0) in
-        absurd (false≢true (sym q ∙ and_both (same_var l.of m.of) (cond l.holds m.holds (not m.holds)) (subst (λ x. same_var l.of x ≡ true) (sym same) (var_same l.of)) (sign_turned m.holds l.holds b.1)))
+        absurd (false≢true (sym q ∙ and_from (same_var l.of m.of) (cond l.holds m.holds (not m.holds)) (subst (λ x. same_var l.of x ≡ true) (sym same) (var_same l.of)) (sign_turned m.holds l.holds b.1)))
 
 lits_once : (u : List Interface) (ls : List Says) → SaysListed u ls → OnceSays ls → Once (map (lit_of u) ls)
 lits_once u [] h g = tt

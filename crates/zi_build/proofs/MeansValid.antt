@@ -3,7 +3,7 @@
 use Rattle.std.proofs.Common.{◌≡◌, ℕ, ◌==◌, Bool, true, false, ◌&&◌, List, [], ◌∷◌, length, refl, sym, ap, ◌∙◌, subst, Option, Some, None, inl, inr}
 use Rattle.std.specs.Prelude.{slice_get, All, IsSome, IfSome, IsSomeAnd, option_and_then, bytes_eq, if◌then◌else◌}
 use Rattle.std.specs.Cmp.Lexicographic.{bytes_decides}
-use Rattle.std.proofs.lemmas.Bool.{false≢true}
+use Rattle.std.proofs.lemmas.Bool.{false≢true, and_from}
 use Rattle.std.proofs.lemmas.Option.{slice_get_within}
 use Rattle.std.proofs.lemmas.List.Elements.{All-nil, All-cons}
 use Rattle.zi_feed.specs.declared.feed.Dep.{Dep}
@@ -20,7 +20,7 @@ use Rattle.zi_choice.specs.Valid.{Has, Suits, IsMet, AreMet, IsValid, target}
 use Rattle.zi_choice.proofs.WalkLaws.{none_some, one_value, true_false}
 use Rattle.zi_choice.specs.Vars.{Var, Cand, Cmd, Wide, candidates_of}
 use Rattle.zi_build.specs.Clauses.{is_admitted, named_by}
-use Rattle.zi_choice.proofs.Base.{all_from, any_at, some_of, is_some_of, if_some_from, candidate_is, chosen_is, chosen_from, Stands, stands_at, found_of, and_both, nat_same}
+use Rattle.zi_choice.proofs.Base.{all_from, any_at, some_of, is_some_of, if_some_from, candidate_is, chosen_is, chosen_from, Stands, stands_at, found_of, nat_same}
 use Rattle.zi_choice.proofs.WalkFacts.{is_on, on_is, Item, Visit, Need, has, IsThere, LeadsBy, Leads, deps_after, after, closed, root_listed, spread}
 use Rattle.zi_choice.proofs.ThereLaws.{In}
 use Rattle.zi_build.proofs.Meaning.{IsAt, UsesOne, Uses, HasOne, DepMeans, AllMean, Means}
@@ -207,7 +207,7 @@ module _ (u : List Interface) (req : Requirement) (w : Var → Bool) (m : Means 
 
   uses_met : (n : ℕ) (x : Use) → slice_get a.used n ≡ Some x → IfSome (command_at u s x.interface x.command) (λ m. AreMet u s (needs_of m))
   uses_met n x e =
-      let on : is_used a x.interface x.command ≡ true = any_at (λ (y : Use). y.interface == x.interface && bytes_eq y.command x.command) a.used n x e (and_both (x.interface == x.interface) (bytes_eq x.command x.command) (nat_same x.interface) ((bytes_decides x.command x.command).1 refl)) in
+      let on : is_used a x.interface x.command ≡ true = any_at (λ (y : Use). y.interface == x.interface && bytes_eq y.command x.command) a.used n x e (and_from (x.interface == x.interface) (bytes_eq x.command x.command) (nat_same x.interface) ((bytes_decides x.command x.command).1 refl)) in
       if_some_from (λ m. AreMet u s (needs_of m)) (command_at u s x.interface x.command) (λ y g. use_case x.interface x.command (chosen u s x.interface) y refl g g on)
 
   pub means_valid : length s ≡ length u → ((i c : ℕ) → pick s i ≡ Some c → is_listed a i ≡ true) → IsValid u req s

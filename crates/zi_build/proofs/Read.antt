@@ -1,7 +1,7 @@
 -- The list of constraints is true of an assignment exactly where its families hold.
 use Rattle.std.proofs.Common.{◌≡◌, ℕ, zero, suc, ◌==◌, ◌+◌, ◌<◌, Bool, true, false, not, cond, ◌||◌, ◌&&◌, List, [], ◌∷◌, ◌++◌, length, refl, sym, ap, ap₂, ◌∙◌, subst, arith, Option, Some, None, ◌⊎◌, inl, inr, eqb-true}
 use Rattle.std.specs.Prelude.{slice_get}
-use Rattle.std.proofs.lemmas.Bool.{false≢true}
+use Rattle.std.proofs.lemmas.Bool.{false≢true, false_from_ne_true, and_parts, and_from, or_left, or_right}
 use Rattle.zi_policy.specs.declared.types.Width.{Width}
 use Rattle.zi_policy.specs.declared.types.Width.TheVariants.{Any, Bits32, Bits64}
 use Rattle.zi_feed.specs.declared.feed.Dep.{Dep}
@@ -17,7 +17,7 @@ use Rattle.zi_choice.specs.Valid.{group}
 use Rattle.zi_choice.proofs.WalkLaws.{none_some, some_same}
 use Rattle.zi_choice.specs.Vars.{Var, Cand, Cmd, Wide, candidates_of}
 use Rattle.zi_build.specs.Clauses.{same_var, Says, yes, no, Rule, Some_of, One_of, same_says, without, once, clause, each, keep, is_admitted, at_target, among, admitted_one, refused_one, admission, having, named_one, naming, named_by, need, needs, of_width, of_command, of_candidate, of_interface, two_or_more, one_var, group_of, root_one, wanted_one, of_requirement, rules}
-use Rattle.zi_choice.proofs.Base.{interface_at, candidates_at, Iff, bool_case, and_split, and_both, or_split, or_left, or_right}
+use Rattle.zi_choice.proofs.Base.{interface_at, candidates_at, Iff, bool_case, or_split}
 use Rattle.zi_build.proofs.Meaning.{IsAt, UsesOne, Uses, HasOne, DepMeans, AllMean, HasRoot, AtMostOneOf, CandidateMeans, Means}
 use Rattle.zi_build.proofs.MeansValid.{recommended_apart, restricts_apart}
 
@@ -47,12 +47,12 @@ rules_true w (r ∷ rs) = rule_true w r && rules_true w rs
 pub app_true : (w : Var → Bool) (a b : List Rule) → Iff (rules_true w (a ++ b) ≡ true) ((rules_true w a ≡ true) × (rules_true w b ≡ true))
 app_true w [] b = (λ h. (refl, h), λ h. h.1)
 app_true w (r ∷ a) b = (
-  λ h. let s = and_split (rule_true w r) (rules_true w (a ++ b)) h in let t = (app_true w a b).0 s.1 in (and_both (rule_true w r) (rules_true w a) s.0 t.0, t.1),
-  λ h. let s = and_split (rule_true w r) (rules_true w a) h.0 in and_both (rule_true w r) (rules_true w (a ++ b)) s.0 ((app_true w a b).1 (s.1, h.1)),
+  λ h. let s = and_parts (rule_true w r) (rules_true w (a ++ b)) h in let t = (app_true w a b).0 s.1 in (and_from (rule_true w r) (rules_true w a) s.0 t.0, t.1),
+  λ h. let s = and_parts (rule_true w r) (rules_true w a) h.0 in and_from (rule_true w r) (rules_true w (a ++ b)) s.0 ((app_true w a b).1 (s.1, h.1)),
 )
 
 pub one_rule : (w : Var → Bool) (r : Rule) → Iff (rules_true w (r ∷ []) ≡ true) (rule_true w r ≡ true)
-one_rule w r = (λ h. (and_split (rule_true w r) true h).0, λ h. and_both (rule_true w r) true h refl)
+one_rule w r = (λ h. (and_parts (rule_true w r) true h).0, λ h. and_from (rule_true w r) true h refl)
 
 -- what is said of each item holds exactly where it holds of each by its place
 pub each_true : {A : Type 0} (w : Var → Bool) (n : ℕ) (f : ℕ → A → List Rule) (xs : List A) → Iff (rules_true w (each n f xs) ≡ true) ((k : ℕ) (x : A) → slice_get xs k ≡ Some x → rules_true w (f (n + k) x) ≡ true)
@@ -77,13 +77,13 @@ each0_true w f xs = (
 
 -- a literal once or twice is the same
 pub var_eq : (x y : Var) → same_var x y ≡ true → x ≡ y
-var_eq (Cand i c) (Cand j d) e = let b = and_split (i == j) (c == d) e in ap₂ (λ x y. Cand x y) (eqb-true i j b.0) (eqb-true c d b.1)
+var_eq (Cand i c) (Cand j d) e = let b = and_parts (i == j) (c == d) e in ap₂ (λ x y. Cand x y) (eqb-true i j b.0) (eqb-true c d b.1)
 var_eq (Cand i c) (Cmd j d k) e = absurd (false≢true e)
 var_eq (Cand i c) Wide e = absurd (false≢true e)
 var_eq (Cmd i c l) (Cand j d) e = absurd (false≢true e)
 var_eq (Cmd i c l) (Cmd j d k) e =
-    let b = and_split (i == j) (c == d && l == k) e in
-    let b2 = and_split (c == d) (l == k) b.1 in
+    let b = and_parts (i == j) (c == d && l == k) e in
+    let b2 = and_parts (c == d) (l == k) b.1 in
     ap₂ (λ x y. Cmd x y l) (eqb-true i j b.0) (eqb-true c d b2.0) ∙ ap (λ z. Cmd j d z) (eqb-true l k b2.1)
 var_eq (Cmd i c l) Wide e = absurd (false≢true e)
 var_eq Wide (Cand j d) e = absurd (false≢true e)
@@ -98,7 +98,7 @@ bool_eq false false e = refl
 
 lit_eq : (w : Var → Bool) (l m : Says) → same_says l m ≡ true → says_true w l ≡ says_true w m
 lit_eq w l m e =
-    let b = and_split (same_var l.of m.of) (cond l.holds m.holds (not m.holds)) e in
+    let b = and_parts (same_var l.of m.of) (cond l.holds m.holds (not m.holds)) e in
     ap₂ (λ x y. cond x (w y) (not (w y))) (bool_eq l.holds m.holds b.1) (var_eq l.of m.of b.0)
 
 or_absorb : (a b c : Bool) → (a || b) ≡ (a || c) → (a || (a || b)) ≡ (a || c)
@@ -284,8 +284,8 @@ command_true u w i c n m =
     let x = Cmd i c n in
     let first = clause (no x ∷ yes (Cand i c) ∷ []) in
     let rest = needs u x (needs_of m) in (
-      λ h t. let s = and_split (rule_true w first) (rules_true w rest) h in ((or_nil (w (Cand i c))).0 ((imp w x (yes (Cand i c) ∷ [])).0 s.0 t), (needs_true u w x (needs_of m)).0 s.1 t),
-      λ h. and_both (rule_true w first) (rules_true w rest) ((imp w x (yes (Cand i c) ∷ [])).1 (λ t. (or_nil (w (Cand i c))).1 (h t).0)) ((needs_true u w x (needs_of m)).1 (λ t. (h t).1)),
+      λ h t. let s = and_parts (rule_true w first) (rules_true w rest) h in ((or_nil (w (Cand i c))).0 ((imp w x (yes (Cand i c) ∷ [])).0 s.0 t), (needs_true u w x (needs_of m)).0 s.1 t),
+      λ h. and_from (rule_true w first) (rules_true w rest) ((imp w x (yes (Cand i c) ∷ [])).1 (λ t. (or_nil (w (Cand i c))).1 (h t).0)) ((needs_true u w x (needs_of m)).1 (λ t. (h t).1)),
     )
 
 -- bit groups
@@ -323,11 +323,6 @@ candidate_true u w i c k =
       ),
     )
 
--- groups
-flip : (b : Bool) → (b ≡ true → ⊥) → b ≡ false
-flip true f = absurd (f refl)
-flip false f = refl
-
 cond_false : (b r : Bool) → Iff (cond b false r ≡ true) ((b ≡ false) × (r ≡ true))
 cond_false true r = (λ h. absurd (false≢true h), λ h. absurd (false≢true (sym h.0)))
 cond_false false r = (λ h. (refl, h), λ h. h.1)
@@ -350,7 +345,7 @@ abbrev OneFrom : (Var → Bool) → ℕ → ℕ → ℕ → Type 0
 OneFrom w i n len = (c d : ℕ) → c < len → d < len → w (Cand i (n + c)) ≡ true → w (Cand i (n + d)) ≡ true → c ≡ d
 
 one_case : (w : Var → Bool) (i n len : ℕ) (b nr r : Bool) → w (Cand i n) ≡ b → Iff (nr ≡ true) ((c : ℕ) → c < len → w (Cand i (suc n + c)) ≡ false) → Iff (r ≡ true) (OneFrom w i (suc n) len) → Iff (cond b nr r ≡ true) (OneFrom w i n (suc len))
-one_case w i n len true nr r e f g = (λ h. forth (f.0 h), λ h. f.1 (λ c l. flip (w (Cand i (suc n + c))) (λ t. back h c l t)))
+one_case w i n len true nr r e f g = (λ h. forth (f.0 h), λ h. f.1 (λ c l. false_from_ne_true (w (Cand i (suc n + c))) (λ t. back h c l t)))
   where
     forth : ((c : ℕ) → c < len → w (Cand i (suc n + c)) ≡ false) → OneFrom w i n (suc len)
     forth a zero zero l m p q = refl
@@ -444,7 +439,7 @@ rules_mean u req w =
     let g = each 0 group_of u in
     let m = each 0 (of_interface u) u in (
       λ h.
-          let s = and_split (rule_true w first) (rules_true w (q ++ (g ++ m))) h in
+          let s = and_parts (rule_true w first) (rules_true w (q ++ (g ++ m))) h in
           let t = (app_true w q (g ++ m)).0 s.1 in
           let v = (app_true w g m).0 t.1 in
           record {
@@ -453,7 +448,7 @@ rules_mean u req w =
             one = (groups_true u w).0 v.0;
             each = λ i c k at. let x = interface_at u i c k at in (candidate_true u w i c k).0 ((each0_true w (of_candidate u i) x.0.candidates).0 ((each0_true w (of_interface u) u).0 v.1 i x.0 x.1) c k x.2);
           },
-      λ h. and_both (rule_true w first) (rules_true w (q ++ (g ++ m))) ((root_true u w).1 h.root)
+      λ h. and_from (rule_true w first) (rules_true w (q ++ (g ++ m))) ((root_true u w).1 h.root)
           ((app_true w q (g ++ m)).1 (
             (requirement_true u w req.command).1 h.root_has,
             (app_true w g m).1 (

@@ -1,7 +1,7 @@
 -- What holds where nothing more is to be said: each clause has candidates alone that it asks for, or one variable behind
 -- others that it forbids.
 use Rattle.std.proofs.Common.{◌≡◌, ℕ, Bool, true, false, not, cond, List, [], ◌∷◌, ◌++◌, length, refl, sym, ap, ◌∙◌, Option, Some, None, ◌⊎◌, inl, inr}
-use Rattle.std.proofs.lemmas.Bool.{false≢true}
+use Rattle.std.proofs.lemmas.Bool.{false≢true, and_parts}
 use Rattle.zi_policy.specs.declared.types.Width.{Width}
 use Rattle.zi_policy.specs.declared.types.Width.TheVariants.{Any, Bits32, Bits64}
 use Rattle.zi_feed.specs.declared.feed.Dep.{Dep}
@@ -14,7 +14,6 @@ use Rattle.zi_choice.specs.Choice.{number, needs_of, command_place}
 use Rattle.zi_choice.specs.Valid.{group}
 use Rattle.zi_choice.specs.Vars.{Var, Cand, Cmd, Wide, candidates_of}
 use Rattle.zi_build.specs.Clauses.{same_var, Says, yes, no, Rule, Some_of, One_of, same_says, without, once, clause, each, is_admitted, among, admitted_one, refused_one, admission, having, named_one, naming, named_by, need, needs, of_width, of_command, of_candidate, of_interface, two_or_more, one_var, group_of, root_one, wanted_one, of_requirement, rules}
-use Rattle.zi_choice.proofs.Base.{and_split}
 use Rattle.zi_build.proofs.Formed.{Every, every_app, every_each0, every_keep, every_once, target_every}
 
 abbrev pub IsCand : Var → Type 0
@@ -48,7 +47,7 @@ without_neg z l (m ∷ ms) e (inl h) = at (same_says l m) (without_neg z l ms e 
 without_neg z l (m ∷ ms) e (inr h) = at (same_says l m) refl
   where
     at : (b : Bool) → same_says l m ≡ b → NegThen z (cond b (without l ms) (m ∷ without l ms))
-    at true q = absurd (apart_case l.holds m.holds e (ap (λ (x : Says). x.holds) h.0) (and_split (same_var l.of m.of) (cond l.holds m.holds (not m.holds)) q).1)
+    at true q = absurd (apart_case l.holds m.holds e (ap (λ (x : Says). x.holds) h.0) (and_parts (same_var l.of m.of) (cond l.holds m.holds (not m.holds)) q).1)
     at false q = inr (h.0, ap (λ xs. without l xs) h.1)
 
 once_neg : (z : Var) (ls : List Says) → NegThen z ls → NegThen z (once ls)

@@ -3,7 +3,7 @@
 use Rattle.std.proofs.Common.{◌≡◌, ℕ, zero, suc, ◌==◌, ◌<◌, Bool, true, false, ◌&&◌, ◌||◌, List, [], ◌∷◌, length, refl, sym, ap, ◌∙◌, subst, arith, Option, Some, None, inl, inr, eqb-true}
 use Rattle.std.specs.Prelude.{slice_get, All, IfSome, IsSomeAnd, option_and_then, bytes_eq, if◌then◌else◌}
 use Rattle.std.specs.Cmp.Lexicographic.{bytes_decides}
-use Rattle.std.proofs.lemmas.Bool.{false≢true, false_from_ne_true, cases_lt}
+use Rattle.std.proofs.lemmas.Bool.{false≢true, false_from_ne_true, cases_lt, and_parts, and_from, or_left, or_right}
 use Rattle.std.proofs.lemmas.List.Elements.{All-head, All-tail, All-nil, All-cons}
 use Rattle.zi_policy.specs.declared.types.Width.{Width}
 use Rattle.zi_policy.specs.declared.types.Width.TheVariants.{Any, Bits32, Bits64}
@@ -19,7 +19,7 @@ use Rattle.zi_choice.specs.Walk.{Use, Walk, is_listed, is_used, wanted}
 use Rattle.zi_choice.specs.Valid.{Has, Suits, IsMet, AreMet, group, IsValid, target}
 use Rattle.zi_choice.proofs.WalkLaws.{none_some, some_same, one_value}
 use Rattle.zi_choice.specs.Vars.{Var, Cand, Cmd, Wide}
-use Rattle.zi_choice.proofs.Base.{all_at, any_found, some_of, is_some_of, if_some_at, chosen_is, chosen_from, Stands, stands_at, found_of, and_split, and_both, or_split, or_left, or_right, nat_same}
+use Rattle.zi_choice.proofs.Base.{all_at, any_found, some_of, is_some_of, if_some_at, chosen_is, chosen_from, Stands, stands_at, found_of, or_split, nat_same}
 use Rattle.zi_choice.proofs.WalkFacts.{Item, Visit, Need, has, IsThere, LeadsBy, Leads, deps_after, closed, cover_each, on_is}
 use Rattle.zi_choice.proofs.ThereLaws.{In}
 use Rattle.zi_build.proofs.Meaning.{IsAt, UsesOne, Uses, HasOne, AllMean, Means}
@@ -105,8 +105,8 @@ module _ (u : List Interface) (req : Requirement) (s : Choice) (v : IsValid u re
       let called : m.name ≡ name = (bytes_decides m.name name).0 h.called in
       let used : is_used v.walk i m.name ≡ true = subst (λ x. is_used v.walk i x ≡ true) (sym called) on in
       let placed : command_place k m.name ≡ Some h.place = ap (λ x. command_place k x) called ∙ h.placed in
-      let both : use_of v.walk i h.place k (Some m) ≡ true = and_both (is_used v.walk i m.name) (is_pick (command_place k m.name) h.place) used (pick_is (command_place k m.name) h.place placed) in
-      and_both (is_pick (pick s i) c) (use_at v.walk i h.place (chosen u s i)) (pick_is (pick s i) c p)
+      let both : use_of v.walk i h.place k (Some m) ≡ true = and_from (is_used v.walk i m.name) (is_pick (command_place k m.name) h.place) used (pick_is (command_place k m.name) h.place placed) in
+      and_from (is_pick (pick s i) c) (use_at v.walk i h.place (chosen u s i)) (pick_is (pick s i) c p)
       (subst (λ o. use_at v.walk i h.place o ≡ true) (sym e) (subst (λ o. use_of v.walk i h.place k o ≡ true) (sym h.there) both))
 
   uses_named : (i c : ℕ) (k : Candidate) (names : List (List ℕ)) → pick s i ≡ Some c → chosen u s i ≡ Some k → All (λ name. Has k name) names → ((name : List ℕ) → In name names → IsThere u s (Need i name) → is_used v.walk i name ≡ true) → Uses w i c k names
@@ -147,7 +147,7 @@ module _ (u : List Interface) (req : Requirement) (s : Choice) (v : IsValid u re
 
   pub used_case : (i c n : ℕ) (k : Candidate) (m : Command) → slice_get k.imp.commands n ≡ Some m → use_of v.walk i n k (slice_get k.imp.commands n) ≡ true → (is_used v.walk i m.name ≡ true) × (command_place k m.name ≡ Some n)
   used_case i c n k m e h =
-      let b = and_split (is_used v.walk i m.name) (is_pick (command_place k m.name) n) (subst (λ o. use_of v.walk i n k o ≡ true) e h) in
+      let b = and_parts (is_used v.walk i m.name) (is_pick (command_place k m.name) n) (subst (λ o. use_of v.walk i n k o ≡ true) e h) in
       (b.0, pick_eq (command_place k m.name) n b.1)
 
   pub on_walk : (i c : ℕ) → pick s i ≡ Some c → is_listed v.walk i ≡ true
@@ -155,13 +155,13 @@ module _ (u : List Interface) (req : Requirement) (s : Choice) (v : IsValid u re
 
   command_means : (i c n : ℕ) (k : Candidate) (m : Command) → IsAt u i c k → slice_get k.imp.commands n ≡ Some m → w (Cmd i c n) ≡ true → (w (Cand i c) ≡ true) × AllMean u w (needs_of m)
   command_means i c n k m at e t =
-      let b = and_split (is_pick (pick s i) c) (use_at v.walk i n (chosen u s i)) t in
+      let b = and_parts (is_pick (pick s i) c) (use_at v.walk i n (chosen u s i)) t in
       let x : chosen u s i ≡ Some k = picked i c k at b.0 in
       let y = used_case i c n k m e (subst (λ o. use_at v.walk i n o ≡ true) x b.1) in
       let found = found_name k m.name n m y.1 e in
       let it : command_at u s i m.name ≡ Some m = ap (λ o. option_and_then (λ c. command_of c m.name) o) x ∙ found in
       let on = any_found (λ (q : Use). q.interface == i && bytes_eq q.command m.name) v.walk.used y.0 in
-      let same = and_split (on.1.interface == i) (bytes_eq on.1.command m.name) on.3 in
+      let same = and_parts (on.1.interface == i) (bytes_eq on.1.command m.name) on.3 in
       let met : IfSome (command_at u s on.1.interface on.1.command) (λ m. AreMet u s (needs_of m)) = all_at (λ (q : Use). IfSome (command_at u s q.interface q.command) (λ m. AreMet u s (needs_of m))) v.walk.used on.0 on.1 v.used_met on.2 in
       let mine : IfSome (command_at u s i m.name) (λ m. AreMet u s (needs_of m)) =
       subst (λ j. IfSome (command_at u s j m.name) (λ m. AreMet u s (needs_of m))) (eqb-true on.1.interface i same.0)

@@ -1,7 +1,7 @@
 -- A certificate shows the best choice, and a refutation that none is valid.
-use Rattle.std.proofs.Common.{◌≡◌, ◌≢◌, ℕ, zero, suc, ◌+◌, ◌<◌, ◌≤◌, Bool, true, false, not, cond, ◌&&◌, ◌||◌, List, [], ◌∷◌, ◌++◌, map, refl, sym, ap, ◌∙◌, subst, arith, Option, Some, None, ◌⊎◌, inl, inr}
-use Rattle.std.specs.Prelude.{slice_get, IsSome, nat_lt}
-use Rattle.std.proofs.lemmas.Bool.{false≢true, false_from_ne_true}
+use Rattle.std.proofs.Common.{◌≡◌, ◌≢◌, ℕ, zero, suc, ◌+◌, Bool, true, false, not, ◌&&◌, List, [], ◌∷◌, ◌++◌, map, refl, sym, ap, ◌∙◌, subst, arith, Option, Some, None, inl, inr}
+use Rattle.std.specs.Prelude.{slice_get}
+use Rattle.std.proofs.lemmas.Bool.{false≢true, false_from_ne_true, and_parts}
 use Rattle.std.proofs.lemmas.Bool.Decides.{nat_tests}
 use Rattle.zi_formula.specs.declared.formula.Lit.{Lit}
 use Rattle.zi_formula.specs.declared.formula.Formula.{Formula}
@@ -10,7 +10,6 @@ use Rattle.zi_formula.specs.Form.{has_all}
 use Rattle.zi_proof.specs.declared.proof.Lemma.{Lemma}
 use Rattle.zi_proof.specs.declared.proof.Proof.{Proof}
 use Rattle.zi_proof.specs.declared.proof.Block.{Block}
-use Rattle.zi_proof.specs.declared.proof.Certificate.{Certificate}
 use Rattle.zi_proof.specs.Accepted.{follows, accepted, proves, lemma_clause}
 use Rattle.zi_proof.specs.Laws.{MakesTrue}
 use Rattle.zi_proof.proofs.Sound.{lemmas_are_true, blocks_exclude}
@@ -18,19 +17,19 @@ use Rattle.zi_universe.specs.declared.types.Requirement.{Requirement}
 use Rattle.zi_universe.specs.declared.types.Candidate.{Candidate}
 use Rattle.zi_universe.specs.declared.types.Interface.{Interface}
 use Rattle.zi_choice.specs.Choice.{Choice, pick, candidate_at}
-use Rattle.zi_choice.specs.Walk.{Place, Walk, Walks}
+use Rattle.zi_choice.specs.Walk.{Place, Walk}
 use Rattle.zi_choice.specs.Valid.{IsValid}
-use Rattle.zi_choice.specs.Best.{IsBetter, RanksEarlier, IsBest}
+use Rattle.zi_choice.specs.Best.{IsBetter, RanksEarlier}
 use Rattle.zi_choice.proofs.WalkLaws.{none_some, some_same, walk_one}
 use Rattle.zi_choice.proofs.ApartLaws.{one_earlier}
-use Rattle.zi_choice.specs.Vars.{Var, Cand, candidates_of, var_number}
+use Rattle.zi_choice.specs.Vars.{Cand, candidates_of, var_number}
 use Rattle.zi_build.specs.Clauses.{each, keep, formula}
 use Rattle.zi_build.specs.Laws.{IsCandidatePart}
-use Rattle.zi_choice.proofs.Base.{candidate_is, is_some_of, some_of, and_split}
+use Rattle.zi_choice.proofs.Base.{candidate_is, is_some_of, some_of}
 use Rattle.zi_build.proofs.Meaning.{IsAt}
 use Rattle.zi_choice.proofs.WalkFacts.{faithful}
 use Rattle.zi_build.proofs.Central.{valid_is_model, none_is_no_model}
-use Rattle.zi_certificate.specs.Certificates.{Asked, is_passed, is_so, is_not, said_at, asked_one, asked_from, AreBlocks, Excludes, Refutes}
+use Rattle.zi_certificate.specs.Certificates.{Asked, is_passed, is_so, is_not, said_at, asked_one, asked_from, AreBlocks, Refutes}
 use Rattle.zi_certificate.specs.Laws.{CertifiedIsBest, RefutedIsNone}
 
 -- every block that is asked for is accepted by some hints
@@ -149,8 +148,8 @@ none_left v (l ∷ ls) h t = false≢true h
 
 last_false : (v : ℕ → Bool) (ms : List Lemma) → proves [] ms ≡ true → all_true v (map lemma_clause ms) ≡ true → ⊥
 last_false v [] h t = false≢true h
-last_false v (m ∷ []) h t = none_left v m.lits (and_split (has_all m.lits []) (has_all [] m.lits) h).1 (and_split (clause_true v m.lits) true t).0
-last_false v (m ∷ n ∷ ms) h t = last_false v (n ∷ ms) h (and_split (clause_true v m.lits) (all_true v (map lemma_clause (n ∷ ms))) t).1
+last_false v (m ∷ []) h t = none_left v m.lits (and_parts (has_all m.lits []) (has_all [] m.lits) h).1 (and_parts (clause_true v m.lits) true t).0
+last_false v (m ∷ n ∷ ms) h t = last_false v (n ∷ ms) h (and_parts (clause_true v m.lits) (all_true v (map lemma_clause (n ∷ ms))) t).1
 
 pub refuted_is_none : RefutedIsNone
 refuted_is_none u req p h =
@@ -159,6 +158,6 @@ refuted_is_none u req p h =
 -- what the checker of proofs says, over the formula
 pub refutes_when : (u : List Interface) (req : Requirement) (p : Proof) (f : Formula) (b : Bool) → f ≡ formula u req → b ≡ (follows f p.lemmas && proves [] p.lemmas) → (b ≡ true → Refutes u req p) × (Refutes u req p → b ≡ true)
 refutes_when u req p f b e h = (
-  λ t. let s = and_split (follows f p.lemmas) (proves [] p.lemmas) (sym h ∙ t) in (subst (λ g. follows g p.lemmas ≡ true) e s.0, s.1),
+  λ t. let s = and_parts (follows f p.lemmas) (proves [] p.lemmas) (sym h ∙ t) in (subst (λ g. follows g p.lemmas ≡ true) e s.0, s.1),
   λ r. h ∙ ap (λ g. follows g p.lemmas && proves [] p.lemmas) e ∙ ap (λ x. x && proves [] p.lemmas) r.0 ∙ r.1,
 )

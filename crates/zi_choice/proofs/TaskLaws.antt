@@ -12,6 +12,7 @@ use Rattle.zi_universe.specs.declared.types.Interface.{Interface}
 use Rattle.std.proofs.lemmas.List.{map-append, length-map}
 use Rattle.zi_policy.specs.Platform.{place}
 use Rattle.std.proofs.lemmas.List.{get_or-map}
+use Rattle.std.proofs.lemmas.Bool.{not-true, not-false}
 use Rattle.zi_universe.specs.Naming.{AreApart}
 use Rattle.zi_universe.specs.Whole.{uris_of}
 use Rattle.zi_choice.proofs.WalkLaws.{none_some, some_same}
@@ -64,15 +65,6 @@ listed_is s i ks = any_map (place_at s) (λ k. i == k) (λ (p : APlace). p.inter
 
 pub used_is : (i : ℕ) (name : List ℕ) (ks : List Used) → list_any (λ (k : Used). i == k.interface && bytes_eq name k.command) ks ≡ list_any (λ (x : Use). x.interface == i && bytes_eq x.command name) (map as_use ks)
 used_is i name ks = any_map as_use (λ (k : Used). i == k.interface && bytes_eq name k.command) (λ (x : Use). x.interface == i && bytes_eq x.command name) ks (λ k. ap (λ b. b && bytes_eq name k.command) (nat_turn i k.interface) ∙ ap (λ b. k.interface == i && b) (bytes_turn name k.command))
-
--- what an insertion says
-pub was_new : (b : Bool) → not b ≡ true → b ≡ false
-was_new true e = sym e
-was_new false e = refl
-
-pub was_old : (b : Bool) → not b ≡ false → b ≡ true
-was_old true e = refl
-was_old false e = sym e
 
 pub keys_old : {A : Type 0} (b : Bool) (ks js : List A) (k : A) → js ≡ (if b then ks else ks ++ k ∷ []) → b ≡ true → js ≡ ks
 keys_old b ks js k e t = e ∙ ap (λ c. if c then ks else ks ++ k ∷ []) t
@@ -207,7 +199,7 @@ pub record Stayed (s : Choice) (i : ℕ) (us : List Use) (ks js : List ℕ) : Ty
 
 pub came : (s : Choice) (i : ℕ) (us : List Use) (ks js : List ℕ) (b : Bool) → b ≡ not (list_any (λ k. i == k) ks) → js ≡ (if list_any (λ k. i == k) ks then ks else ks ++ i ∷ []) → b ≡ true → Came s i us ks js
 came s i us ks js b added keys new =
-    let f : list_any (λ k. i == k) ks ≡ false = was_new (list_any (λ k. i == k) ks) (sym added ∙ new) in
+    let f : list_any (λ k. i == k) ks ≡ false = not-true (list_any (λ k. i == k) ks) (sym added ∙ new) in
     record {
       new = sym (listed_is s i ks) ∙ f;
       walk = placed s i ks js us (keys_new (list_any (λ k. i == k) ks) ks js i keys f);
@@ -215,7 +207,7 @@ came s i us ks js b added keys new =
 
 pub stayed : (s : Choice) (i : ℕ) (us : List Use) (ks js : List ℕ) (b : Bool) → b ≡ not (list_any (λ k. i == k) ks) → js ≡ (if list_any (λ k. i == k) ks then ks else ks ++ i ∷ []) → b ≡ false → Stayed s i us ks js
 stayed s i us ks js b added keys old =
-    let f : list_any (λ k. i == k) ks ≡ true = was_old (list_any (λ k. i == k) ks) (sym added ∙ old) in
+    let f : list_any (λ k. i == k) ks ≡ true = not-false (list_any (λ k. i == k) ks) (sym added ∙ old) in
     record {
       old = sym (listed_is s i ks) ∙ f;
       walk = ap (λ xs. a_walk (map (place_at s) xs) us) (keys_old (list_any (λ k. i == k) ks) ks js i keys f);
@@ -237,7 +229,7 @@ pub record StayedUse (i : ℕ) (name : List ℕ) (ps : List APlace) (ks js : Lis
 
 pub came_use : (i : ℕ) (name : List ℕ) (ps : List APlace) (ks js : List Used) (b : Bool) → b ≡ not (list_any (same_use i name) ks) → js ≡ (if list_any (same_use i name) ks then ks else ks ++ a_used i name ∷ []) → b ≡ true → CameUse i name ps ks js
 came_use i name ps ks js b added keys new =
-    let f : list_any (same_use i name) ks ≡ false = was_new (list_any (same_use i name) ks) (sym added ∙ new) in
+    let f : list_any (same_use i name) ks ≡ false = not-true (list_any (same_use i name) ks) (sym added ∙ new) in
     record {
       new = sym (used_is i name ks) ∙ f;
       walk = in_use i name ps ks js (keys_new (list_any (same_use i name) ks) ks js (a_used i name) keys f);
@@ -245,7 +237,7 @@ came_use i name ps ks js b added keys new =
 
 pub stayed_use : (i : ℕ) (name : List ℕ) (ps : List APlace) (ks js : List Used) (b : Bool) → b ≡ not (list_any (same_use i name) ks) → js ≡ (if list_any (same_use i name) ks then ks else ks ++ a_used i name ∷ []) → b ≡ false → StayedUse i name ps ks js
 stayed_use i name ps ks js b added keys old =
-    let f : list_any (same_use i name) ks ≡ true = was_old (list_any (same_use i name) ks) (sym added ∙ old) in
+    let f : list_any (same_use i name) ks ≡ true = not-false (list_any (same_use i name) ks) (sym added ∙ old) in
     record {
       old = sym (used_is i name ks) ∙ f;
       walk = ap (λ xs. a_walk ps (map as_use xs)) (keys_old (list_any (same_use i name) ks) ks js (a_used i name) keys f);

@@ -3,6 +3,7 @@
 use Rattle.std.proofs.Common.{◌≡◌, ℕ, zero, suc, ◌==◌, ◌<◌, ◌≤◌, Bool, true, false, cond, ◌&&◌, List, [], ◌∷◌, ◌++◌, length, refl, sym, subst, ap, ◌∙◌, arith, Option, Some, None, ◌⊎◌, inl, inr, eq-eqb}
 use Rattle.std.specs.Prelude.{bytes_eq, find, option_and_then}
 use Rattle.std.specs.Cmp.Lexicographic.{bytes_decides}
+use Rattle.std.proofs.lemmas.Bool.{and_from}
 use Rattle.zi_feed.specs.declared.feed.Command.{Command}
 use Rattle.zi_feed.specs.declared.feed.Dep.{Dep}
 use Rattle.zi_universe.specs.declared.types.Candidate.{Candidate}
@@ -117,11 +118,8 @@ place_keeps s i a j e = any_left (λ p. p.interface == j) a.places (record { int
 use_keeps : (i : ℕ) (name : List ℕ) (a : Walk) → Passes (λ x. used_in a x) (λ x. used_in (with_use i name a) x)
 use_keeps i name a x e = any_left (λ y. y.interface == x.interface && bytes_eq y.command x.command) a.used (a_use i name ∷ []) e
 
-both_true : (b c : Bool) → b ≡ true → c ≡ true → (b && c) ≡ true
-both_true b c e f = ap (λ x. x && c) e ∙ f
-
 pub use_there : (i : ℕ) (name : List ℕ) (a : Walk) → is_used (with_use i name a) i name ≡ true
-use_there i name a = any_right (λ y. y.interface == i && bytes_eq y.command name) a.used (a_use i name) (both_true (i == i) (bytes_eq name name) (eq-eqb i i refl) ((bytes_decides name name).1 refl))
+use_there i name a = any_right (λ y. y.interface == i && bytes_eq y.command name) a.used (a_use i name) (and_from (i == i) (bytes_eq name name) (eq-eqb i i refl) ((bytes_decides name name).1 refl))
 
 place_not_more : (u : List Interface) (s : Choice) (i : ℕ) (a : Walk) → to_come u s (with_place s i a) ≤ to_come u s a
 unfolding to_come

@@ -4,6 +4,7 @@ use Rattle.std.proofs.Common.{◌≡◌, ℕ, zero, suc, ◌==◌, Bool, true, f
 use Rattle.std.specs.Prelude.{bytes_eq, slice_get, IsSome}
 use Rattle.std.proofs.lemmas.Option.{slice_get_within, slice_get-get_or, get_or_from_slice_get}
 use Rattle.std.specs.Cmp.Lexicographic.{bytes_decides}
+use Rattle.std.proofs.lemmas.Bool.{and_parts}
 use Rattle.zi_feed.specs.declared.feed.Dep.{Dep}
 use Rattle.zi_feed.specs.declared.feed.Command.{Command}
 use Rattle.zi_universe.specs.declared.types.Requirement.{Requirement}
@@ -15,7 +16,7 @@ use Rattle.zi_choice.proofs.WalkLaws.{true_false, not_both, one_value, none_some
 use Rattle.zi_choice.proofs.GrowLaws.{any_left, any_of, visit_lists}
 use Rattle.zi_choice.proofs.ThereLaws.{In, use_there}
 use Rattle.zi_choice.proofs.ApartLaws.{same_chosen, same_command}
-use Rattle.zi_choice.proofs.Base.{bool_case, and_split, nat_same, any_at, any_found, is_some_of}
+use Rattle.zi_choice.proofs.Base.{bool_case, nat_same, any_at, any_found, is_some_of}
 
 -- What a walk may come to: an interface, and a command of it.
 pub data Item : Type 0 where
@@ -109,7 +110,7 @@ use_new i name a (Visit j) h = inl h
 use_new i name a (Need j other) h =
     elim (any_of (λ (x : Use). x.interface == j && bytes_eq x.command other) a.used (record { interface = i; command = name }) h) [
       | inl p ↦ inl p
-      | inr q ↦ let b = and_split (i == j) (bytes_eq name other) q in inr (ap (λ k. Need k other) (sym (eqb-true i j b.0)) ∙ ap (λ n. Need i n) (sym ((bytes_decides name other).0 b.1)))
+      | inr q ↦ let b = and_parts (i == j) (bytes_eq name other) q in inr (ap (λ k. Need k other) (sym (eqb-true i j b.0)) ∙ ap (λ n. Need i n) (sym ((bytes_decides name other).0 b.1)))
     ]
 
 -- What is given is covered.

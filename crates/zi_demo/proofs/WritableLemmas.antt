@@ -5,6 +5,7 @@ use Rattle.std.specs.List.{list_any, list_all, position_from}
 use Rattle.std.specs.Str.{bytes_eq}
 use Rattle.std.proofs.lemmas.List.Folds.{list_any-append}
 use Rattle.std.proofs.lemmas.Slice.Eq.{bytes_eq-Decides}
+use Rattle.std.proofs.lemmas.Bool.{or_from, not_from_true, or_parts, and_parts}
 use Rattle.zi_elements.specs.declared.element.Node.{Node}
 use Rattle.zi_forest.specs.Forest.{Forest, none, Elem, gathered, joined, nodes_view}
 use Rattle.zi_names.specs.Names.{has_twice}
@@ -12,7 +13,6 @@ use Rattle.zi_xml.specs.Chars.{is_digit}
 use Rattle.zi_docout.specs.Canonical.{injector}
 use Rattle.zi_docout.specs.Amiss.{is_plain_name, is_carried, is_amiss_attr, is_amiss_text, same_name, texts, count, Standing, is_amiss, alone, standing, first_amiss}
 use Rattle.zi_docout.specs.Elements.{attr, nodes, Adds}
-use Rattle.zi_docout.proofs.FineLemmas.{or_false, and_true}
 use Rattle.zi_demo.specs.Feeds.{address, requires_elem, restricts_elem, restricting, version, two_versions, three_versions, numbers, numbered, p_q_r, needs, interface}
 use Rattle.zi_demo.specs.Plain.{are_plain, ArePlain}
 use Rattle.zi_demo.proofs.PlainLemmas.{carried, plain_address, plain_behind, plain_decimal, plain_names}
@@ -21,23 +21,15 @@ use Rattle.zi_demo.proofs.PlainLemmas.{carried, plain_address, plain_behind, pla
 abbrev Writable : ℕ → Forest → Type 0
 Writable around f = list_any is_amiss (standing around f) ≡ false
 
-neither : (a b : Bool) → a ≡ false → b ≡ false → a || b ≡ false
-neither true b h k = cc
-neither false b h k = k
-
 none_of : (a b c d e f : Bool) → a ≡ false → b ≡ false → c ≡ false → d ≡ false → e ≡ false → f ≡ false → a || b || c || d || e || f ≡ false
 none_of a b c d e f h i j k l m =
-    neither (a || b || c || d || e) f (neither (a || b || c || d) e (neither (a || b || c) d (neither (a || b) c (neither a b h i) j) k) l) m
-
-denied : (a : Bool) → a ≡ true → not a ≡ false
-denied true h = refl
-denied false h = cc
+    or_from (a || b || c || d || e) f (or_from (a || b || c || d) e (or_from (a || b || c) d (or_from (a || b) c (or_from a b h i) j) k) l) m
 
 -- an attribute with a plain value
 fine_attr : (name value : List ℕ) → is_plain_name name ≡ true → bytes_eq name (codes "xmlns") ≡ false → are_plain value ≡ true → is_amiss_attr (attr name value) ≡ false
 unfolding is_amiss_attr
 fine_attr name value h k p =
-    neither _ _ (neither _ _ (neither _ _ refl (denied (is_plain_name name) h)) k) (denied (is_carried value) (carried value p))
+    or_from _ _ (or_from _ _ (or_from _ _ refl (not_from_true (is_plain_name name) h)) k) (not_from_true (is_carried value) (carried value p))
 
 -- an element of the injector's namespace that holds no text
 pub record Tag (e : Elem) : Type 0 where
@@ -48,7 +40,7 @@ pub record Tag (e : Elem) : Type 0 where
   pub bare : texts e.inside ≡ []
 
 same_space : (s : List ℕ) → s ≡ injector → not (bytes_eq s injector) ≡ false
-same_space s e = denied (bytes_eq s injector) ((bytes_eq-Decides s injector).1 e)
+same_space s e = not_from_true (bytes_eq s injector) ((bytes_eq-Decides s injector).1 e)
 
 written : (around : ℕ) (e : Elem) → nat_le 64 around ≡ false → Tag e
     → is_amiss (record { around = around; space = e.space; name = e.name; attrs = e.attrs; inside = e.inside }) ≡ false
@@ -56,14 +48,14 @@ unfolding is_amiss
 written around e near tag =
     none_of (nat_le 64 around) (not (bytes_eq e.space injector)) (not (is_plain_name e.name)) (list_any is_amiss_attr e.attrs)
     (list_any (is_amiss_text (count e.inside)) (texts e.inside)) (has_twice same_name e.attrs)
-    near (same_space e.space tag.space) (denied (is_plain_name e.name) tag.name) tag.attrs (ap (list_any (is_amiss_text (count e.inside))) tag.bare) tag.once
+    near (same_space e.space tag.space) (not_from_true (is_plain_name e.name) tag.name) tag.attrs (ap (list_any (is_amiss_text (count e.inside))) tag.bare) tag.once
 
 before : (around : ℕ) (e : Elem) (g : Forest) → nat_le 64 around ≡ false → Tag e → Writable (suc around) e.inside → Writable around g → Writable around (joined (alone e) g)
 before around e g near tag inside behind =
-    neither (is_amiss (record { around = around; space = e.space; name = e.name; attrs = e.attrs; inside = e.inside }))
+    or_from (is_amiss (record { around = around; space = e.space; name = e.name; attrs = e.attrs; inside = e.inside }))
     (list_any is_amiss (standing (suc around) e.inside ++ standing around g))
     (written around e near tag)
-    (list_any-append is_amiss (standing (suc around) e.inside) (standing around g) ∙ neither _ _ inside behind)
+    (list_any-append is_amiss (standing (suc around) e.inside) (standing around g) ∙ or_from _ _ inside behind)
 
 no_texts : (es : List Elem) → texts (nodes es) ≡ []
 no_texts [] = refl
@@ -75,7 +67,7 @@ unfolding requires_elem is_plain_name is_digit
 need_tag name h = record {
   space = refl;
   name = refl;
-  attrs = neither _ false (fine_attr (codes "interface") (address name) refl refl (plain_address name h)) refl;
+  attrs = or_from _ false (fine_attr (codes "interface") (address name) refl refl (plain_address name h)) refl;
   once = refl;
   bare = refl;
 }
@@ -87,7 +79,7 @@ no_need name = refl
 needed : (names : List (List ℕ)) → ArePlain names → Writable 2 (nodes (map requires_elem names))
 needed [] h = refl
 needed (name ∷ names) h =
-    let k = and_true (are_plain name) (list_all are_plain names) h in
+    let k = and_parts (are_plain name) (list_all are_plain names) h in
     before 2 (requires_elem name) (nodes (map requires_elem names)) refl (need_tag name k.0) (no_need name) (needed names k.1)
 
 -- what is restricted
@@ -96,7 +88,7 @@ unfolding restricts_elem is_plain_name is_digit
 limit_tag range name g h = record {
   space = refl;
   name = refl;
-  attrs = neither _ _ (fine_attr (codes "interface") (address name) refl refl (plain_address name h)) (neither _ false (fine_attr (codes "version") range refl refl g) refl);
+  attrs = or_from _ _ (fine_attr (codes "interface") (address name) refl refl (plain_address name h)) (or_from _ false (fine_attr (codes "version") range refl refl g) refl);
   once = refl;
   bare = refl;
 }
@@ -108,7 +100,7 @@ no_limit range name = refl
 limited : (range : List ℕ) (others : List (List ℕ)) → are_plain range ≡ true → ArePlain others → Writable 2 (restricting range others)
 limited range [] g h = refl
 limited range (name ∷ others) g h =
-    let k = and_true (are_plain name) (list_all are_plain others) h in
+    let k = and_parts (are_plain name) (list_all are_plain others) h in
     before 2 (restricts_elem range name) (restricting range others) refl (limit_tag range name g k.0) (no_limit range name) (limited range others g k.1)
 
 -- versions
@@ -120,8 +112,8 @@ version_tag number inside small bare =
       space = refl;
       name = refl;
       attrs =
-          neither _ _ (fine_attr (codes "id") (codes "v" ++ decimal number) refl refl (plain_behind (codes "v") (decimal number) refl n))
-          (neither _ _ (fine_attr (codes "version") (decimal number) refl refl n) (neither _ false (fine_attr (codes "local-path") (codes ".") refl refl refl) refl));
+          or_from _ _ (fine_attr (codes "id") (codes "v" ++ decimal number) refl refl (plain_behind (codes "v") (decimal number) refl n))
+          (or_from _ _ (fine_attr (codes "version") (decimal number) refl refl n) (or_from _ false (fine_attr (codes "local-path") (codes ".") refl refl refl) refl));
       once = refl;
       bare = bare;
     }
@@ -139,7 +131,7 @@ one_more number inside es small bare within behind =
 position_none : (es : List Standing) (i : ℕ) → list_any is_amiss es ≡ false → position_from is_amiss i es ≡ None
 position_none [] i h = refl
 position_none (e ∷ es) i h =
-    let k = or_false (is_amiss e) (list_any is_amiss es) h in
+    let k = or_parts (is_amiss e) (list_any is_amiss es) h in
     ap (λ (b : Bool). if b then Some i else position_from is_amiss (i + 1) es) k.0 ∙ position_none es (i + 1) k.1
 
 interface_tag : (f : Forest) → texts f ≡ [] → Tag (interface f)

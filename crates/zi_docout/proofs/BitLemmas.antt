@@ -2,16 +2,16 @@
 use Rattle.std.specs.Prelude.{codes, encode_utf8, encode_utf8_all, flat_map, if◌then◌else◌}
 use Rattle.std.proofs.Common.{◌≡◌, ℕ, ◌<◌, ◌≤◌, Bool, true, false, not, ◌&&◌, ◌==◌, cond, ltb, List, [], ◌∷◌, ◌++◌, map, refl, sym, ap, ◌∙◌, subst, arith, append_assoc}
 use Rattle.std.specs.List.{list_all}
-use Rattle.std.proofs.Math.Utf8.{encode, encodes, scalar, scalars, low_scalar}
+use Rattle.std.proofs.Math.Utf8.{encode, scalar, scalars, low_scalar}
 use Rattle.std.proofs.lemmas.Str.{encodes-append}
 use Rattle.std.proofs.lemmas.Grind.{flat_map-append}
 use Rattle.std.proofs.lemmas.Bool.Decides.{nat_tests}
+use Rattle.std.proofs.lemmas.Bool.{and_from, and_parts}
 use Rattle.zi_xml.specs.Chars.{is_char, is_white, is_plain, is_valued, entity, is_first, is_digit, is_name, digit_value}
 use Rattle.zi_names.specs.declared.attributes.Binding.{Binding}
 use Rattle.zi_xml.specs.Syntax.{Bit, letter, entity_of, decimal, bit_text, bits_text, IsBit, AreBits, is_said, Content, bit, text, IsContentAfter, brackets_after}
 use Rattle.zi_xml.specs.Meaning.{Level, heard, line_end, value_end, carried, bit_told, bit_passed, bits_passed, is_return, in_value, value_of, told}
 use Rattle.zi_docout.specs.Canonical.{word_escaped, value_escaped, words_text, value_text}
-use Rattle.zi_docout.proofs.FineLemmas.{and_true}
 
 -- a character of a text, and of a value
 unfoldable pub word_bit : ℕ → Bit
@@ -74,13 +74,9 @@ pub record Spell (cs w : List ℕ) : Type 0 where
   pub text : encode_utf8_all cs ≡ w
   pub right : scalars cs ≡ true
 
-both_true : (a b : Bool) → a ≡ true → b ≡ true → a && b ≡ true
-both_true true b h k = k
-both_true false b h k = cc
-
 scalars_append : (a b : List ℕ) → scalars a ≡ true → scalars b ≡ true → scalars (a ++ b) ≡ true
 scalars_append [] b h k = k
-scalars_append (c ∷ a) b h k = let x = and_true _ _ h in both_true (scalar c) (scalars (a ++ b)) x.0 (scalars_append a b x.1 k)
+scalars_append (c ∷ a) b h k = let x = and_parts _ _ h in and_from (scalar c) (scalars (a ++ b)) x.0 (scalars_append a b x.1 k)
 
 pub nothing : Spell [] []
 nothing = record { text = refl; right = refl }
@@ -112,10 +108,10 @@ ascii_encode c h = (taken (ltb c 128) _ _ h, low_scalar c (below c h))
 pub ascii : (cs : List ℕ) → list_all is_ascii cs ≡ true → Spell cs cs
 ascii [] h = nothing
 ascii (c ∷ cs) h =
-    let x = and_true _ _ h in
+    let x = and_parts _ _ h in
     let y = ascii_encode c x.0 in
     let z = ascii cs x.1 in
-    record { text = ap (λ v. v ++ encode_utf8_all cs) y.0 ∙ ap (λ v. c ∷ v) z.text; right = both_true (scalar c) (scalars cs) y.1 z.right }
+    record { text = ap (λ v. v ++ encode_utf8_all cs) y.0 ∙ ap (λ v. c ∷ v) z.text; right = and_from (scalar c) (scalars cs) y.1 z.right }
 
 -- the function leaves each byte as it is
 abbrev Singles : (ℕ → List ℕ) → List ℕ → Type 0
@@ -167,7 +163,7 @@ append_none (x ∷ xs) = ap (λ v. x ∷ v) (append_none xs)
 itself : (e : ℕ → List ℕ) (c : ℕ) → scalar c ≡ true → e c ≡ c ∷ [] → ((b : ℕ) → 128 ≤ b → e b ≡ b ∷ []) → Spell (c ∷ []) (flat_map e (encode_utf8 c))
 itself e c u low high = record {
   text = append_none (encode c) ∙ sym (singles e (encode c) (encode_singles e c low high));
-  right = both_true (scalar c) true u refl;
+  right = and_from (scalar c) true u refl;
 }
 
 word_spelled : (c : ℕ) → scalar c ≡ true → Spell (bit_text (word_bit c)) (flat_map word_escaped (encode_utf8 c))
@@ -186,7 +182,7 @@ value_spelled c u =
 pub value_bits_spelled : (cs : List ℕ) → scalars cs ≡ true → Spell (bits_text (map value_bit cs)) (value_text (encode_utf8_all cs))
 value_bits_spelled [] u = nothing
 value_bits_spelled (c ∷ cs) u =
-    let x = and_true _ _ u in
+    let x = and_parts _ _ u in
     along _ _ _ (sym (flat_map-append value_escaped (encode_utf8 c) (encode_utf8_all cs)))
     (behind _ _ _ _ (value_spelled c x.0) (value_bits_spelled cs x.1))
 
@@ -198,7 +194,7 @@ said (c ∷ cs) k = bit (word_bit c) (said cs k)
 pub said_spelled : (cs : List ℕ) (k : Content) (w : List ℕ) → scalars cs ≡ true → Spell (text k) w → Spell (text (said cs k)) (words_text (encode_utf8_all cs) ++ w)
 said_spelled [] k w u h = h
 said_spelled (c ∷ cs) k w u h =
-    let x = and_true _ _ u in
+    let x = and_parts _ _ u in
     along _ _ _ (sym (append_assoc (flat_map word_escaped (encode_utf8 c)) (words_text (encode_utf8_all cs)) w) ∙ ap (λ v. v ++ w) (sym (flat_map-append word_escaped (encode_utf8 c) (encode_utf8_all cs))))
     (behind _ _ _ _ (word_spelled c x.0) (said_spelled cs k w x.1 h))
 
@@ -208,24 +204,24 @@ and_no false b h = refl
 
 plain_other : (c : ℕ) → is_char c ≡ true → Other c → is_plain c ≡ true
 unfolding is_plain
-plain_other c h o = both_true _ _ (both_true _ _ h (ap not o.less)) (ap not o.amp)
+plain_other c h o = and_from _ _ (and_from _ _ h (ap not o.less)) (ap not o.amp)
 
 word_bit_said : (m c : ℕ) → is_char c ≡ true → IsBit (is_said m) (word_bit c)
 unfolding is_first is_name is_digit
 word_bit_said m c h =
     word_cases (λ v b. IsBit (is_said m) b) (refl, (refl, (refl, tt))) (refl, (refl, tt)) (refl, (refl, tt)) (refl, (refl, tt)) c
-    (λ o. both_true _ _ (plain_other c h o) (and_no (m == 2) (c == 62) o.more))
+    (λ o. and_from _ _ (plain_other c h o) (and_no (m == 2) (c == 62) o.more))
 
 pub value_bit_valued : (c : ℕ) → is_char c ≡ true → IsBit (is_valued 34) (value_bit c)
 unfolding is_first is_name is_digit
 value_bit_valued c h =
     value_cases (λ v b. IsBit (is_valued 34) b) (refl, (refl, (refl, (refl, tt)))) (refl, tt) (refl, (refl, tt)) c
     (λ y. word_cases (λ v b. IsBit (is_valued 34) b) (refl, (refl, (refl, tt))) (refl, (refl, tt)) (refl, (refl, tt)) (refl, (refl, tt)) c
-    (λ o. both_true _ _ (plain_other c h o) (ap not y.quote)))
+    (λ o. and_from _ _ (plain_other c h o) (ap not y.quote)))
 
 pub value_bits_valued : (cs : List ℕ) → list_all is_char cs ≡ true → AreBits (is_valued 34) (map value_bit cs)
 value_bits_valued [] h = tt
-value_bits_valued (c ∷ cs) h = let x = and_true _ _ h in (value_bit_valued c x.0, value_bits_valued cs x.1)
+value_bits_valued (c ∷ cs) h = let x = and_parts _ _ h in (value_bit_valued c x.0, value_bits_valued cs x.1)
 
 -- content that fits behind any brackets
 abbrev pub Fits : Content → Type 0
@@ -233,7 +229,7 @@ Fits k = (m : ℕ) → IsContentAfter m k
 
 pub said_fits : (cs : List ℕ) (k : Content) → list_all is_char cs ≡ true → Fits k → Fits (said cs k)
 said_fits [] k h f = f
-said_fits (c ∷ cs) k h f = let x = and_true _ _ h in λ m. (word_bit_said m c x.0, said_fits cs k x.1 f (brackets_after m (word_bit c)))
+said_fits (c ∷ cs) k h f = let x = and_parts _ _ h in λ m. (word_bit_said m c x.0, said_fits cs k x.1 f (brackets_after m (word_bit c)))
 
 only_space : (c : ℕ) → is_white c ≡ true → (c == 9) ≡ false → (c == 10) ≡ false → (c == 13) ≡ false → 32 ≡ c
 unfolding is_white

@@ -10,17 +10,18 @@ use Rattle.std.proofs.lemmas.List.Folds.{list_any-append}
 use Rattle.std.proofs.lemmas.Slice.Eq.{bytes_eq-Decides}
 use Rattle.std.proofs.lemmas.Bool.Decides.{nat_tests}
 use Rattle.std.proofs.Common.{arith}
+use Rattle.std.proofs.lemmas.Bool.{or_parts, and_parts, or_from, false_from_ne_true}
 use Rattle.zi_elements.specs.declared.element.Attr.{Attr}
 use Rattle.zi_names.specs.declared.attributes.Raw.{Raw}
 use Rattle.zi_names.specs.declared.attributes.Binding.{Binding}
-use Rattle.zi_names.specs.Names.{is_colon, has_colon, is_empty, prefix, local, is_qualified, is_declaration, binding_of, declared, first_scope, scope_in, address_of, attribute_space, resolved, attributes_of, is_bad_name, is_bad_attribute, has_bad_prefix, has_twice, same_expanded, is_prefixed, has_repeated, is_reserved, is_bad_binding}
+use Rattle.zi_names.specs.Names.{is_colon, has_colon, prefix, local, is_qualified, is_declaration, binding_of, first_scope, scope_in, address_of, resolved, attributes_of, is_bad_name, is_bad_attribute, has_bad_prefix, has_twice, same_expanded, is_prefixed, has_repeated, is_reserved, is_bad_binding}
 use Rattle.zi_names.specs.Names as names
 use Rattle.zi_xml.specs.Chars.{is_letter, is_digit, is_char}
 use Rattle.zi_xml.specs.Syntax.{Written}
 use Rattle.zi_xml.specs.Meaning.{raw_of, value_of}
 use Rattle.zi_docout.specs.Canonical.{injector, declaring}
 use Rattle.zi_docout.specs.Amiss.{is_name_byte, is_plain_name, is_amiss_attr, same_name}
-use Rattle.zi_docout.proofs.FineLemmas.{or_false, and_true, same_bytes, FineAttr, fine_attr, Carried}
+use Rattle.zi_docout.proofs.FineLemmas.{same_bytes, FineAttr, fine_attr, Carried}
 use Rattle.zi_docout.proofs.BitLemmas.{value_bit, value_bits_mean}
 use Rattle.zi_docout.proofs.ParsedLemmas.{written, name_spelled}
 
@@ -33,13 +34,13 @@ no_colon_letter c h = grind (arith, nat_tests)
 
 no_colons : (cs : List ℕ) → list_all is_name_byte cs ≡ true → has_colon cs ≡ false
 no_colons [] h = refl
-no_colons (c ∷ cs) h = let x = and_true _ _ h in ap (λ b. b || has_colon cs) (no_colon_byte c x.0) ∙ no_colons cs x.1
+no_colons (c ∷ cs) h = let x = and_parts _ _ h in ap (λ b. b || has_colon cs) (no_colon_byte c x.0) ∙ no_colons cs x.1
 
 -- a plain name has no prefix
 pub no_colon : (n : List ℕ) → is_plain_name n ≡ true → has_colon n ≡ false
 unfolding is_plain_name
 no_colon [] h = cc
-no_colon (c ∷ cs) h = let x = and_true _ _ h in ap (λ b. b || has_colon cs) (no_colon_letter c x.0) ∙ no_colons cs x.1
+no_colon (c ∷ cs) h = let x = and_parts _ _ h in ap (λ b. b || has_colon cs) (no_colon_letter c x.0) ∙ no_colons cs x.1
 
 pub no_prefix : (n : List ℕ) → has_colon n ≡ false → prefix n ≡ []
 unfolding prefix
@@ -58,19 +59,11 @@ unfolding is_bad_name is_qualified
 good_name scope n h = plain_test (has_colon n) _ _ h
 
 front_colon : (k : ℕ) (n : List ℕ) → has_colon n ≡ false → has_colon (take k n) ≡ false
-front_colon k n h = (or_false _ _ (sym (list_any-append is_colon (take k n) (drop k n)) ∙ (ap has_colon (take-append-drop k n) ∙ h))).0
-
-both_false : (a b : Bool) → a ≡ false → b ≡ false → a || b ≡ false
-both_false true b h k = cc
-both_false false b h k = k
-
-never : (b : Bool) → (b ≡ true → ⊥) → b ≡ false
-never true f = absurd (f refl)
-never false f = refl
+front_colon k n h = (or_parts _ _ (sym (list_any-append is_colon (take k n) (drop k n)) ∙ (ap has_colon (take-append-drop k n) ∙ h))).0
 
 no_declaration_front : (n : List ℕ) → has_colon n ≡ false → starts_with nat_eq n (codes "xmlns:") ≡ false
 no_declaration_front n h =
-    never _ (λ e.
+    false_from_ne_true _ (λ e.
     let same = same_bytes (codes "xmlns:") (take 6 n) e in
     let z : true ≡ false = ap has_colon same ∙ front_colon 6 n h in cc)
 
@@ -80,7 +73,7 @@ raw a = record { name = a.name; value = a.value }
 
 no_declaration : (a : Attr) → FineAttr a → is_declaration (raw a) ≡ false
 unfolding is_declaration
-no_declaration a h = both_false _ _ h.other (no_declaration_front a.name (no_colon a.name h.name))
+no_declaration a h = or_from _ _ h.other (no_declaration_front a.name (no_colon a.name h.name))
 
 written_raw : (a : Attr) (ws : List Written) → is_plain_name a.name ≡ true → Carried a.value → raw_of (written a ∷ ws) ≡ raw a ∷ raw_of ws
 written_raw a ws n v =
@@ -92,14 +85,14 @@ written_raw a ws n v =
 pub raws : (xs : List Attr) → list_any is_amiss_attr xs ≡ false → raw_of (map written xs) ≡ map raw xs
 raws [] h = refl
 raws (a ∷ xs) h =
-    let x = or_false _ _ h in
+    let x = or_parts _ _ h in
     let y = fine_attr a x.0 in
     written_raw a (map written xs) y.name y.value ∙ ap (λ v. raw a ∷ v) (raws xs x.1)
 
 pub undeclared : (xs : List Attr) → list_any is_amiss_attr xs ≡ false → filter is_declaration (map raw xs) ≡ []
 undeclared [] h = refl
 undeclared (a ∷ xs) h =
-    let x = or_false _ _ h in
+    let x = or_parts _ _ h in
     ap (λ b. cond b (raw a ∷ filter is_declaration (map raw xs)) (filter is_declaration (map raw xs))) (no_declaration a (fine_attr a x.0)) ∙ undeclared xs x.1
 
 abbrev stays : Raw → Bool
@@ -116,22 +109,22 @@ attr_back scope a h =
 stayed : (xs : List Attr) → list_any is_amiss_attr xs ≡ false → filter stays (map raw xs) ≡ map raw xs
 stayed [] h = refl
 stayed (a ∷ xs) h =
-    let x = or_false _ _ h in
+    let x = or_parts _ _ h in
     ap (λ b. cond (not b) (raw a ∷ filter stays (map raw xs)) (filter stays (map raw xs))) (no_declaration a (fine_attr a x.0)) ∙ ap (λ v. raw a ∷ v) (stayed xs x.1)
 
 resolved_back : (scope : List Binding) (xs : List Attr) → list_any is_amiss_attr xs ≡ false → map (resolved scope) (map raw xs) ≡ xs
 resolved_back scope [] h = refl
 resolved_back scope (a ∷ xs) h =
-    let x = or_false _ _ h in
+    let x = or_parts _ _ h in
     ap (λ v. v ∷ map (resolved scope) (map raw xs)) (attr_back scope a (fine_attr a x.0)) ∙ ap (λ v. a ∷ v) (resolved_back scope xs x.1)
 
 bad_attrs : (scope : List Binding) (xs : List Attr) → list_any is_amiss_attr xs ≡ false → list_any (is_bad_attribute scope) (map raw xs) ≡ false
 unfolding is_bad_attribute
 bad_attrs scope [] h = refl
 bad_attrs scope (a ∷ xs) h =
-    let x = or_false _ _ h in
+    let x = or_parts _ _ h in
     let y = fine_attr a x.0 in
-    both_false _ _ (choice (is_declaration (raw a)) _ _ (no_declaration a y) ∙ good_name scope a.name (no_colon a.name y.name)) (bad_attrs scope xs x.1)
+    or_from _ _ (choice (is_declaration (raw a)) _ _ (no_declaration a y) ∙ good_name scope a.name (no_colon a.name y.name)) (bad_attrs scope xs x.1)
   where
     choice : (b x y : Bool) → b ≡ false → (if b then x else y) ≡ y
     choice true x y h = cc
@@ -140,7 +133,7 @@ bad_attrs scope (a ∷ xs) h =
 no_prefixed : (xs : List Attr) → list_any is_amiss_attr xs ≡ false → filter is_prefixed (map raw xs) ≡ []
 no_prefixed [] h = refl
 no_prefixed (a ∷ xs) h =
-    let x = or_false _ _ h in
+    let x = or_parts _ _ h in
     ap (λ b. cond (b && not (is_declaration (raw a))) (raw a ∷ filter is_prefixed (map raw xs)) (filter is_prefixed (map raw xs))) (no_colon a.name (fine_attr a x.0).name) ∙ no_prefixed xs x.1
 
 same_among : (a : Attr) (xs : List Attr) → list_any (names.same_name (raw a)) (map raw xs) ≡ list_any (same_name a) xs
@@ -171,8 +164,8 @@ inner_meant scope n xs here plain fine once =
       space = ap (address_of scope) (no_prefix n colon) ∙ here;
       name = all_local n colon;
       attrs = ap (map (resolved scope)) (stayed xs fine) ∙ resolved_back scope xs fine;
-      prefixes = both_false _ _ (good_name scope n colon) (bad_attrs scope xs fine);
-      once = both_false _ _ (same_twice xs ∙ once) (ap (has_twice (same_expanded scope)) (no_prefixed xs fine));
+      prefixes = or_from _ _ (good_name scope n colon) (bad_attrs scope xs fine);
+      once = or_from _ _ (same_twice xs ∙ once) (ap (has_twice (same_expanded scope)) (no_prefixed xs fine));
     }
 
 -- the scope inside the root
@@ -184,11 +177,11 @@ unfolding address_of
 root_here = refl
 
 other_way : (a b : List ℕ) → bytes_eq a b ≡ false → bytes_eq b a ≡ false
-other_way a b h = never _ (λ e. let z : false ≡ true = sym h ∙ (bytes_eq-Decides a b).1 (sym (same_bytes b a e)) in cc)
+other_way a b h = false_from_ne_true _ (λ e. let z : false ≡ true = sym h ∙ (bytes_eq-Decides a b).1 (sym (same_bytes b a e)) in cc)
 
 not_xmlns : (xs : List Attr) → list_any is_amiss_attr xs ≡ false → list_any (names.same_name (raw declaring)) (map raw xs) ≡ false
 not_xmlns [] h = refl
-not_xmlns (a ∷ xs) h = let x = or_false _ _ h in both_false _ _ (other_way a.name (codes "xmlns") (fine_attr a x.0).other) (not_xmlns xs x.1)
+not_xmlns (a ∷ xs) h = let x = or_parts _ _ h in or_from _ _ (other_way a.name (codes "xmlns") (fine_attr a x.0).other) (not_xmlns xs x.1)
 
 pub root_meant : (n : List ℕ) (xs : List Attr) → is_plain_name n ≡ true → list_any is_amiss_attr xs ≡ false → has_twice same_name xs ≡ false
     → Meant first_scope (raw declaring ∷ map raw xs) root_scope n xs
@@ -200,8 +193,8 @@ root_meant n xs plain fine once =
       space = ap (address_of root_scope) (no_prefix n colon) ∙ root_here;
       name = all_local n colon;
       attrs = ap (map (resolved root_scope)) (stayed xs fine) ∙ resolved_back root_scope xs fine;
-      prefixes = both_false _ _ (good_name root_scope n colon) (bad_attrs root_scope xs fine);
-      once = both_false _ _ (both_false _ _ (not_xmlns xs fine) (same_twice xs ∙ once)) (ap (has_twice (same_expanded root_scope)) (no_prefixed xs fine));
+      prefixes = or_from _ _ (good_name root_scope n colon) (bad_attrs root_scope xs fine);
+      once = or_from _ _ (or_from _ _ (not_xmlns xs fine) (same_twice xs ∙ once)) (ap (has_twice (same_expanded root_scope)) (no_prefixed xs fine));
     }
 
 pub declaring_fine : (is_plain_name declaring.name ≡ true) × Carried declaring.value

@@ -5,13 +5,14 @@ use Rattle.std.specs.List.{list_any, list_all}
 use Rattle.std.specs.Str.{chars}
 use Rattle.std.proofs.lemmas.Str.{encodes-chars, scalars-chars}
 use Rattle.std.proofs.lemmas.Bool.Decides.{nat_tests}
+use Rattle.std.proofs.lemmas.Bool.{or_parts, and_parts}
 use Rattle.zi_elements.specs.declared.element.Attr.{Attr}
 use Rattle.zi_forest.specs.Forest.{Forest, none, words, child}
 use Rattle.zi_xml.specs.Chars.{is_char, is_white, is_plain, is_letter, is_digit, is_first, is_name, is_quote}
 use Rattle.zi_xml.specs.Syntax.{letter, Written, Content, stop, bit, void, pair, bits_text, written_text, all_text, end_tag, text, AllAre, IsName, IsWritten, AreWritten, is_said, brackets_after}
 use Rattle.zi_docout.specs.Canonical.{words_text, value_text, attr_text, tag_text, end_text, indent, rest_text, lines_text}
 use Rattle.zi_docout.specs.Amiss.{is_name_byte, is_plain_name, is_amiss_attr, is_amiss_text, texts, count, standing, is_amiss}
-use Rattle.zi_docout.proofs.FineLemmas.{or_false, and_true, fine_attr, FineText, fine_text, Carried, parts}
+use Rattle.zi_docout.proofs.FineLemmas.{fine_attr, FineText, fine_text, Carried, parts}
 use Rattle.zi_docout.proofs.BitLemmas.{value_bit, said, said_spelled, said_fits, value_bits_spelled, value_bits_valued, Spell, nothing, behind, along, is_ascii, ascii, Fits}
 
 -- the spaces before an element that d elements stand around
@@ -47,7 +48,7 @@ letter_byte c h = (grind (arith, nat_tests), grind (arith, nat_tests))
 name_bytes : (cs : List ℕ) → list_all is_name_byte cs ≡ true → (list_all is_ascii cs ≡ true) × AllAre is_name cs
 name_bytes [] h = (refl, tt)
 name_bytes (c ∷ cs) h =
-    let x = and_true _ _ h in
+    let x = and_parts _ _ h in
     let y = name_byte c x.0 in
     let z = name_bytes cs x.1 in
     (ap (λ b. b && list_all is_ascii cs) y.0 ∙ z.0, (y.1, z.1))
@@ -56,7 +57,7 @@ pub plain_name : (n : List ℕ) → is_plain_name n ≡ true → (list_all is_as
 unfolding is_plain_name
 plain_name [] h = (cc, cc)
 plain_name (c ∷ cs) h =
-    let x = and_true _ _ h in
+    let x = and_parts _ _ h in
     let y = letter_byte c x.0 in
     let z = name_bytes cs x.1 in
     (ap (λ b. b && list_all is_ascii cs) y.0 ∙ z.0, (y.1, z.1))
@@ -79,7 +80,7 @@ attr_spelled a n v =
 
 pub attrs_spelled : (xs : List Attr) → list_any is_amiss_attr xs ≡ false → Spell (all_text (map written xs)) (flat_map attr_text xs)
 attrs_spelled [] h = nothing
-attrs_spelled (a ∷ xs) h = let x = or_false _ _ h in let y = fine_attr a x.0 in behind _ _ _ _ (attr_spelled a y.name y.value) (attrs_spelled xs x.1)
+attrs_spelled (a ∷ xs) h = let x = or_parts _ _ h in let y = fine_attr a x.0 in behind _ _ _ _ (attr_spelled a y.name y.value) (attrs_spelled xs x.1)
 
 pub attr_fits : (a : Attr) → is_plain_name a.name ≡ true → Carried a.value → IsWritten (written a)
 unfolding is_white is_quote
@@ -95,7 +96,7 @@ attr_fits a n v = record {
 
 pub attrs_fit : (xs : List Attr) → list_any is_amiss_attr xs ≡ false → AreWritten (map written xs)
 attrs_fit [] h = tt
-attrs_fit (a ∷ xs) h = let x = or_false _ _ h in let y = fine_attr a x.0 in (attr_fits a y.name y.value, attrs_fit xs x.1)
+attrs_fit (a ∷ xs) h = let x = or_parts _ _ h in let y = fine_attr a x.0 in (attr_fits a y.name y.value, attrs_fit xs x.1)
 
 -- The layout.
 
@@ -155,7 +156,7 @@ abbrev pub FineTexts : Forest → Type 0
 FineTexts f = list_any (is_amiss_text (count f)) (texts f) ≡ false
 
 pub first_text : (t : List ℕ) (f : Forest) → FineTexts (words t f) → FineText (suc (count f)) t
-first_text t f h = fine_text _ t (or_false _ _ h).0
+first_text t f h = fine_text _ t (or_parts _ _ h).0
 
 inner_lines : (a d e w : List ℕ) → (10 ∷ (a ++ d)) ++ e ≡ 10 ∷ (a ++ (d ++ e))
 inner_lines a d e w = ap (λ v. 10 ∷ v) (append_assoc a d e)

@@ -7,6 +7,7 @@ use Rattle.std.proofs.Math.Utf8.{encode}
 use Rattle.std.proofs.lemmas.Str.{encodes-chars}
 use Rattle.std.proofs.lemmas.List.Folds.{list_all-append}
 use Rattle.std.proofs.lemmas.Bool.Decides.{nat_tests}
+use Rattle.std.proofs.lemmas.Bool.{or_parts}
 use Rattle.zi_elements.specs.declared.element.Attr.{Attr}
 use Rattle.zi_elements.specs.declared.element.Element.{Element}
 use Rattle.zi_elements.specs.declared.element.Node.TheVariants.{Child, Words}
@@ -20,7 +21,7 @@ use Rattle.zi_xml.specs.Meaning.{Level, Kind, depth_kind, repeated_kind, prefix_
 use Rattle.zi_docout.specs.Canonical.{injector}
 use Rattle.zi_docout.specs.Amiss.{is_plain_name, same_name, is_amiss_attr, is_amiss_text, texts, count, standing, is_amiss}
 use Rattle.zi_docout.specs.Same.{has_child, bare, unplaced}
-use Rattle.zi_docout.proofs.FineLemmas.{or_false, FineText, fine_text, parts}
+use Rattle.zi_docout.proofs.FineLemmas.{FineText, fine_text, parts}
 use Rattle.zi_docout.proofs.ForestLemmas.{joined_none, joined_assoc, nodes_append, node_alone, child_view, words_view}
 use Rattle.zi_docout.proofs.BitLemmas.{said_told, Hears, heard_letter, value_bits_clean}
 use Rattle.zi_docout.proofs.ParsedLemmas.{spaces, written, shaped, parsed, FineTexts, first_text, name_spelled}
@@ -237,7 +238,7 @@ no_texts s n xs f p g h = cases (texts g) refl
     cases [] e = e
     cases (t ∷ ts) e =
         let P : List (List ℕ) → Type 0 = λ v. list_any (is_amiss_text (suc (count g))) v ≡ false in
-        absurd (many (count g) (counted g t ts e) (fine_text (suc (count g)) t (or_false _ _ (subst P e h)).0).lone)
+        absurd (many (count g) (counted g t ts e) (fine_text (suc (count g)) t (or_parts _ _ (subst P e h)).0).lone)
 
 flush_some : (t : List ℕ) → is_empty t ≡ false → flush t ≡ Words t ∷ []
 flush_some [] h = cc

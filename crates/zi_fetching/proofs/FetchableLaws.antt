@@ -1,9 +1,10 @@
--- What the best choice selects and isn't there can be fetched: a candidate that is neither local nor stored has a digest and a method.
+-- What the best choice selects and isn't there can be fetched: a candidate that is or_parts local nor stored has a digest and a method.
 use Rattle.std.proofs.Common.{◌≡◌, ◌≢◌, ℕ, zero, suc, ◌+◌, ◌<◌, Bool, true, false, not, ◌&&◌, ◌||◌, cond, List, [], ◌∷◌, length, map, filter, Option, Some, None, IsSome, is_some, is_none, refl, sym, ◌∙◌, ap, subst, arith, All, slice_get, slice_index_or, flat_map, option_to_list, option_map, bytes_eq, option_and_then, codes}
 use Rattle.std.specs.List.{list_any, position_from, AllZip, enumerate_from}
 use Rattle.std.proofs.lemmas.List.Elements.{All-nil, All-cons, All-append}
 use Rattle.std.proofs.lemmas.List.Sorted.{All-permutation}
 use Rattle.std.proofs.lemmas.Slice.Eq.{bytes_eq-Decides}
+use Rattle.std.proofs.lemmas.Bool.{and_parts, or_parts}
 use Rattle.zi_digest.specs.declared.DigestName.{DigestName}
 use Rattle.zi_digest.specs.Name.{spelling}
 use Rattle.zi_outside.specs.Views.{Feeding}
@@ -32,7 +33,7 @@ use Rattle.zi_choosing.specs.Finding.{IsChosen}
 use Rattle.zi_fetching.specs.Known.{is_known}
 use Rattle.zi_fetching.specs.Fetching.{from_chosen, method_of, IsFetchable, names_in}
 
--- A candidate that is neither local nor stored has a digest and a method.
+-- A candidate that is or_parts local nor stored has a digest and a method.
 pub record IsObtainable (stored : Store) (c : Candidate) : Type 0 where
   pub digests : is_some c.imp.local ≡ false → list_any (λ d. stored (spelling d)) c.imp.digests ≡ false → IsSome (first c.imp.digests)
   pub methods : is_some c.imp.local ≡ false → list_any (λ d. stored (spelling d)) c.imp.digests ≡ false → IsSome (first c.imp.methods)
@@ -40,11 +41,6 @@ pub record IsObtainable (stored : Store) (c : Candidate) : Type 0 where
 first_of : {X : Type 0} (xs : List X) → has_items xs ≡ true → IsSome (first xs)
 first_of [] h = absurd cc
 first_of (x ∷ xs) h = refl
-
-both_true : (a b : Bool) → (a && b) ≡ true → (a ≡ true) × (b ≡ true)
-both_true true true h = (refl, refl)
-both_true true false h = absurd cc
-both_true false b h = absurd cc
 
 -- no reason stands against it, so the fourth doesn't
 fourth_fails : (a b c d : Bool) (v w x y : WhyNot) (rest : List (Bool × WhyNot)) → first_reason ((a, v) ∷ (b, w) ∷ (c, x) ∷ (d, y) ∷ rest) ≡ None → d ≡ false
@@ -72,8 +68,8 @@ reachable p st interface feed place i e local stored =
 of_part : (p : Policy) (st : Store) (interface feed : Uri) (place : ℕ) (i : Impl) → why_not p (standing_of p st interface feed place i) ≡ None → IsObtainable st (candidate_of p st interface feed place i)
 unfolding active_part
 of_part p st interface feed place i e = record {
-  digests = λ l s. first_of i.digests (both_true (has_items i.digests) (has_items i.methods) (reachable p st interface feed place i e l s)).0;
-  methods = λ l s. first_of i.methods (both_true (has_items i.digests) (has_items i.methods) (reachable p st interface feed place i e l s)).1;
+  digests = λ l s. first_of i.digests (and_parts (has_items i.digests) (has_items i.methods) (reachable p st interface feed place i e l s)).0;
+  methods = λ l s. first_of i.methods (and_parts (has_items i.digests) (has_items i.methods) (reachable p st interface feed place i e l s)).1;
 }
 
 admitted_none : (req : Requirement) (p : Policy) (interface : Uri) (c : Candidate) → is_admitted req p interface c ≡ true → why_not p c.standing ≡ None
@@ -196,18 +192,13 @@ any_same : (p q : DigestName → Bool) (xs : List DigestName) → ((d : DigestNa
 any_same p q [] h = refl
 any_same p q (x ∷ xs) h = ap (λ b. b || list_any p xs) (h x) ∙ ap (λ b. q x || b) (any_same p q xs h)
 
-neither : (a b : Bool) → (a || b) ≡ false → (a ≡ false) × (b ≡ false)
-neither false false h = (refl, refl)
-neither false true h = absurd cc
-neither true b h = absurd cc
-
 selection_fetchable : (c : Chosen) (w : Walk) (k : ℕ) (i : Interface) (x : Candidate) → IsWhole c.universe → slice_get c.universe k ≡ Some i → chosen c.universe c.choice.picks k ≡ Some x
     → IsObtainable (stored_names c.stored) x → IsFetchable (from_chosen c) (names_in c) (selection_by c.universe c.choice.picks w k i.uri x)
 unfolding selection_by
 selection_fetchable c w k i x whole at e o = record {
-  way = λ h. let n = neither (is_some x.imp.local) (list_any (is_known (names_in c)) x.imp.digests) h in
+  way = λ h. let n = or_parts (is_some x.imp.local) (list_any (is_known (names_in c)) x.imp.digests) h in
       subst (λ m. IsSome m) (sym by_method) (o.methods n.0 (unknown n.1));
-  named = λ h. let n = neither (is_some x.imp.local) (list_any (is_known (names_in c)) x.imp.digests) h in o.digests n.0 (unknown n.1);
+  named = λ h. let n = or_parts (is_some x.imp.local) (list_any (is_known (names_in c)) x.imp.digests) h in o.digests n.0 (unknown n.1);
 }
   where
     unknown : list_any (is_known (names_in c)) x.imp.digests ≡ false → list_any (λ d. stored_names c.stored (spelling d)) x.imp.digests ≡ false

@@ -3,6 +3,7 @@ use Rattle.std.proofs.Common.{◌≡◌, ℕ, inl, inr, Bool, true, false, cond,
 use Rattle.std.specs.Prelude.{IfSome, IsSomeAnd, bytes_eq, if◌then◌else◌}
 use Rattle.std.specs.Option.{option_or}
 use Rattle.std.proofs.lemmas.List.Elements.{All-head, All-tail}
+use Rattle.std.proofs.lemmas.Option.{same_Some}
 use Rattle.zi_outside.specs.Launched.{Spawning}
 use Rattle.zi_outside.specs.Vars.{value_of}
 use Rattle.zi_outside.specs.declared.var.Var.{Var}
@@ -51,9 +52,6 @@ no_lack command (fault.Unbuilt element) h = tt
 no_lack command (fault.BadPath text) h = tt
 no_lack command fault.Memory h = tt
 
-some_same : {X : Type 0} (x y : X) → ◌≡◌ {A = Option X} (Some x) (Some y) → x ≡ y
-some_same x y e = cc
-
 err_same : {X : Type 0} (x y : PlanFault) → ◌≡◌ {A = Result X PlanFault} (Err x) (Err y) → x ≡ y
 err_same x y e = cc
 
@@ -63,12 +61,12 @@ found_so P test [] x h e = absurd (cc e)
 found_so P test (y ∷ xs) x h e = by (test y) e (found_so P test xs x (All-tail P y xs h))
   where
     by : (b : Bool) → cond b (Some y) (find test xs) ≡ Some x → (find test xs ≡ Some x → P x) → P x
-    by true e go = subst P (some_same y x e) (All-head P y xs h)
+    by true e go = subst P (same_Some y x e) (All-head P y xs h)
     by false e go = go e
 
 if_some : {X : Type 0} (P : X → Type 0) (o : Option X) (x : X) → o ≡ Some x → IfSome o P → P x
 if_some P None x e h = absurd (cc e)
-if_some P (Some y) x e h = subst P (some_same y x e) h
+if_some P (Some y) x e h = subst P (same_Some y x e) h
 
 behind_err : (link : Link) (answer : Result (List Link) PlanFault) (reason : PlanFault) → behind link answer ≡ Err reason → answer ≡ Err reason
 behind_err link (Ok links) reason e = absurd (cc e)
@@ -99,7 +97,7 @@ module _ (items : List Selection) (folders : List (Option (List ℕ))) (placed :
       by : (b : Bool) → cond b (Some (record { selection = x; folder = f })) (placed_for (all_placed xs fs) i) ≡ Some p
           → (placed_for (all_placed xs fs) i ≡ Some p → find (λ (x : Selection). bytes_eq x.interface i) xs ≡ Some p.selection)
           → cond b (Some x) (find (λ (x : Selection). bytes_eq x.interface i) xs) ≡ Some p.selection
-      by true e go = ap (λ (q : Placed). Some q.selection) (some_same (record { selection = x; folder = f }) p e)
+      by true e go = ap (λ (q : Placed). Some q.selection) (same_Some (record { selection = x; folder = f }) p e)
       by false e go = go e
 
   abbrev ps : List Placed
@@ -142,14 +140,14 @@ module _ (items : List Selection) (folders : List (Option (List ℕ))) (placed :
     where
       by : (b : Bool) → (if b then None else Some (fault.BadPath text)) ≡ Some f → NoneLacks f
       by true e = absurd (cc e)
-      by false e = subst NoneLacks (some_same (fault.BadPath text) f e) tt
+      by false e = subst NoneLacks (same_Some (fault.BadPath text) f e) tt
 
   command_lacks : (k : Command) (f : PlanFault) → command_fault k ≡ Some f → NoneLacks f
   command_lacks k f e = by k.unbuilt e
     where
       by : (o : Option (List ℕ)) → option_or (option_map (λ element. fault.Unbuilt element) o) (path_fault k.path) ≡ Some f → NoneLacks f
       by None e = path_lacks k.path f e
-      by (Some element) e = subst NoneLacks (some_same (fault.Unbuilt element) f e) tt
+      by (Some element) e = subst NoneLacks (same_Some (fault.Unbuilt element) f e) tt
 
   link_lacks : (met : List Asked) (asked : Asked) (reason : PlanFault) → IsThere asked → link_for ps met asked ≡ Err reason → NoneLacks reason
   link_lacks met asked reason there e = by (is_met met asked) (placed_for ps asked.interface) there e
@@ -188,7 +186,7 @@ last_lacks [] reason e = absurd (cc e)
 last_lacks (link ∷ []) reason e = by link.command.path e
   where
     by : (o : Option (List ℕ)) → no_path link o ≡ Some reason → NoneLacks reason
-    by None e = subst NoneLacks (some_same (fault.NoPath link.interface link.command.name) reason e) tt
+    by None e = subst NoneLacks (same_Some (fault.NoPath link.interface link.command.name) reason e) tt
     by (Some path) e = absurd (cc e)
 last_lacks (link ∷ next ∷ links) reason e = last_lacks (next ∷ links) reason e
 

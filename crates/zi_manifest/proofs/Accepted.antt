@@ -1,5 +1,5 @@
 -- The entries of a listing are taken, one after another.
-use Rattle.std.proofs.Common.{◌≡◌, ◌<◌, ℕ, Bool, true, false, ◌&&◌, not, List, [], ◌∷◌, ◌++◌, length, Option, Some, None, refl, sym, ◌∙◌, ap, subst, if◌then◌else◌, arith, bytes_eq, is_none, option_and_then, length-append}
+use Rattle.std.proofs.Common.{◌≡◌, ◌<◌, ℕ, Bool, true, false, ◌&&◌, List, [], ◌∷◌, ◌++◌, length, Option, Some, None, refl, sym, ◌∙◌, ap, subst, if◌then◌else◌, arith, bytes_eq, is_none, option_and_then, length-append}
 use Rattle.std.specs.List.{list_any}
 use Rattle.std.specs.Ordering.{is_lt, nat_cmp}
 use Rattle.std.specs.Cmp.Lexicographic.{slice_cmp}
@@ -9,6 +9,7 @@ use Rattle.zi_digest.specs.declared.Algorithm.{Algorithm}
 use Rattle.zi_tree.specs.Order.{is_plain, has_byte}
 use Rattle.std.specs.Str.{is_utf8}
 use Rattle.std.specs.Prelude.{codes, nat_eq}
+use Rattle.std.proofs.lemmas.Bool.{and_parts, and_from, not_from_false}
 use Rattle.zi_tree.proofs.Pieces.{or_parts}
 use Rattle.zi_tree.proofs.Order.{lt_apart}
 use Rattle.zi_manifest.specs.Sketch.{Sketch, Empty, OfFile, OfLink, OfFolder, joined, text_of, leaf_text, folder_text}
@@ -17,13 +18,6 @@ use Rattle.zi_manifest.specs.Reading.{all_before, is_free, is_above, fresh, add,
 use Rattle.zi_manifest.specs.declared.entries.Entry.TheVariants.{File, Link, Folder}
 use Rattle.zi_manifest.specs.declared.open.Open.{Open}
 
-pub and_parts : (a b : Bool) → (a && b) ≡ true → (a ≡ true) × (b ≡ true)
-and_parts true b h = (refl, h)
-and_parts false b h = absurd (cc h)
-
-pub and_whole : (a b : Bool) → a ≡ true → b ≡ true → (a && b) ≡ true
-and_whole a b h k = rw (h, k) refl
-
 pub if_true : {X : Type 0} (b : Bool) (x y : X) → b ≡ true → (if b then x else y) ≡ x
 if_true true x y h = refl
 if_true false x y h = absurd (cc h)
@@ -31,14 +25,6 @@ if_true false x y h = absurd (cc h)
 pub if_false : {X : Type 0} (b : Bool) (x y : X) → b ≡ false → (if b then x else y) ≡ y
 if_false false x y h = refl
 if_false true x y h = absurd (cc h)
-
-pub not_true : (b : Bool) → b ≡ false → not b ≡ true
-not_true false h = refl
-not_true true h = absurd (cc h)
-
-pub not_false : (b : Bool) → not b ≡ true → b ≡ false
-not_false false h = refl
-not_false true h = absurd (cc h)
 
 abbrev pub lt : List ℕ → List ℕ → Bool
 lt m n = is_lt (slice_cmp nat_cmp m n)
@@ -53,21 +39,21 @@ ahead_file [] n h e t size rest x = (refl, tt)
 ahead_file (m ∷ ms) n h e t size rest x =
     let p = and_parts (lt m n) (is_ahead m rest) x.0 in
     let q = ahead_file ms n h e t size rest x.1 in
-    (and_whole (lt m n) (all_before ms n) p.0 q.0, (p.1, q.1))
+    (and_from (lt m n) (all_before ms n) p.0 q.0, (p.1, q.1))
 
 ahead_link : (ms : List (List ℕ)) (n h : List ℕ) (size : ℕ) (rest : Sketch) → AllAhead ms (OfLink n h size rest) → (all_before ms n ≡ true) × AllAhead ms rest
 ahead_link [] n h size rest x = (refl, tt)
 ahead_link (m ∷ ms) n h size rest x =
     let p = and_parts (lt m n) (is_ahead m rest) x.0 in
     let q = ahead_link ms n h size rest x.1 in
-    (and_whole (lt m n) (all_before ms n) p.0 q.0, (p.1, q.1))
+    (and_from (lt m n) (all_before ms n) p.0 q.0, (p.1, q.1))
 
 ahead_folder : (ms : List (List ℕ)) (n : List ℕ) (i rest : Sketch) → AllAhead ms (OfFolder n i rest) → (all_before ms n ≡ true) × AllAhead ms rest
 ahead_folder [] n i rest x = (refl, tt)
 ahead_folder (m ∷ ms) n i rest x =
     let p = and_parts (lt m n) (is_ahead m rest) x.0 in
     let q = ahead_folder ms n i rest x.1 in
-    (and_whole (lt m n) (all_before ms n) p.0 q.0, (p.1, q.1))
+    (and_from (lt m n) (all_before ms n) p.0 q.0, (p.1, q.1))
 
 ahead_more : (ms : List (List ℕ)) (n : List ℕ) (rest : Sketch) → AllAhead ms rest → is_ahead n rest ≡ true → AllAhead (ms ++ n ∷ []) rest
 ahead_more [] n rest x h = (h, tt)
@@ -82,7 +68,7 @@ run_parts [] ys cs = refl
 run_parts (x ∷ xs) ys cs = then_parts (λ ds. run (entries (xs ++ ys)) ds) (λ ds. run (entries ys) ds) (λ ds. run (entries xs) ds) (λ d. run_parts xs ys d) (step x.1 cs)
 
 added : (n : List ℕ) (c : Open) (cs : List Open) → c.folder ≡ None → all_before c.leaves n ≡ true → add n (c ∷ cs) ≡ Some (record c { leaves = c.leaves ++ n ∷ [] } ∷ cs)
-added n c cs f b = if_true (is_none c.folder && all_before c.leaves n) (Some (record c { leaves = c.leaves ++ n ∷ [] } ∷ cs)) None (and_whole (is_none c.folder) (all_before c.leaves n) (ap is_none f) b)
+added n c cs f b = if_true (is_none c.folder && all_before c.leaves n) (Some (record c { leaves = c.leaves ++ n ∷ [] } ∷ cs)) None (and_from (is_none c.folder) (all_before c.leaves n) (ap is_none f) b)
 
 leaves_run : (a : Algorithm) (p : List ℕ) (s : Sketch) (c : Open) (cs : List Open) → IsListing a s → c.folder ≡ None → AllAhead c.leaves s
     → run (entries (leaf_entries p s)) (c ∷ cs) ≡ Some (record c { leaves = c.leaves ++ leaf_names s } ∷ cs)
@@ -141,7 +127,7 @@ apart a ms (OfLink n h size rest) g x =
     subst (λ l. Apart l rest) (append_assoc ms (n ∷ []) (leaf_names rest)) (apart a (ms ++ n ∷ []) rest g.4 (ahead_more ms n rest (ahead_link ms n h size rest x).1 g.3))
 apart a ms (OfFolder n i rest) g x =
     let q = ahead_folder ms n i rest x in
-    (not_true (list_any (λ m. bytes_eq m n) (ms ++ leaf_names rest)) (none_before ms (leaf_names rest) n q.0 (none_behind n rest g.2)), apart a ms rest g.3 q.1)
+    (not_from_false (list_any (λ m. bytes_eq m n) (ms ++ leaf_names rest)) (none_before ms (leaf_names rest) n q.0 (none_behind n rest g.2)), apart a ms rest g.3 q.1)
 
 -- folders deeper than this path
 abbrev Deep : List ℕ → List Open → Type 0
@@ -201,7 +187,7 @@ folders_run a (OfFolder n i rest) inner c cs g d ab ap_ =
     let c2 : Open = record c { folder = Some n } in
     let child : Open = record { path = q; leaves = leaf_names i; folder = None } in
     let own : step (Folder c.path n) (inner ++ c ∷ cs) ≡ Some (fresh q ∷ c2 ∷ cs) =
-    ap (enter n) (back_deep inner c cs d) ∙ if_true (is_above c.folder n && is_free c.leaves n) (Some (fresh q ∷ c2 ∷ cs)) None (and_whole (is_above c.folder n) (is_free c.leaves n) (above_first c.folder ab) ap_.0) in
+    ap (enter n) (back_deep inner c cs d) ∙ if_true (is_above c.folder n && is_free c.leaves n) (Some (fresh q ∷ c2 ∷ cs)) None (and_from (is_above c.folder n) (is_free c.leaves n) (above_first c.folder ab) ap_.0) in
     let leaves = leaves_run a q i (fresh q) (c2 ∷ cs) g.1 refl tt in
     let below = folders_run a i [] child (c2 ∷ cs) g.1 tt tt (apart a [] i g.1 tt) in
     let last : Open = record child { folder = below.last } in

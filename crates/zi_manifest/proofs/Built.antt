@@ -5,6 +5,7 @@ use Rattle.std.specs.Ordering.{is_lt, nat_cmp}
 use Rattle.std.specs.Cmp.Lexicographic.{slice_cmp}
 use Rattle.std.proofs.lemmas.List.{append_assoc, append-nil}
 use Rattle.std.proofs.lemmas.Slice.Eq.{bytes_eq-Decides}
+use Rattle.std.proofs.lemmas.Bool.{and_parts, and_from, not-true}
 use Rattle.zi_digest.specs.declared.Algorithm.{Algorithm}
 use Rattle.zi_tree.proofs.Order.{lt_trans, lt_flip, lt_less}
 use Rattle.zi_tree.proofs.Pieces.{or_parts}
@@ -14,7 +15,7 @@ use Rattle.zi_manifest.specs.Reading.{IsEntry, all_before, is_free, is_above, ri
 use Rattle.zi_manifest.specs.declared.entries.Entry.{Entry}
 use Rattle.zi_manifest.specs.declared.entries.Entry.TheVariants.{File, Link, Folder}
 use Rattle.zi_manifest.specs.declared.open.Open.{Open}
-use Rattle.zi_manifest.proofs.Accepted.{and_parts, and_whole, not_false, lt}
+use Rattle.zi_manifest.proofs.Accepted.{lt}
 
 -- a file or a link behind all entries
 abbrev behind : Sketch → Sketch → Sketch
@@ -62,9 +63,9 @@ no_entries p (OfFolder n i rest) f = absurd (cc f)
 
 ahead_behind : (m : List ℕ) (s e : Sketch) → is_ahead m s ≡ true → is_ahead m e ≡ true → is_ahead m (behind s e) ≡ true
 ahead_behind m Empty e h k = k
-ahead_behind m (OfFile n j x t size rest) e h k = let p = and_parts (lt m n) (is_ahead m rest) h in and_whole (lt m n) (is_ahead m (behind rest e)) p.0 (ahead_behind m rest e p.1 k)
-ahead_behind m (OfLink n j size rest) e h k = let p = and_parts (lt m n) (is_ahead m rest) h in and_whole (lt m n) (is_ahead m (behind rest e)) p.0 (ahead_behind m rest e p.1 k)
-ahead_behind m (OfFolder n i rest) e h k = let p = and_parts (lt m n) (is_ahead m rest) h in and_whole (lt m n) (is_ahead m (behind rest e)) p.0 (ahead_behind m rest e p.1 k)
+ahead_behind m (OfFile n j x t size rest) e h k = let p = and_parts (lt m n) (is_ahead m rest) h in and_from (lt m n) (is_ahead m (behind rest e)) p.0 (ahead_behind m rest e p.1 k)
+ahead_behind m (OfLink n j size rest) e h k = let p = and_parts (lt m n) (is_ahead m rest) h in and_from (lt m n) (is_ahead m (behind rest e)) p.0 (ahead_behind m rest e p.1 k)
+ahead_behind m (OfFolder n i rest) e h k = let p = and_parts (lt m n) (is_ahead m rest) h in and_from (lt m n) (is_ahead m (behind rest e)) p.0 (ahead_behind m rest e p.1 k)
 
 listing_behind : (a : Algorithm) (n : List ℕ) (s e : Sketch) → IsListing a s → folder_names s ≡ [] → all_before (leaf_names s) n ≡ true
     → ((m : List ℕ) → lt m n ≡ true → is_ahead m e ≡ true) → IsListing a e → IsListing a (behind s e)
@@ -153,31 +154,31 @@ folders_within a p n i (OfFolder m j rest) g b f =
     ∙ simp (folders_within a p n i rest g.3 q.1 f, append_assoc)
 
 ahead_within : (k n : List ℕ) (i s : Sketch) → is_ahead k s ≡ true → lt k n ≡ true → is_ahead k (within n i s) ≡ true
-ahead_within k n i Empty h l = and_whole (lt k n) true l refl
+ahead_within k n i Empty h l = and_from (lt k n) true l refl
 ahead_within k n i (OfFile m j x t size rest) h l =
     let p = and_parts (lt k m) (is_ahead k rest) h in
     elim (lt m n) as (λ b. is_ahead k (if b then OfFile m j x t size (within n i rest) else OfFolder n i (OfFile m j x t size rest)) ≡ true) [
-      | true ↦ and_whole (lt k m) (is_ahead k (within n i rest)) p.0 (ahead_within k n i rest p.1 l)
-      | false ↦ and_whole (lt k n) (lt k m && is_ahead k rest) l h
+      | true ↦ and_from (lt k m) (is_ahead k (within n i rest)) p.0 (ahead_within k n i rest p.1 l)
+      | false ↦ and_from (lt k n) (lt k m && is_ahead k rest) l h
     ]
 ahead_within k n i (OfLink m j size rest) h l =
     let p = and_parts (lt k m) (is_ahead k rest) h in
     elim (lt m n) as (λ b. is_ahead k (if b then OfLink m j size (within n i rest) else OfFolder n i (OfLink m j size rest)) ≡ true) [
-      | true ↦ and_whole (lt k m) (is_ahead k (within n i rest)) p.0 (ahead_within k n i rest p.1 l)
-      | false ↦ and_whole (lt k n) (lt k m && is_ahead k rest) l h
+      | true ↦ and_from (lt k m) (is_ahead k (within n i rest)) p.0 (ahead_within k n i rest p.1 l)
+      | false ↦ and_from (lt k n) (lt k m && is_ahead k rest) l h
     ]
 ahead_within k n i (OfFolder m j rest) h l =
     let p = and_parts (lt k m) (is_ahead k rest) h in
     elim (lt m n) as (λ b. is_ahead k (if b then OfFolder m j (within n i rest) else OfFolder n i (OfFolder m j rest)) ≡ true) [
-      | true ↦ and_whole (lt k m) (is_ahead k (within n i rest)) p.0 (ahead_within k n i rest p.1 l)
-      | false ↦ and_whole (lt k n) (lt k m && is_ahead k rest) l h
+      | true ↦ and_from (lt k m) (is_ahead k (within n i rest)) p.0 (ahead_within k n i rest p.1 l)
+      | false ↦ and_from (lt k n) (lt k m && is_ahead k rest) l h
     ]
 
 ahead_before : (n m : List ℕ) (s : Sketch) → lt n m ≡ true → is_ahead m s ≡ true → is_ahead n s ≡ true
 ahead_before n m Empty l h = refl
-ahead_before n m (OfFile k j x t size rest) l h = let p = and_parts (lt m k) (is_ahead m rest) h in and_whole (lt n k) (is_ahead n rest) (lt_trans n m k l p.0) (ahead_before n m rest l p.1)
-ahead_before n m (OfLink k j size rest) l h = let p = and_parts (lt m k) (is_ahead m rest) h in and_whole (lt n k) (is_ahead n rest) (lt_trans n m k l p.0) (ahead_before n m rest l p.1)
-ahead_before n m (OfFolder k i rest) l h = let p = and_parts (lt m k) (is_ahead m rest) h in and_whole (lt n k) (is_ahead n rest) (lt_trans n m k l p.0) (ahead_before n m rest l p.1)
+ahead_before n m (OfFile k j x t size rest) l h = let p = and_parts (lt m k) (is_ahead m rest) h in and_from (lt n k) (is_ahead n rest) (lt_trans n m k l p.0) (ahead_before n m rest l p.1)
+ahead_before n m (OfLink k j size rest) l h = let p = and_parts (lt m k) (is_ahead m rest) h in and_from (lt n k) (is_ahead n rest) (lt_trans n m k l p.0) (ahead_before n m rest l p.1)
+ahead_before n m (OfFolder k i rest) l h = let p = and_parts (lt m k) (is_ahead m rest) h in and_from (lt n k) (is_ahead n rest) (lt_trans n m k l p.0) (ahead_before n m rest l p.1)
 
 listing_within : (a : Algorithm) (n : List ℕ) (i s : Sketch) → IsEntryName n → IsListing a i → IsListing a s → all_before (folder_names s) n ≡ true
     → list_any (λ m. bytes_eq m n) (leaf_names s) ≡ false → IsListing a (within n i s)
@@ -188,14 +189,14 @@ listing_within a n i (OfFile m h x t size rest) name gi g b f =
   where
     at : (c : Bool) → lt m n ≡ c → IsListing a (within n i rest) → bytes_eq m n ≡ false → IsListing a (if c then OfFile m h x t size (within n i rest) else OfFolder n i (OfFile m h x t size rest))
     at true e ih ne = (g.0, g.1, g.2, g.3, ahead_within m n i rest g.4 e, ih)
-    at false e ih ne = let l = flipped m n e ne in (name, gi, and_whole (lt n m) (is_ahead n rest) l (ahead_before n m rest l g.4), g)
+    at false e ih ne = let l = flipped m n e ne in (name, gi, and_from (lt n m) (is_ahead n rest) l (ahead_before n m rest l g.4), g)
 listing_within a n i (OfLink m h size rest) name gi g b f =
     let q = or_parts (bytes_eq m n) (list_any (λ m. bytes_eq m n) (leaf_names rest)) f in
     at (lt m n) refl (listing_within a n i rest name gi g.4 b q.1) q.0
   where
     at : (c : Bool) → lt m n ≡ c → IsListing a (within n i rest) → bytes_eq m n ≡ false → IsListing a (if c then OfLink m h size (within n i rest) else OfFolder n i (OfLink m h size rest))
     at true e ih ne = (g.0, g.1, g.2, ahead_within m n i rest g.3 e, ih)
-    at false e ih ne = let l = flipped m n e ne in (name, gi, and_whole (lt n m) (is_ahead n rest) l (ahead_before n m rest l g.3), g)
+    at false e ih ne = let l = flipped m n e ne in (name, gi, and_from (lt n m) (is_ahead n rest) l (ahead_before n m rest l g.3), g)
 listing_within a n i (OfFolder m j rest) name gi g b f =
     let q = and_parts (lt m n) (all_before (folder_names rest) n) b in
     let whole : IsListing a (OfFolder m j (within n i rest)) = (g.0, g.1, ahead_within m n i rest g.2 q.0, listing_within a n i rest name gi g.3 q.1 f) in
@@ -203,25 +204,25 @@ listing_within a n i (OfFolder m j rest) name gi g b f =
 
 before_trans : (ms : List (List ℕ)) (n k : List ℕ) → all_before ms n ≡ true → lt n k ≡ true → all_before ms k ≡ true
 before_trans [] n k h l = refl
-before_trans (m ∷ ms) n k h l = let p = and_parts (lt m n) (all_before ms n) h in and_whole (lt m k) (all_before ms k) (lt_trans m n k p.0 l) (before_trans ms n k p.1 l)
+before_trans (m ∷ ms) n k h l = let p = and_parts (lt m n) (all_before ms n) h in and_from (lt m k) (all_before ms k) (lt_trans m n k p.0 l) (before_trans ms n k p.1 l)
 
 before_within : (n k : List ℕ) (i s : Sketch) → all_before (folder_names s) k ≡ true → lt n k ≡ true → all_before (folder_names (within n i s)) k ≡ true
-before_within n k i Empty h l = and_whole (lt n k) true l refl
+before_within n k i Empty h l = and_from (lt n k) true l refl
 before_within n k i (OfFile m j x t size rest) h l =
     elim (lt m n) as (λ b. all_before (folder_names (if b then OfFile m j x t size (within n i rest) else OfFolder n i (OfFile m j x t size rest))) k ≡ true) [
       | true ↦ before_within n k i rest h l
-      | false ↦ and_whole (lt n k) (all_before (folder_names rest) k) l h
+      | false ↦ and_from (lt n k) (all_before (folder_names rest) k) l h
     ]
 before_within n k i (OfLink m j size rest) h l =
     elim (lt m n) as (λ b. all_before (folder_names (if b then OfLink m j size (within n i rest) else OfFolder n i (OfLink m j size rest))) k ≡ true) [
       | true ↦ before_within n k i rest h l
-      | false ↦ and_whole (lt n k) (all_before (folder_names rest) k) l h
+      | false ↦ and_from (lt n k) (all_before (folder_names rest) k) l h
     ]
 before_within n k i (OfFolder m j rest) h l =
     let p = and_parts (lt m k) (all_before (folder_names rest) k) h in
     elim (lt m n) as (λ b. all_before (folder_names (if b then OfFolder m j (within n i rest) else OfFolder n i (OfFolder m j rest))) k ≡ true) [
-      | true ↦ and_whole (lt m k) (all_before (folder_names (within n i rest)) k) p.0 (before_within n k i rest p.1 l)
-      | false ↦ and_whole (lt n k) (lt m k && all_before (folder_names rest) k) l h
+      | true ↦ and_from (lt m k) (all_before (folder_names (within n i rest)) k) p.0 (before_within n k i rest p.1 l)
+      | false ↦ and_from (lt n k) (lt m k && all_before (folder_names rest) k) l h
     ]
 
 -- the innermost folder is closed
@@ -231,7 +232,7 @@ all_within a p n i s g b f = simp (leaves_within p n i s, folders_within a p n i
 
 popped : (a : Algorithm) (c d : Open) (cs : List Open) (ps : List Placed) → Built a (c ∷ d ∷ cs) ps → Built a (d ∷ cs) ps
 popped a c d cs ps (s, before, shape, e, (n, t, earlier, o, path, e2, round)) =
-    let free = not_false (list_any (λ m. bytes_eq m n) (leaf_names t)) o.free in
+    let free = not-true (list_any (λ m. bytes_eq m n) (leaf_names t)) o.free in
     let whole = all_within a d.path n s t o.good o.above free in
     let x : List Placed = (d.path, Folder d.path n) ∷ [] in
     let shape2 : Shape a d (within n s t) = record {
@@ -307,13 +308,13 @@ built_step a (File n h x t size) (c ∷ cs) ds ps g st b =
     let q = if_some (is_none c.folder && all_before c.leaves n) (record c { leaves = c.leaves ++ n ∷ [] } ∷ cs) ds st in
     let r = and_parts (is_none c.folder) (all_before c.leaves n) q.0 in
     subst (λ (z : List Open). Built a z (ps ++ ((c.path, File n h x t size) ∷ []))) q.1
-    (leaf_built a n (OfFile n h x t size Empty) (c.path, File n h x t size) c cs ps (none_of c.folder r.0) r.1 (g.0, g.1, g.2, g.3, refl, tt) (λ m l. and_whole (lt m n) true l refl) refl refl refl b)
+    (leaf_built a n (OfFile n h x t size Empty) (c.path, File n h x t size) c cs ps (none_of c.folder r.0) r.1 (g.0, g.1, g.2, g.3, refl, tt) (λ m l. and_from (lt m n) true l refl) refl refl refl b)
 built_step a (Link n h size) [] ds ps g st b = absurd (cc st)
 built_step a (Link n h size) (c ∷ cs) ds ps g st b =
     let q = if_some (is_none c.folder && all_before c.leaves n) (record c { leaves = c.leaves ++ n ∷ [] } ∷ cs) ds st in
     let r = and_parts (is_none c.folder) (all_before c.leaves n) q.0 in
     subst (λ (z : List Open). Built a z (ps ++ ((c.path, Link n h size) ∷ []))) q.1
-    (leaf_built a n (OfLink n h size Empty) (c.path, Link n h size) c cs ps (none_of c.folder r.0) r.1 (g.0, g.1, g.2, refl, tt) (λ m l. and_whole (lt m n) true l refl) refl refl refl b)
+    (leaf_built a n (OfLink n h size Empty) (c.path, Link n h size) c cs ps (none_of c.folder r.0) r.1 (g.0, g.1, g.2, refl, tt) (λ m l. and_from (lt m n) true l refl) refl refl refl b)
 built_step a (Folder p n) cs ds ps g st b = entered (back p cs) refl st
   where
     entered : (o : Option (Open × List Open)) → back p cs ≡ o → enter n o ≡ Some ds → Built a ds (ps ++ ((p, Folder p n) ∷ []))
@@ -333,23 +334,23 @@ closed a (c ∷ d ∷ cs) ps b = closed a (d ∷ cs) ps (popped a c d cs ps b)
 -- names rise
 all_ahead : (n : List ℕ) (s : Sketch) → is_ahead n s ≡ true → list_all (λ k. is_lt (slice_cmp nat_cmp n k)) (leaf_names s) ≡ true
 all_ahead n Empty h = refl
-all_ahead n (OfFile m j x t size rest) h = let p = and_parts (lt n m) (is_ahead n rest) h in and_whole (lt n m) (list_all (λ k. is_lt (slice_cmp nat_cmp n k)) (leaf_names rest)) p.0 (all_ahead n rest p.1)
-all_ahead n (OfLink m j size rest) h = let p = and_parts (lt n m) (is_ahead n rest) h in and_whole (lt n m) (list_all (λ k. is_lt (slice_cmp nat_cmp n k)) (leaf_names rest)) p.0 (all_ahead n rest p.1)
+all_ahead n (OfFile m j x t size rest) h = let p = and_parts (lt n m) (is_ahead n rest) h in and_from (lt n m) (list_all (λ k. is_lt (slice_cmp nat_cmp n k)) (leaf_names rest)) p.0 (all_ahead n rest p.1)
+all_ahead n (OfLink m j size rest) h = let p = and_parts (lt n m) (is_ahead n rest) h in and_from (lt n m) (list_all (λ k. is_lt (slice_cmp nat_cmp n k)) (leaf_names rest)) p.0 (all_ahead n rest p.1)
 all_ahead n (OfFolder m i rest) h = all_ahead n rest (and_parts (lt n m) (is_ahead n rest) h).1
 
 names_rise : (a : Algorithm) (s : Sketch) → IsListing a s → rises (leaf_names s) ≡ true
 names_rise a Empty g = refl
-names_rise a (OfFile n h x t size rest) g = and_whole (list_all (λ k. is_lt (slice_cmp nat_cmp n k)) (leaf_names rest)) (rises (leaf_names rest)) (all_ahead n rest g.4) (names_rise a rest g.5)
-names_rise a (OfLink n h size rest) g = and_whole (list_all (λ k. is_lt (slice_cmp nat_cmp n k)) (leaf_names rest)) (rises (leaf_names rest)) (all_ahead n rest g.3) (names_rise a rest g.4)
+names_rise a (OfFile n h x t size rest) g = and_from (list_all (λ k. is_lt (slice_cmp nat_cmp n k)) (leaf_names rest)) (rises (leaf_names rest)) (all_ahead n rest g.4) (names_rise a rest g.5)
+names_rise a (OfLink n h size rest) g = and_from (list_all (λ k. is_lt (slice_cmp nat_cmp n k)) (leaf_names rest)) (rises (leaf_names rest)) (all_ahead n rest g.3) (names_rise a rest g.4)
 names_rise a (OfFolder n i rest) g = names_rise a rest g.3
 
 round_rises : (a : Algorithm) (c : Open) (cs : List Open) (ps : List Placed) → Round a c cs ps → all_rise cs ≡ true
 round_rises a c [] ps r = refl
-round_rises a c (d ∷ cs) ps (n, s, before, o, path, e, r) = and_whole (rises d.leaves) (all_rise cs) (ap rises o.leaves ∙ names_rise a s o.good) (round_rises a d cs before r)
+round_rises a c (d ∷ cs) ps (n, s, before, o, path, e, r) = and_from (rises d.leaves) (all_rise cs) (ap rises o.leaves ∙ names_rise a s o.good) (round_rises a d cs before r)
 
 pub built_rises : (a : Algorithm) (cs : List Open) (ps : List Placed) → Built a cs ps → all_rise cs ≡ true
 built_rises a [] ps b = absurd b
-built_rises a (c ∷ cs) ps (s, before, shape, e, r) = and_whole (rises c.leaves) (all_rise cs) (ap rises shape.leaves ∙ names_rise a s shape.good) (round_rises a c cs before r)
+built_rises a (c ∷ cs) ps (s, before, shape, e, r) = and_from (rises c.leaves) (all_rise cs) (ap rises shape.leaves ∙ names_rise a s shape.good) (round_rises a c cs before r)
 
 pub built_start : (a : Algorithm) → Built a (fresh [] ∷ []) []
 built_start a = (Empty, [], record { leaves = refl; good = tt; above = λ k h. refl; none = λ h. refl }, refl, (refl, refl))

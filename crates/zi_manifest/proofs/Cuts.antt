@@ -5,11 +5,12 @@ use Rattle.std.specs.Fmt.{signed_decimal}
 use Rattle.std.specs.List.{list_all}
 use Rattle.std.proofs.lemmas.Fmt.{decimal_by_steps}
 use Rattle.std.proofs.lemmas.Bool.Decides.{nat_tests}
+use Rattle.std.proofs.lemmas.Bool.{and_parts}
 use Rattle.zi_digest.specs.declared.Algorithm.{Algorithm}
 use Rattle.zi_tree.specs.Order.{has_byte}
 use Rattle.zi_tree.proofs.Pieces.{or_parts}
 use Rattle.zi_manifest.specs.Listing.{IsHash, IsSigned64, is_lower_digit}
-use Rattle.zi_manifest.proofs.Accepted.{and_parts, has_append}
+use Rattle.zi_manifest.proofs.Accepted.{has_append}
 
 test_same : (c : ℕ) → nat_eq c c ≡ true
 test_same c = grind (arith, nat_tests)

@@ -10,6 +10,7 @@ use Rattle.sha1.specs.Sha1.{sha1, digest_bytes as digest_bytes1}
 use Rattle.sha2.specs.Sha256.{sha256, digest_bytes}
 use Rattle.std.specs.Int.{to_be_bytes}
 use Rattle.std.proofs.Common.{w32, slice_index, length-append}
+use Rattle.std.proofs.lemmas.Bool.{and_parts, and_from}
 use Rattle.zi_digest.specs.declared.Algorithm.{Algorithm}
 use Rattle.zi_digest.specs.declared.Algorithm.TheVariants.{Sha1new, Sha256, Sha256new}
 use Rattle.zi_tree.specs.Dir.{Dir, Nothing, AFile, ALink, AFolder}
@@ -17,13 +18,6 @@ use Rattle.zi_tree.specs.Order.{is_name, is_before, is_tree}
 use Rattle.zi_manifest.specs.Sketch.{sketch, joined, hash_of}
 use Rattle.zi_manifest.specs.Manifest.{own_name, is_bad, as_read, leaf_bad, folder_bad}
 use Rattle.zi_manifest.specs.Listing.{IsHash, is_lower_digit, is_ahead, IsListing, Is64Bits, WrittenIsListed}
-
-and_parts : (a b : Bool) → (a && b) ≡ true → (a ≡ true) × (b ≡ true)
-and_parts true b h = (refl, h)
-and_parts false b h = absurd (cc h)
-
-and_whole : (a b : Bool) → a ≡ true → b ≡ true → (a && b) ≡ true
-and_whole a b h k = rw (h, k) refl
 
 -- a name that isn't bad, and what is left
 good_first : (b : Bool) (x : List ℕ) (o : Option (List ℕ)) → (if b then Some x else o) ≡ None → (b ≡ false) × (o ≡ None)
@@ -37,11 +31,11 @@ or_parts (Some x) p h = absurd (cc h)
 ahead : (a : Algorithm) (n : List ℕ) (d : Dir) → is_before n d ≡ true → is_ahead n (sketch a d) ≡ true
 ahead a n Nothing h = refl
 ahead a n (AFile m b e t rest) h =
-    let p = and_parts (is_lt (slice_cmp nat_cmp n m)) (is_before n rest) h in and_whole (is_lt (slice_cmp nat_cmp n m)) (is_ahead n (sketch a rest)) p.0 (ahead a n rest p.1)
+    let p = and_parts (is_lt (slice_cmp nat_cmp n m)) (is_before n rest) h in and_from (is_lt (slice_cmp nat_cmp n m)) (is_ahead n (sketch a rest)) p.0 (ahead a n rest p.1)
 ahead a n (ALink m t rest) h =
-    let p = and_parts (is_lt (slice_cmp nat_cmp n m)) (is_before n rest) h in and_whole (is_lt (slice_cmp nat_cmp n m)) (is_ahead n (sketch a rest)) p.0 (ahead a n rest p.1)
+    let p = and_parts (is_lt (slice_cmp nat_cmp n m)) (is_before n rest) h in and_from (is_lt (slice_cmp nat_cmp n m)) (is_ahead n (sketch a rest)) p.0 (ahead a n rest p.1)
 ahead a n (AFolder m i rest) h =
-    let p = and_parts (is_lt (slice_cmp nat_cmp n m)) (is_before n rest) h in and_whole (is_lt (slice_cmp nat_cmp n m)) (is_ahead n (sketch a rest)) p.0 (ahead a n rest p.1)
+    let p = and_parts (is_lt (slice_cmp nat_cmp n m)) (is_before n rest) h in and_from (is_lt (slice_cmp nat_cmp n m)) (is_ahead n (sketch a rest)) p.0 (ahead a n rest p.1)
 
 -- the digits of a hash
 abbrev AreBytes : List ℕ → Type 0
@@ -148,18 +142,18 @@ before_read n (AFile m b e t rest) h =
     let p = and_parts (is_lt (slice_cmp nat_cmp n m)) (is_before n rest) h in
     elim (bytes_eq m own_name) as (λ o. is_before n (if o then as_read rest else AFile m b e t (as_read rest)) ≡ true) [
       | true ↦ before_read n rest p.1
-      | false ↦ and_whole (is_lt (slice_cmp nat_cmp n m)) (is_before n (as_read rest)) p.0 (before_read n rest p.1)
+      | false ↦ and_from (is_lt (slice_cmp nat_cmp n m)) (is_before n (as_read rest)) p.0 (before_read n rest p.1)
     ]
 before_read n (ALink m t rest) h =
-    let p = and_parts (is_lt (slice_cmp nat_cmp n m)) (is_before n rest) h in and_whole (is_lt (slice_cmp nat_cmp n m)) (is_before n (as_read rest)) p.0 (before_read n rest p.1)
+    let p = and_parts (is_lt (slice_cmp nat_cmp n m)) (is_before n rest) h in and_from (is_lt (slice_cmp nat_cmp n m)) (is_before n (as_read rest)) p.0 (before_read n rest p.1)
 before_read n (AFolder m i rest) h =
-    let p = and_parts (is_lt (slice_cmp nat_cmp n m)) (is_before n rest) h in and_whole (is_lt (slice_cmp nat_cmp n m)) (is_before n (as_read rest)) p.0 (before_read n rest p.1)
+    let p = and_parts (is_lt (slice_cmp nat_cmp n m)) (is_before n rest) h in and_from (is_lt (slice_cmp nat_cmp n m)) (is_before n (as_read rest)) p.0 (before_read n rest p.1)
 
 entry_read : (n : List ℕ) (rest : Dir) → (is_name n && (is_before n rest && is_tree rest)) ≡ true → is_tree (as_read rest) ≡ true → (is_name n && (is_before n (as_read rest) && is_tree (as_read rest))) ≡ true
 entry_read n rest t k =
     let q = and_parts (is_name n) (is_before n rest && is_tree rest) t in
     let r = and_parts (is_before n rest) (is_tree rest) q.1 in
-    and_whole (is_name n) (is_before n (as_read rest) && is_tree (as_read rest)) q.0 (and_whole (is_before n (as_read rest)) (is_tree (as_read rest)) (before_read n rest r.0) k)
+    and_from (is_name n) (is_before n (as_read rest) && is_tree (as_read rest)) q.0 (and_from (is_before n (as_read rest)) (is_tree (as_read rest)) (before_read n rest r.0) k)
 
 rest_of : (n : List ℕ) (rest : Dir) → (is_name n && (is_before n rest && is_tree rest)) ≡ true → is_tree rest ≡ true
 rest_of n rest t = (and_parts (is_before n rest) (is_tree rest) (and_parts (is_name n) (is_before n rest && is_tree rest) t).1).1
@@ -174,7 +168,7 @@ tree_read (AFile n b e m rest) t =
 tree_read (ALink n b rest) t = entry_read n rest t (tree_read rest (rest_of n rest t))
 tree_read (AFolder n i rest) t =
     let s = and_parts (is_tree i) (is_name n && (is_before n rest && is_tree rest)) t in
-    and_whole (is_tree i) (is_name n && (is_before n (as_read rest) && is_tree (as_read rest))) s.0 (entry_read n rest s.1 (tree_read rest (rest_of n rest s.1)))
+    and_from (is_tree i) (is_name n && (is_before n (as_read rest) && is_tree (as_read rest))) s.0 (entry_read n rest s.1 (tree_read rest (rest_of n rest s.1)))
 
 bits_read : (d : Dir) → Is64Bits d → Is64Bits (as_read d)
 bits_read Nothing w = tt

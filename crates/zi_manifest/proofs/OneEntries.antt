@@ -5,6 +5,7 @@ use Rattle.std.specs.Fmt.{signed_decimal}
 use Rattle.std.specs.Str.{is_utf8}
 use Rattle.std.proofs.lemmas.List.{append_assoc}
 use Rattle.std.proofs.lemmas.Fmt.{decimal_injective, signed_decimal_injective}
+use Rattle.std.proofs.lemmas.Bool.{and_parts, not-true}
 use lib.Signed.{mag}
 use Rattle.zi_digest.specs.declared.Algorithm.{Algorithm}
 use Rattle.zi_tree.specs.Order.{has_byte, is_plain}
@@ -13,7 +14,6 @@ use Rattle.zi_manifest.specs.Listing.{IsEntryName, IsHash, IsSigned64}
 use Rattle.zi_manifest.specs.Reading.{entry_text}
 use Rattle.zi_manifest.specs.declared.entries.Entry.{Entry}
 use Rattle.zi_manifest.specs.declared.entries.Entry.TheVariants.{File, Link, Folder}
-use Rattle.zi_manifest.proofs.Accepted.{and_parts, not_false}
 use Rattle.zi_manifest.proofs.Cuts.{decimal_has, signed_has, hash_has, cut_once, cut_last_once, has_middle}
 use Rattle.zi_manifest.proofs.LinesRead.{OneEntry}
 use Rattle.zi_manifest.proofs.OneLines.{clear_name, clear_path}
@@ -29,7 +29,7 @@ no_slash n g =
     let q = (and_parts (not (bytes_eq n [])) (not (bytes_eq n (codes ".")) && (not (bytes_eq n (codes "..")) && (not (has_byte 47 n) && not (has_byte 0 n)))) p).1 in
     let r = (and_parts (not (bytes_eq n (codes "."))) (not (bytes_eq n (codes "..")) && (not (has_byte 47 n) && not (has_byte 0 n))) q).1 in
     let s = (and_parts (not (bytes_eq n (codes ".."))) (not (has_byte 47 n) && not (has_byte 0 n)) r).1 in
-    not_false (has_byte 47 n) (and_parts (not (has_byte 47 n)) (not (has_byte 0 n)) s).0
+    not-true (has_byte 47 n) (and_parts (not (has_byte 47 n)) (not (has_byte 0 n)) s).0
 
 -- a path has one parent and one name
 pub joined_once : (p q n m : List ℕ) → has_byte 47 n ≡ false → has_byte 47 m ≡ false → joined p n ≡ joined q m → (p ≡ q) × (n ≡ m)

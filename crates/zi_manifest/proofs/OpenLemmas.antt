@@ -1,5 +1,5 @@
 -- Names that rise: the last of them, and a search by halves.
-use Rattle.std.proofs.Common.{◌≡◌, ◌⊎◌, inl, inr, ℕ, zero, suc, ◌+◌, ◌<◌, ◌≤◌, Bool, true, false, ◌&&◌, ◌||◌, not, List, [], ◌∷◌, length, Some, None, refl, sym, ◌∙◌, ap, arith, get_or, bytes_eq, ◌++◌, reverse}
+use Rattle.std.proofs.Common.{◌≡◌, ◌⊎◌, inl, inr, ℕ, zero, suc, ◌+◌, ◌<◌, ◌≤◌, Bool, true, false, ◌&&◌, not, List, [], ◌∷◌, length, Some, None, refl, sym, ◌∙◌, ap, arith, get_or, bytes_eq, ◌++◌, reverse}
 use Rattle.std.specs.List.{list_all, list_any}
 use Rattle.std.specs.declared.cmp.Ordering.TheVariants.{Less, Equal, Greater}
 use Rattle.std.specs.Ordering.{is_lt, nat_cmp}
@@ -9,10 +9,11 @@ use Rattle.std.specs.FinMap.{slice_cmp-IsAntisymmetric, nat_cmp-IsAntisymmetric}
 use Rattle.std.proofs.lemmas.List.{reverse-append}
 use Rattle.zi_manifest.specs.Sketch.{joined}
 use Rattle.zi_manifest.specs.declared.open.Open.{Open}
-use Rattle.std.proofs.lemmas.Bool.{cases_lt}
+use Rattle.std.proofs.lemmas.Bool.{cases_lt, and_parts, and_from, not_from_false, or_left, or_right, or_from}
+use Rattle.std.proofs.lemmas.Option.{same_Some}
 use Rattle.zi_tree.proofs.Order.{cmp, lt_trans, greater_flip, lt_apart}
 use Rattle.zi_manifest.specs.Reading.{all_before, rises, all_rise, is_free, is_above, fresh, back, enter, TakesFolder}
-use Rattle.zi_manifest.proofs.Accepted.{and_parts, and_whole, if_true, if_false, not_true, lt}
+use Rattle.zi_manifest.proofs.Accepted.{if_true, if_false, lt}
 
 -- a name that stands before each of these stands before each at a place
 before_at : (m : List ℕ) (ns : List (List ℕ)) (j : ℕ) (d : List ℕ) → list_all (λ k. lt m k) ns ≡ true → j < length ns → lt m (get_or ns j d) ≡ true
@@ -34,7 +35,7 @@ same_at (n ∷ ns) (suc i) d x l = same_at ns i d x (omega arith)
 -- where each at a place stands before n, all do
 all_from : (ns : List (List ℕ)) (n : List ℕ) → ((k : ℕ) (d : List ℕ) → k < length ns → lt (get_or ns k d) n ≡ true) → all_before ns n ≡ true
 all_from [] n h = refl
-all_from (m ∷ ns) n h = and_whole (lt m n) (all_before ns n) (h 0 n (omega arith)) (all_from ns n (λ k d l. h (suc k) d (omega arith)))
+all_from (m ∷ ns) n h = and_from (lt m n) (all_before ns n) (h 0 n (omega arith)) (all_from ns n (λ k d l. h (suc k) d (omega arith)))
 
 all_at : (ns : List (List ℕ)) (n : List ℕ) (j : ℕ) (d : List ℕ) → all_before ns n ≡ true → j < length ns → lt (get_or ns j d) n ≡ true
 all_at [] n j d h l = absurd (omega arith)
@@ -91,24 +92,14 @@ above_middle ns n m x r l is e k d ge less = by_place (cases_lt m k)
     by_place (inl high) = lt_trans n (get_or ns m d) (get_or ns k d) here (names_rise ns m k d r high less)
     by_place (inr le) = let same : k ≡ m = omega arith in ap (λ j. lt n (get_or ns j d)) same ∙ here
 
-or_first : (a b : Bool) → a ≡ true → (a || b) ≡ true
-or_first a b h = rw h refl
-
-or_second : (a b : Bool) → b ≡ true → (a || b) ≡ true
-or_second true b h = refl
-or_second false b h = h
-
-or_none : (a b : Bool) → a ≡ false → b ≡ false → (a || b) ≡ false
-or_none a b h k = rw (h, k) refl
-
 any_at : (ns : List (List ℕ)) (n : List ℕ) (i : ℕ) (d : List ℕ) → i < length ns → bytes_eq (get_or ns i d) n ≡ true → list_any (λ m. bytes_eq m n) ns ≡ true
 any_at [] n i d l h = absurd (omega arith)
-any_at (m ∷ ns) n zero d l h = or_first (bytes_eq m n) (list_any (λ m. bytes_eq m n) ns) h
-any_at (m ∷ ns) n (suc i) d l h = or_second (bytes_eq m n) (list_any (λ m. bytes_eq m n) ns) (any_at ns n i d (omega arith) h)
+any_at (m ∷ ns) n zero d l h = or_left (bytes_eq m n) (list_any (λ m. bytes_eq m n) ns) h
+any_at (m ∷ ns) n (suc i) d l h = or_right (bytes_eq m n) (list_any (λ m. bytes_eq m n) ns) (any_at ns n i d (omega arith) h)
 
 none_from : (ns : List (List ℕ)) (n : List ℕ) → ((k : ℕ) (d : List ℕ) → k < length ns → bytes_eq (get_or ns k d) n ≡ false) → list_any (λ m. bytes_eq m n) ns ≡ false
 none_from [] n h = refl
-none_from (m ∷ ns) n h = or_none (bytes_eq m n) (list_any (λ m. bytes_eq m n) ns) (h 0 n (omega arith)) (none_from ns n (λ k d l. h (suc k) d (omega arith)))
+none_from (m ∷ ns) n h = or_from (bytes_eq m n) (list_any (λ m. bytes_eq m n) ns) (h 0 n (omega arith)) (none_from ns n (λ k d l. h (suc k) d (omega arith)))
 
 -- found in the middle
 pub found_middle : (ns : List (List ℕ)) (n : List ℕ) (m : ℕ) (x : List ℕ) → m < length ns → x ≡ get_or ns m x → cmp x n ≡ Equal → list_any (λ k. bytes_eq k n) ns ≡ true
@@ -134,15 +125,12 @@ none_there ns n low b a = none_from ns n (λ k d l. at k d l (cases_lt k low))
 last_first : (fs : List Open) (d : Open) → reverse (fs ++ d ∷ []) ≡ d ∷ reverse fs
 last_first fs d = reverse-append fs (d ∷ [])
 
-some_same : (x y : Open × List Open) → Some x ≡ Some y → x ≡ y
-some_same x y h = cc h
-
 found_here : (p : List ℕ) (c : Open) (cs ds : List Open) (d : Open) → all_rise (c ∷ cs) ≡ true → ((e : back p cs ≡ Some (d, ds)) → (d.path ≡ p) × (rises d.leaves ≡ true)) → back p (c ∷ cs) ≡ Some (d, ds) → (d.path ≡ p) × (rises d.leaves ≡ true)
 found_here p c cs ds d r later = by_test (bytes_eq c.path p) refl
   where
     by_test : (b : Bool) → bytes_eq c.path p ≡ b → back p (c ∷ cs) ≡ Some (d, ds) → (d.path ≡ p) × (rises d.leaves ≡ true)
     by_test true e h =
-        let same : c ≡ d = ap (λ (o : Open × List Open). o.0) (some_same (c, cs) (d, ds) (sym (if_true (bytes_eq c.path p) (Some (c, cs)) (back p cs) e) ∙ h)) in
+        let same : c ≡ d = ap (λ (o : Open × List Open). o.0) (same_Some (c, cs) (d, ds) (sym (if_true (bytes_eq c.path p) (Some (c, cs)) (back p cs) e) ∙ h)) in
         (ap (λ (x : Open). x.path) (sym same) ∙ (bytes_eq-Decides c.path p).0 e, ap (λ (x : Open). rises x.leaves) (sym same) ∙ (and_parts (rises c.leaves) (all_rise cs) r).0)
     by_test false e h = later (sym (if_false (bytes_eq c.path p) (Some (c, cs)) (back p cs) e) ∙ h)
 
@@ -164,7 +152,7 @@ not_free p n cs ds c h k = ap (enter n) h ∙ if_false (is_above c.folder n && i
 pub entered : (p n q : List ℕ) (cs fs gs hs : List Open) (c d e : Open) → back p cs ≡ Some (c, reverse fs) → all_rise cs ≡ true → is_above c.folder n ≡ true → list_any (λ m. bytes_eq m n) c.leaves ≡ false
     → gs ≡ fs ++ d ∷ [] → d ≡ record c { folder = Some n } → hs ≡ gs ++ e ∷ [] → e ≡ fresh q → q ≡ joined c.path n → TakesFolder p n cs (Some q) (reverse hs)
 entered p n q cs fs gs hs c d e h r a f pd de pe ee qe = (
-  ap (enter n) h ∙ if_true (is_above c.folder n && is_free c.leaves n) (Some (fresh (joined c.path n) ∷ record c { folder = Some n } ∷ reverse fs)) None (and_whole (is_above c.folder n) (is_free c.leaves n) a (not_true (list_any (λ m. bytes_eq m n) c.leaves) f)) ∙ ap Some (sym open_now),
+  ap (enter n) h ∙ if_true (is_above c.folder n && is_free c.leaves n) (Some (fresh (joined c.path n) ∷ record c { folder = Some n } ∷ reverse fs)) None (and_from (is_above c.folder n) (is_free c.leaves n) a (not_from_false (list_any (λ m. bytes_eq m n) c.leaves) f)) ∙ ap Some (sym open_now),
   qe ∙ ap (λ x. joined x n) (found p cs (reverse fs) c r h).0,
 )
   where

@@ -1,6 +1,7 @@
 -- A folder, entry by entry.
 use Rattle.std.proofs.Common.{◌≡◌, ◌≤◌, ℕ, zero, suc, Bool, true, false, ◌&&◌, List, [], ◌∷◌, ◌++◌, length, Option, Some, None, refl, sym, ◌∙◌, ap, bytes_eq, if◌then◌else◌, drop, arith}
 use Rattle.std.specs.Option.{option_or}
+use Rattle.std.proofs.lemmas.Option.{same_Some}
 use Rattle.zi_digest.specs.declared.Algorithm.{Algorithm}
 use Rattle.zi_tree.specs.Dir.{Dir, Nothing, AFile, ALink, AFolder}
 use Rattle.zi_tree.specs.declared.tree.TreeNode.{TreeNode}
@@ -12,13 +13,10 @@ use Rattle.zi_manifest.specs.Manifest.{own_name, is_bad, as_read, leaf_bad, fold
 use Rattle.zi_manifest.specs.Walk.{shown, bad_name, node_bad, node_text, after, inner_bad, inner_text}
 use Rattle.zi_tree.proofs.Replaced.{dir_items}
 
-some_eq : {X : Type 0} (x y : X) → Some x ≡ Some y → x ≡ y
-some_eq x y e = cc e
-
 -- the first entry of what is left
 step : (is : List Item) (i : ℕ) (n : List ℕ) (x : TreeNode) → name_in is i ≡ Some n → node_of is i ≡ Some x → drop i is ≡ (n, x) ∷ drop (suc i) is
 step [] i n x h k = absurd (cc h)
-step ((m, y) ∷ is) zero n x h k = let e = some_eq m n h in let f = some_eq y x k in ap (λ (z : List ℕ). (z, y) ∷ is) e ∙ ap (λ (z : TreeNode). (n, z) ∷ is) f
+step ((m, y) ∷ is) zero n x h k = let e = same_Some m n h in let f = same_Some y x k in ap (λ (z : List ℕ). (z, y) ∷ is) e ∙ ap (λ (z : TreeNode). (n, z) ∷ is) f
 step (j ∷ is) (suc i) n x h k = step is i n x h k
 
 pub after_step : (d : Dir) (i : ℕ) (n : List ℕ) (x : TreeNode) → name_in (items d) i ≡ Some n → node_of (items d) i ≡ Some x → after i d ≡ entry_of n x (after (suc i) d)

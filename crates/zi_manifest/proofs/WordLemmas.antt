@@ -5,10 +5,10 @@ use Rattle.std.specs.List.{list_all}
 use Rattle.std.proofs.lemmas.Str.Ascii.{IsAscii-nil, IsAscii-cons}
 use Rattle.std.proofs.lemmas.Str.{IsUtf8-from_ascii}
 use Rattle.std.proofs.lemmas.Bool.Decides.{nat_tests}
+use Rattle.std.proofs.lemmas.Bool.{and_parts}
 use Rattle.zi_digest.specs.declared.Algorithm.{Algorithm}
 use Rattle.zi_tree.specs.Order.{has_byte}
 use Rattle.zi_manifest.specs.Listing.{IsHash, is_lower_digit}
-use Rattle.zi_manifest.proofs.Accepted.{and_parts}
 use Rattle.zi_manifest.proofs.Cuts.{cut_once}
 
 -- a word before the first separator is the one that is cut off

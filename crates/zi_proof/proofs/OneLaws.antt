@@ -1,19 +1,17 @@
 -- A proof text has one certificate.
-use Rattle.std.proofs.Common.{◌≡◌, ℕ, ◌<◌, ◌+◌, List, [], ◌∷◌, ◌++◌, map, refl, sym, ap, ap₂, ◌∙◌, subst, arith, append_assoc, Option, Some, None, length, length-append}
+use Rattle.std.proofs.Common.{◌≡◌, ℕ, ◌+◌, List, [], ◌∷◌, ◌++◌, map, refl, sym, ap, ap₂, ◌∙◌, arith, append_assoc, Option, Some, length, length-append}
 use Rattle.std.specs.List.{All}
 use Rattle.std.proofs.lemmas.List.Elements.{All-head, All-tail}
+use Rattle.std.proofs.lemmas.Option.{same_Some}
 use Rattle.zi_proof.specs.declared.proof.Lemma.{Lemma}
 use Rattle.zi_proof.specs.declared.proof.Block.{Block}
 use Rattle.zi_proof.specs.declared.proof.Certificate.{Certificate}
-use Rattle.zi_proof.specs.ProofText.{all_pieces, LemmaNumbered, BlockNumbered, Numbered, lemma_words, block_words, lemma_line, block_line, header, end_line, certificate_lines, certificate_text, IsProofText}
+use Rattle.zi_proof.specs.ProofText.{all_pieces, LemmaNumbered, BlockNumbered, lemma_words, block_words, lemma_line, block_line, header, end_line, certificate_lines}
 use Rattle.zi_proof.specs.Reading.{lemma_of, block_of}
 use Rattle.zi_proof.specs.Laws.{ATextHasOneCertificate}
 use Rattle.zi_proof.proofs.NumberLaws.{lemma_read, block_read}
 use Rattle.zi_proof.proofs.FreeLaws.{lemma_pieces, block_pieces, certificate_pieces}
 use Rattle.zi_proof.proofs.LineLaws.{head_same, tail_same, not_block, lemma_not_end, block_not_end}
-
-some_lemma : (m n : Lemma) → ◌≡◌ {A = Option Lemma} (Some m) (Some n) → m ≡ n
-some_lemma m n e = cc
 
 some_block : (b c : Block) → ◌≡◌ {A = Option Block} (Some b) (Some c) → b ≡ c
 some_block b c e = cc
@@ -21,7 +19,7 @@ some_block b c e = cc
 one_lemma : (m n : Lemma) → LemmaNumbered m → LemmaNumbered n → lemma_line m ≡ lemma_line n → m ≡ n
 one_lemma m n r s e =
     let words = tail_same (108 ∷ []) (108 ∷ []) (lemma_words m) (lemma_words n) (sym (lemma_pieces m r) ∙ ap (all_pieces 32) e ∙ lemma_pieces n s) in
-    some_lemma m n (sym (lemma_read m r) ∙ ap lemma_of words ∙ lemma_read n s)
+    same_Some m n (sym (lemma_read m r) ∙ ap lemma_of words ∙ lemma_read n s)
 
 one_block : (b c : Block) → BlockNumbered b → BlockNumbered c → block_line b ≡ block_line c → b ≡ c
 one_block b c r s e =

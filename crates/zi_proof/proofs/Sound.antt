@@ -1,7 +1,7 @@
 -- Acceptance is sound: a walk keeps to what every model says.
 use Rattle.std.proofs.Common.{◌≡◌, ◌≢◌, ℕ, zero, suc, Bool, true, false, not, ◌&&◌, ◌||◌, eqb, cond, List, [], ◌∷◌, ◌++◌, map, refl, sym, ap, ◌∙◌, arith, Option, Some, None, ◌⊎◌, inl, inr}
 use Rattle.std.specs.List.{slice_get}
-use Rattle.std.proofs.lemmas.Bool.{false≢true}
+use Rattle.std.proofs.lemmas.Bool.{false≢true, or_parts, true_from_ne_false}
 use Rattle.std.proofs.lemmas.Bool.Decides.{nat_tests}
 use Rattle.zi_formula.specs.declared.formula.Lit.{Lit}
 use Rattle.zi_formula.specs.declared.formula.Constraint.{Constraint}
@@ -257,10 +257,6 @@ pub accepted_sound : (f : Formula) (ms : List Lemma) (assumed : List Lit) (hints
 accepted_sound f ms assumed hints v m a h t =
     walk_from_sound v (citable f.constraints ms) (assume nothing assumed) hints (all_append v f.constraints (map lemma_clause ms) m a) (assume_sound v nothing assumed (nothing_agrees v) t) (and_right (lits_within f.variables assumed) (walk_from (citable f.constraints ms) (assume nothing assumed) hints) h)
 
-or_case : (a b : Bool) → a || b ≡ false → (a ≡ false) × (b ≡ false)
-or_case true b e = absurd (false≢true (sym e))
-or_case false b e = (refl, e)
-
 opposite_case : (p w : Bool) → cond p w (not w) ≡ false → cond (not p) w (not w) ≡ true
 opposite_case true true e = absurd (false≢true (sym e))
 opposite_case true false e = refl
@@ -270,16 +266,12 @@ opposite_case false false e = absurd (false≢true (sym e))
 opposites_true : (v : ℕ → Bool) (ls : List Lit) → clause_true v ls ≡ false → MakesTrue v (map opposite ls)
 opposites_true v [] h = tt
 opposites_true v (l ∷ ls) h =
-    let p : (lit_true v l ≡ false) × (clause_true v ls ≡ false) = or_case (lit_true v l) (clause_true v ls) h in
+    let p : (lit_true v l ≡ false) × (clause_true v ls ≡ false) = or_parts (lit_true v l) (clause_true v ls) h in
     (opposite_case l.positive (v l.variable) p.0, opposites_true v ls p.1)
-
-by_refuting : (b : Bool) → (b ≡ false → ⊥) → b ≡ true
-by_refuting true h = refl
-by_refuting false h = absurd (h refl)
 
 pub lemma_sound : (f : Formula) (ms : List Lemma) (m : Lemma) (v : ℕ → Bool) → Models v f → all_true v (map lemma_clause ms) ≡ true → lemma_accepted f ms m ≡ true → clause_true v m.lits ≡ true
 lemma_sound f ms m v g a h =
-    by_refuting (clause_true v m.lits) (λ e. accepted_sound f ms (map opposite m.lits) m.hints v g a h (opposites_true v m.lits e))
+    true_from_ne_false (clause_true v m.lits) (λ e. accepted_sound f ms (map opposite m.lits) m.hints v g a h (opposites_true v m.lits e))
 
 all_push : (v : ℕ → Bool) (ms : List Lemma) (m : Lemma) → all_true v (map lemma_clause ms) ≡ true → clause_true v m.lits ≡ true → all_true v (map lemma_clause (ms ++ m ∷ [])) ≡ true
 all_push v [] m h k = ap (λ b. b && true) k

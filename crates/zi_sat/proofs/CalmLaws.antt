@@ -1,16 +1,13 @@
 -- Pairs that were quiet before each decision: they stay so as the trail grows and is cut and as watches move.
-use Rattle.std.proofs.Common.{◌≡◌, ◌≢◌, ℕ, zero, suc, ◌<◌, ◌≤◌, ◌+◌, ◌-◌, ◌&&◌, Bool, true, false, cond, List, [], ◌∷◌, ◌++◌, length, length-append, get_or, take, drop, map, refl, sym, ap, ◌∙◌, subst, arith, append_assoc, Option, Some, None, ◌⊎◌, inl, inr}
+use Rattle.std.proofs.Common.{◌≡◌, ℕ, zero, suc, ◌<◌, ◌+◌, ◌-◌, Bool, true, false, cond, List, [], ◌∷◌, ◌++◌, length, get_or, take, refl, sym, ap, ◌∙◌, subst, arith, Option, Some, None, ◌⊎◌, inl, inr}
 use Rattle.std.specs.List.{slice_get}
-use Rattle.std.proofs.lemmas.Bool.{false≢true, cases_eq}
-use Rattle.std.proofs.lemmas.List.{get_or_append_left, get_or_push}
+use Rattle.std.proofs.lemmas.Bool.{cases_eq}
+use Rattle.std.proofs.lemmas.Option.{same_Some}
 use Rattle.zi_formula.specs.declared.formula.Lit.{Lit}
-use Rattle.zi_formula.specs.declared.formula.Formula.{Formula}
 use Rattle.zi_formula.specs.declared.formula.Constraint.{Constraint}
 use Rattle.zi_formula.specs.declared.formula.Constraint.TheVariants.{Clause, AtMostOne}
 use Rattle.zi_formula.specs.Truth.{opposite}
-use Rattle.zi_formula.specs.Form.{same_lit}
-use Rattle.zi_proof.specs.declared.proof.Lemma.{Lemma}
-use Rattle.zi_proof.specs.Known.{Known, nothing, put, is_open, is_true, is_false}
+use Rattle.zi_proof.specs.Known.{Known, nothing, put, is_open, is_false}
 use Rattle.zi_proof.proofs.Cites.{and_left, and_right}
 use Rattle.zi_sat.specs.declared.entry.Entry.{Entry}
 use Rattle.zi_sat.specs.declared.entry.Why.{Why}
@@ -19,16 +16,15 @@ use Rattle.zi_sat.specs.declared.pair.Pair.{Pair}
 use Rattle.zi_sat.specs.declared.watches.Watches.{Watches as Lists}
 use Rattle.zi_sat.specs.Trail.{lits_of, learn, known_from, OpenAll, silent, all_silent}
 use Rattle.zi_sat.specs.Moves.{Move, Decide, Apply, hinted, entries_of, Implied, Added}
-use Rattle.zi_sat.specs.Fresh.{at_decision, Hushed}
-use Rattle.zi_sat.specs.Marking.{Inside, among, Covered}
+use Rattle.zi_sat.specs.Fresh.{at_decision}
+use Rattle.zi_sat.specs.Marking.{among, Covered}
 use Rattle.zi_sat.specs.Watching.{Quiet, QuietAt}
-use Rattle.zi_sat.specs.Guard.{pair_at, Beside, Looked, GuardPair, Guard, Moved, Visited, VisitedPair, Each, AllGuard, CalmPair, Calm, AllCalm}
+use Rattle.zi_sat.specs.Guard.{pair_at, Guard, Moved, Visited, Each, AllGuard, CalmPair, Calm, AllCalm}
 use Rattle.zi_sat.proofs.FreshStep.{open_not_false}
 use Rattle.zi_sat.proofs.FreshLaws.{at_by, open_front, open_later}
 use Rattle.zi_sat.proofs.LessonLaws.{among_open}
 use Rattle.zi_sat.proofs.GroupLaws.{lits-hinted}
 use Rattle.zi_sat.proofs.VisitLaws.{silent_looked, Same}
-use Rattle.zi_sat.proofs.GuardLaws.{some_same}
 use Rattle.zi_sat.proofs.WatchLaws.{moved_all, cut_quiet}
 
 -- one pair
@@ -123,7 +119,7 @@ calm_decided w all es fs l f g h n c e = pair_decided es fs l (pair_at w.pairs.i
 
 pub silent_each : (k : Known) (all : List Constraint) (n : ℕ) (c : Constraint) → all_silent k all ≡ true → slice_get all n ≡ Some c → silent k c ≡ true
 silent_each k [] n c s e = let z : ◌≡◌ {A = Option Constraint} None (Some c) = e in cc
-silent_each k (x ∷ all) zero c s e = ap (silent k) (sym (some_same x c e)) ∙ and_left (silent k x) (all_silent k all) s
+silent_each k (x ∷ all) zero c s e = ap (silent k) (sym (same_Some x c e)) ∙ and_left (silent k x) (all_silent k all) s
 silent_each k (x ∷ all) (suc n) c s e = silent_each k all n c (and_right (silent k x) (all_silent k all) s) e
 
 abbrev pub CalmBy : List Entry → (ℕ → Option Pair) → List Constraint → Type 0

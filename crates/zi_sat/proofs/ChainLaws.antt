@@ -1,7 +1,9 @@
 -- The steps of the backward pass, entry by entry.
-use Rattle.std.proofs.Common.{◌≡◌, ℕ, Bool, true, false, not, ◌&&◌, eqb, cond, List, [], ◌∷◌, ◌++◌, length, refl, sym, ap, ◌∙◌, subst, arith, Option, Some, None, ◌⊎◌, inl, inr, append_assoc}
-use Rattle.std.proofs.lemmas.Bool.{false≢true}
+use Rattle.std.proofs.Common.{◌≡◌, ℕ, Bool, true, false, not, eqb, cond, List, [], ◌∷◌, ◌++◌, length, refl, sym, ap, ◌∙◌, subst, arith, Option, Some, None, ◌⊎◌, inl, inr, append_assoc}
+use Rattle.std.proofs.lemmas.Bool.{false≢true, and_parts}
 use Rattle.std.proofs.lemmas.List.{append-nil}
+use Rattle.std.proofs.lemmas.Option.{same_Some}
+use Rattle.zi_sat.proofs.CountLaws.{eqb_self}
 use Rattle.zi_formula.specs.declared.formula.Lit.{Lit}
 use Rattle.zi_formula.specs.declared.formula.Constraint.{Constraint}
 use Rattle.zi_formula.specs.declared.formula.Constraint.TheVariants.{Clause, AtMostOne}
@@ -24,7 +26,7 @@ use Rattle.zi_sat.proofs.GroupLaws.{In, denied_decided}
 use Rattle.zi_sat.proofs.FreshStep.{eqb_means, lits_same}
 use Rattle.zi_sat.proofs.FreshLaws.{put_extends, learn_extends, put_self, open_front}
 use Rattle.zi_sat.proofs.EntryLaws.{true_in}
-use Rattle.zi_sat.proofs.LessLaws.{FalseBut, says_some, made, eqb_self}
+use Rattle.zi_sat.proofs.LessLaws.{FalseBut, says_some, made}
 use Rattle.zi_sat.proofs.MarkLaws.{MarkedBy, marked_by}
 use Rattle.zi_sat.proofs.ExplainLaws.{skip, unfold_clause, unfold_group, unfold_again, ones_one, made_false, made_alone, without_inside}
 
@@ -229,9 +231,6 @@ list_head a b xs bs e = cc
 list_tail : (a b : Lit) (xs bs : List Lit) → a ∷ xs ≡ b ∷ bs → xs ≡ bs
 list_tail a b xs bs e = cc
 
-same_bool : (a b : Bool) → ◌≡◌ {A = Option Bool} (Some a) (Some b) → a ≡ b
-same_bool a b e = cc
-
 not_self : (b : Bool) → not b ≡ b → ⊥
 not_self true e = false≢true e
 not_self false e = false≢true (sym e)
@@ -242,7 +241,7 @@ clash r l x b h q e =
     let v : l.variable ≡ x = ap (λ z. z.variable) e in
     let p : l.positive ≡ not b = ap (λ z. z.positive) e in
     let z : ◌≡◌ {A = Option Bool} (Some l.positive) (Some b) = sym h ∙ (ap r v ∙ q) in
-    not_self b (sym p ∙ same_bool l.positive b z)
+    not_self b (sym p ∙ same_Some l.positive b z)
 
 -- all that doesn't stand is false
 stand_case : (k : Known) (l m : Lit) (ls : List Lit) (t : Bool) → is_false k m ≡ t → cond t (standing k ls) (m ∷ standing k ls) ≡ l ∷ [] → (standing k ls ≡ l ∷ [] → FalseBut k l ls) → (standing k ls ≡ [] → FalseBut k l ls) → FalseBut k l (m ∷ ls)
@@ -296,14 +295,10 @@ has_in : (xs : List ℕ) (x : ℕ) → has_variable xs x ≡ true → In x xs
 has_in [] x h = false≢true h
 has_in (y ∷ xs) x h = has_in_case y x xs (eqb y x) refl h (has_in xs x)
 
-and_both : (b c : Bool) → b && c ≡ true → (b ≡ true) × (c ≡ true)
-and_both true c h = (refl, h)
-and_both false c h = absurd (false≢true h)
-
 made_was_case : (k g r : Known) (xs : List ℕ) (x : ℕ) (b : Bool) (o : Option Bool) → g x ≡ o → is_open o ≡ false → Inside g r → deny_all k xs ≡ g → r x ≡ Some b → b ≡ true → k x ≡ Some b
 made_was_case k g r xs x b None e d i s q t = absurd (false≢true (sym d))
 made_was_case k g r xs x b (Some c) e d i s q t =
-    let same : c ≡ b = same_bool c b (sym (i x c e) ∙ q) in
+    let same : c ≡ b = same_Some c b (sym (i x c e) ∙ q) in
     elim (made k xs x b (ap (λ f. f x) s ∙ (e ∙ ap Some same))) [
       | inl p ↦ p
       | inr p ↦ absurd (false≢true (sym p.2 ∙ t))
@@ -315,7 +310,7 @@ group_inside k g r m l xs s i n j =
     λ x b p. elim (mb.only x b p) [
       | inl q ↦ n x b q
       | inr u ↦
-          let both : (b ≡ true) × (has_variable xs x ≡ true) = and_both b (has_variable xs x) u in
+          let both : (b ≡ true) × (has_variable xs x ≡ true) = and_parts b (has_variable xs x) u in
           made_was_case k g r xs x b (g x) refl (ap (λ f. is_open (f x)) (sym s) ∙ denied_decided k xs x (has_in xs x both.1)) i s (mb.inside x b p) both.0
     ]
 

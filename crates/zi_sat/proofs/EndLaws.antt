@@ -2,25 +2,25 @@
 use Rattle.std.proofs.Common.{◌≡◌, ℕ, ◌<◌, ◌≤◌, Bool, true, false, not, ◌&&◌, ◌||◌, cond, List, [], ◌∷◌, ◌++◌, map, length, take, get_or, refl, sym, ap, ◌∙◌, subst, Option, Some, None}
 use Rattle.std.specs.List.{All}
 use Rattle.std.proofs.lemmas.List.Elements.{All-head, All-tail}
-use Rattle.std.proofs.lemmas.Bool.{false≢true}
+use Rattle.std.proofs.lemmas.Bool.{false≢true, or_right, or_left}
 use Rattle.zi_formula.specs.declared.formula.Lit.{Lit}
 use Rattle.zi_formula.specs.declared.formula.Constraint.{Constraint}
 use Rattle.zi_formula.specs.declared.formula.Constraint.TheVariants.{Clause, AtMostOne}
 use Rattle.zi_formula.specs.declared.formula.Formula.{Formula}
-use Rattle.zi_formula.specs.Truth.{lit_true, clause_true, none_true, group_true, constraint_true, all_true, opposite}
+use Rattle.zi_formula.specs.Truth.{lit_true, clause_true, none_true, group_true, constraint_true, all_true}
 use Rattle.zi_formula.specs.Form.{LitsWithin, ConstraintWithin}
 use Rattle.zi_proof.specs.declared.proof.Lemma.{Lemma}
 use Rattle.zi_proof.specs.Known.{Known, nothing, put, says, is_open, is_false, standing, by_standing, true_ones, Contradiction}
-use Rattle.zi_proof.specs.Accepted.{citable, cited, step_cited, lemma_clause, lemma_accepted, follows, proves}
+use Rattle.zi_proof.specs.Accepted.{citable, cited, step_cited, lemma_clause, follows, proves}
 use Rattle.zi_formula.specs.Form.{has_all}
 use Rattle.zi_proof.specs.Laws.{MakesTrue}
 use Rattle.zi_proof.proofs.Sound.{Agrees, Sound, cited_sound, lemmas_are_true, value_of_true, put_agrees, all_append}
 use Rattle.zi_sat.specs.declared.entry.Entry.{Entry}
-use Rattle.zi_sat.specs.Trail.{OpenAll, InAll, lits_of, learn, known_from, fails, silent, silent_by, all_silent}
+use Rattle.zi_sat.specs.Trail.{lits_of, learn, known_from, fails, silent, silent_by, all_silent}
 use Rattle.zi_sat.specs.declared.entry.Why.TheVariants.{Decision}
-use Rattle.zi_sat.specs.Moves.{Lawful, decisions_in}
+use Rattle.zi_sat.specs.Moves.{Lawful}
 use Rattle.zi_sat.specs.Ends.{NoModelHere}
-use Rattle.zi_sat.proofs.MoveLaws.{and_left, and_right, follows_push, lawful_more, lawful_cut}
+use Rattle.zi_sat.proofs.MoveLaws.{and_left, and_right, lawful_more, lawful_cut}
 
 abbrev by : Known → ℕ → Bool
 by k x = says (k x) true
@@ -35,16 +35,9 @@ true_unless (Some true) false h e = absurd (false≢true (sym e))
 true_unless (Some false) true h e = absurd (false≢true (sym e))
 true_unless (Some false) false h e = refl
 
-or_true : (a b : Bool) → b ≡ true → a || b ≡ true
-or_true true b e = refl
-or_true false b e = e
-
-or_first : (a b : Bool) → a ≡ true → a || b ≡ true
-or_first a b e = ap (λ c. c || b) e
-
 clause_case : (k : Known) (m : Lit) (ls : List Lit) (b : Bool) → is_open (k m.variable) ≡ false → is_false k m ≡ b → ((standing k ls ≡ [] → ⊥) → clause_true (by k) ls ≡ true) → (cond b (standing k ls) (m ∷ standing k ls) ≡ [] → ⊥) → lit_true (by k) m || clause_true (by k) ls ≡ true
-clause_case k m ls true d e r h = or_true (lit_true (by k) m) (clause_true (by k) ls) (r h)
-clause_case k m ls false d e r h = or_first (lit_true (by k) m) (clause_true (by k) ls) (true_unless (k m.variable) m.positive d e)
+clause_case k m ls true d e r h = or_right (lit_true (by k) m) (clause_true (by k) ls) (r h)
+clause_case k m ls false d e r h = or_left (lit_true (by k) m) (clause_true (by k) ls) (true_unless (k m.variable) m.positive d e)
 
 abbrev InRange : ℕ → Lit → Type 0
 InRange n l = (1 ≤ l.variable) × (l.variable ≤ n)

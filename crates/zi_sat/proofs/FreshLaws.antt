@@ -1,28 +1,27 @@
 -- The lemma of all decisions is new, and silent before each decision that stays.
-use Rattle.std.proofs.Common.{◌≡◌, ℕ, zero, suc, ◌<◌, Bool, true, false, not, ◌&&◌, eqb, cond, List, [], ◌∷◌, ◌++◌, map, length, get_or, take, drop, refl, sym, ap, ◌∙◌, subst, arith, Option, Some, None, inl, inr, append_assoc}
-use Rattle.std.proofs.lemmas.Bool.{false≢true}
-use Rattle.std.proofs.lemmas.Bool.Decides.{nat_tests}
+use Rattle.std.proofs.Common.{◌≡◌, ℕ, zero, suc, ◌<◌, Bool, true, false, not, ◌&&◌, eqb, cond, List, [], ◌∷◌, ◌++◌, map, length, get_or, take, refl, sym, ap, ◌∙◌, subst, arith, Option, Some, None, inl, inr, append_assoc}
+use Rattle.std.proofs.lemmas.Bool.{false≢true, false_from_ne_true}
+use Rattle.zi_sat.proofs.CountLaws.{eqb_self}
 use Rattle.zi_formula.specs.declared.formula.Lit.{Lit}
 use Rattle.zi_formula.specs.declared.formula.Constraint.{Constraint}
 use Rattle.zi_formula.specs.declared.formula.Constraint.TheVariants.{Clause, AtMostOne}
 use Rattle.zi_formula.specs.Truth.{opposite}
 use Rattle.zi_proof.specs.declared.proof.Lemma.{Lemma}
 use Rattle.zi_proof.specs.Known.{Known, nothing, put, says, is_open, is_false}
-use Rattle.zi_proof.specs.Known.{clause_step}
-use Rattle.zi_proof.specs.Accepted.{citable, lemma_clause}
+use Rattle.zi_proof.specs.Accepted.{lemma_clause}
 use Rattle.zi_formula.specs.Form.{same_lit, has_lit, has_all}
 use Rattle.zi_sat.specs.declared.entry.Entry.{Entry}
 use Rattle.zi_sat.specs.declared.entry.Why.{Why}
 use Rattle.zi_sat.specs.declared.entry.Why.TheVariants.{Decision, Hint}
-use Rattle.zi_sat.specs.Trail.{lits_of, learn, known_from, OpenAll, fails, silent, all_silent}
-use Rattle.zi_sat.specs.Moves.{Move, Decide, Apply, hinted, entries_of, Implied, Added, by_why, decisions_in}
+use Rattle.zi_sat.specs.Trail.{lits_of, learn, known_from, OpenAll, silent, all_silent}
+use Rattle.zi_sat.specs.Moves.{Move, Decide, Apply, hinted, entries_of, Implied, Added}
 use Rattle.zi_sat.specs.Fresh.{ApartAll, New, FreshAfter, Filled, at_decision, Hushed}
 use Rattle.zi_formula.specs.Form.{Once, OnceAll}
-use Rattle.zi_sat.proofs.MoveLaws.{and_left, and_right, citable_push}
+use Rattle.zi_sat.proofs.MoveLaws.{and_left, and_right}
 use Rattle.zi_sat.proofs.GroupLaws.{lits-hinted}
-use Rattle.zi_sat.proofs.CiteLaws.{silent_append, silent_front}
+use Rattle.zi_sat.proofs.CiteLaws.{silent_append}
 use Rattle.zi_sat.specs.Watching.{FalseOr}
-use Rattle.zi_sat.proofs.FreshStep.{AllFalse, says_open, open_not_false, lit_self, eqb_means, new_is_fresh, stays_silent, false_before}
+use Rattle.zi_sat.proofs.FreshStep.{AllFalse, lit_self, eqb_means, new_is_fresh}
 
 -- what is known stays known
 
@@ -46,9 +45,6 @@ self_case : (k : Known) (l : Lit) (t : Bool) → t ≡ true → cond t (Some l.p
 self_case k l true e = refl
 self_case k l false e = absurd (false≢true e)
 
-eqb_self : (x : ℕ) → eqb x x ≡ true
-eqb_self x = grind (arith, nat_tests)
-
 pub put_self : (k : Known) (l : Lit) → put k l l.variable ≡ Some l.positive
 put_self k l = self_case k l (eqb l.variable l.variable) (eqb_self l.variable)
 
@@ -71,12 +67,8 @@ false_or_push k d (l ∷ ls) f = (inl f.0, false_or_push k d ls f.1)
 pub other_lit : (m l : Lit) → eqb m.variable l.variable ≡ false → same_lit m l ≡ false
 other_lit m l h = ap (λ b. b && cond m.positive l.positive (not l.positive)) h
 
-false_by : (b : Bool) → (b ≡ true → ⊥) → b ≡ false
-false_by true h = absurd (h refl)
-false_by false h = refl
-
 pub open_apart : (k : Known) (m l : Lit) (b : Bool) → k l.variable ≡ Some b → is_open (k m.variable) ≡ true → eqb m.variable l.variable ≡ false
-open_apart k m l b h o = false_by (eqb m.variable l.variable) (λ e. false≢true (sym (ap is_open h) ∙ (ap (λ z. is_open (k z)) (sym (eqb_means m.variable l.variable e)) ∙ o)))
+open_apart k m l b h o = false_from_ne_true (eqb m.variable l.variable) (λ e. false≢true (sym (ap is_open h) ∙ (ap (λ z. is_open (k z)) (sym (eqb_means m.variable l.variable e)) ∙ o)))
 
 -- a new lemma is apart from all that is silent before the last decision
 

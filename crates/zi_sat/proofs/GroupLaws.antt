@@ -5,6 +5,7 @@ use Rattle.std.proofs.lemmas.Bool.Decides.{nat_tests}
 use Rattle.std.proofs.lemmas.List.{at_drop_more, take-append-le}
 use Rattle.std.proofs.Common.{length-append}
 use Rattle.std.proofs.Common.{append_assoc}
+use Rattle.zi_sat.proofs.CountLaws.{eqb_self}
 use Rattle.zi_formula.specs.declared.formula.Lit.{Lit}
 use Rattle.zi_proof.specs.Known.{Known, put, says, is_open, Contradiction, Goes, deny, deny_all, true_ones, by_true_ones, group_step}
 use Rattle.zi_proof.specs.Taken.{many_of}
@@ -66,9 +67,6 @@ keeps_decided k (x ∷ xs) y h = keeps_decided (deny k x) xs y (deny_decided_cas
 put_self_case : (k : Known) (l : Lit) (y : ℕ) (t : Bool) → t ≡ true → is_open (cond t (Some l.positive) (k y)) ≡ false
 put_self_case k l y true h = refl
 put_self_case k l y false h = absurd (false≢true h)
-
-eqb_self : (x : ℕ) → eqb x x ≡ true
-eqb_self x = grind (arith, nat_tests)
 
 deny_self_case : (k : Known) (x : ℕ) (b : Bool) → is_open (k x) ≡ b → is_open ((cond b (put k (not_x x)) k) x) ≡ false
 deny_self_case k x true h = put_self_case k (not_x x) x (eqb x x) (eqb_self x)

@@ -1,31 +1,29 @@
 -- What a look at a constraint leaves: what it holds, and why it needn't be looked at.
-use Rattle.std.proofs.Common.{◌≡◌, ◌≢◌, ℕ, zero, suc, ◌<◌, ◌≤◌, ◌+◌, ◌-◌, ◌*◌, Bool, true, false, not, cond, eqb, List, [], ◌∷◌, ◌++◌, length, get_or, set, take, drop, refl, sym, ap, ◌∙◌, subst, arith, Option, Some, None, Result, Ok, Err, IfOk, ◌⊎◌, inl, inr, get_or-set_same, get_or-set_other}
-use Rattle.std.specs.List.{slice_get, All}
-use Rattle.std.proofs.lemmas.Bool.{false≢true, cases_eq}
+use Rattle.std.proofs.Common.{◌≡◌, ◌≢◌, ℕ, zero, suc, ◌<◌, ◌≤◌, ◌+◌, ◌-◌, ◌*◌, Bool, true, false, cond, List, [], ◌∷◌, ◌++◌, length, get_or, refl, sym, ap, ◌∙◌, subst, arith, Option, Some, None, Result, Ok, Err, IfOk, ◌⊎◌, inl, inr}
+use Rattle.std.specs.List.{slice_get}
+use Rattle.std.proofs.lemmas.Bool.{false≢true}
 use Rattle.zi_formula.specs.declared.formula.Lit.{Lit}
 use Rattle.zi_formula.specs.declared.formula.Constraint.{Constraint}
 use Rattle.zi_formula.specs.declared.formula.Constraint.TheVariants.{Clause, AtMostOne}
-use Rattle.zi_formula.specs.Truth.{opposite}
-use Rattle.zi_formula.specs.Form.{LitsWithin, VarsWithin, same_lit, has_lit, Once, OnceAll, ItemsOnce}
-use Rattle.zi_proof.specs.Known.{Known, nothing, put, says, is_open, is_true, is_false, Goes, Contradiction, clause_step, true_ones, step}
+use Rattle.zi_formula.specs.Form.{LitsWithin, same_lit, has_lit, OnceAll, ItemsOnce}
+use Rattle.zi_proof.specs.Known.{Known, put, says, is_true, Goes, clause_step}
 use Rattle.zi_proof.specs.declared.proof.Lemma.{Lemma}
-use Rattle.zi_proof.specs.Accepted.{citable, cited, step_cited}
+use Rattle.zi_proof.specs.Accepted.{citable, cited}
 use Rattle.zi_sat.specs.declared.entry.Entry.{Entry}
 use Rattle.zi_sat.specs.declared.pair.Pair.{Pair}
-use Rattle.zi_sat.specs.Trail.{lits_of, learn, known_from, OpenAll, fails, silent, silent_by, all_decided, all_silent}
+use Rattle.zi_sat.specs.Trail.{known_from, silent}
 use Rattle.zi_sat.specs.Moves.{Added, hinted}
-use Rattle.zi_sat.specs.Marking.{Inside}
-use Rattle.zi_sat.specs.Rows.{In, Has}
-use Rattle.zi_sat.specs.Guard.{row_of, denied, pair_at, Beside, Lacks, HeldPair, Held, Looked, GuardPair, Guard, Moved, VisitedPair, Visited, IfPair, Looks, Exhausted}
+use Rattle.zi_sat.specs.Guard.{row_of, pair_at, Beside, VisitedPair, Visited, IfPair, Looks, Exhausted}
 use Rattle.zi_text.specs.declared.memory.Memory.{Memory}
-use Rattle.zi_sat.specs.Watching.{Quiet, QuietBy, Watches}
-use Rattle.zi_sat.proofs.FreshStep.{lits_same, lit_self, eqb_means, false_or}
+use Rattle.zi_sat.specs.Watching.{Watches}
+use Rattle.zi_sat.proofs.FreshStep.{lits_same}
 use Rattle.zi_sat.proofs.FreshLaws.{put_self}
-use Rattle.zi_sat.proofs.LessLaws.{says_some, some_says, says_within, bool_cases}
+use Rattle.zi_sat.proofs.LessLaws.{some_says}
 use Rattle.zi_sat.proofs.TrailLaws.{known-append}
 use Rattle.zi_sat.proofs.CiteLaws.{goes, cited_zs}
 use Rattle.zi_sat.proofs.MoveLaws.{nil_after, added_more}
 use Rattle.std.proofs.lemmas.List.Elements.{All-head, All-tail}
+use Rattle.std.proofs.lemmas.Option.{same_Some}
 
 within_case : (n : ℕ) (m a : Lit) (ls : List Lit) (t : Bool) → same_lit m a ≡ t → (1 ≤ m.variable) × (m.variable ≤ n) → (has_lit ls a ≡ true → (1 ≤ a.variable) × (a.variable ≤ n)) → cond t true (has_lit ls a) ≡ true → (1 ≤ a.variable) × (a.variable ≤ n)
 within_case n m a ls true e w r h = subst (λ x. (1 ≤ x.variable) × (x.variable ≤ n)) (lits_same m a e) w
@@ -82,12 +80,9 @@ front_at [] ds i d c low e = absurd (omega arith)
 front_at (x ∷ cs) ds zero d c low e = ap (λ y. Some y) e
 front_at (x ∷ cs) ds (suc i) d c low e = front_at cs ds i d c (omega arith) e
 
-pub some_same : (a b : Constraint) → Some a ≡ Some b → a ≡ b
-some_same a b e = cc
-
 pub once_at : (all : List Constraint) (i : ℕ) (c : Constraint) → OnceAll all → slice_get all i ≡ Some c → ItemsOnce c
 once_at [] i c o e = let z : ◌≡◌ {A = Option Constraint} None (Some c) = e in cc
-once_at (x ∷ all) zero c o e = subst ItemsOnce (some_same x c e) o.0
+once_at (x ∷ all) zero c o e = subst ItemsOnce (same_Some x c e) o.0
 once_at (x ∷ all) (suc i) c o e = once_at all i c o.1 e
 
 pub cited_next : (all : List Constraint) (i : ℕ) (c : Constraint) → slice_get all i ≡ Some c → cited all (i + 1) ≡ Some c
@@ -99,7 +94,7 @@ pub place_of : (all : List Constraint) (h i : ℕ) (c : Constraint) → h ≡ su
 place_of all h i c n e = ap (cited all) (sym n) ∙ e
 
 pub looks_at : (all : List Constraint) (i : ℕ) (c : Constraint) (P : Constraint → Type 0) → slice_get all i ≡ Some c → P c → (d : Constraint) → slice_get all i ≡ Some d → P d
-looks_at all i c P e h d f = subst P (some_same c d (sym e ∙ f)) h
+looks_at all i c P e h d f = subst P (same_Some c d (sym e ∙ f)) h
 
 pub lemma_place : (cs xs : List Constraint) (ms : List Lemma) (i : ℕ) (x : Lemma) (ys : List Lit) → xs ≡ cs → length xs ≤ i → i < length cs + length ms → ys ≡ (get_or ms (i - length xs) x).lits → slice_get (citable cs ms) i ≡ Some (Clause ys)
 lemma_place cs xs ms i x ys e h low f =

@@ -3,6 +3,7 @@
 use Rattle.std.proofs.Common.{◌≡◌, ℕ, Bool, true, false, not, eqb, cond, List, [], ◌∷◌, refl, sym, ap, ◌∙◌, subst, arith, Option, Some, None, ◌⊎◌, inl, inr}
 use Rattle.std.proofs.lemmas.Bool.{false≢true}
 use Rattle.std.proofs.lemmas.Bool.Decides.{nat_tests}
+use Rattle.zi_sat.proofs.CountLaws.{eqb_self}
 use Rattle.zi_formula.specs.declared.formula.Lit.{Lit}
 use Rattle.zi_proof.specs.Known.{Known, put, says, is_open, is_true, is_false, Fails, Goes, standing, by_standing, clause_step, deny, deny_all, true_ones, by_true_ones, group_step}
 use Rattle.zi_sat.proofs.GroupLaws.{not_x, In}
@@ -97,9 +98,6 @@ deny_all_keeps k (y ∷ xs) x b h = deny_all_keeps (deny k y) xs x b (deny_keep_
 self_false_case : (k : Known) (x : ℕ) (t : Bool) → t ≡ true → cond t (Some false) (k x) ≡ Some false
 self_false_case k x true h = refl
 self_false_case k x false h = absurd (false≢true h)
-
-pub eqb_self : (x : ℕ) → eqb x x ≡ true
-eqb_self x = grind (arith, nat_tests)
 
 deny_self_case : (k : Known) (x : ℕ) (t : Bool) → is_open (k x) ≡ t → k x ≡ None → (cond t (put k (not_x x)) k) x ≡ Some false
 deny_self_case k x true e h = self_false_case k x (eqb x x) (eqb_self x)

@@ -3,6 +3,7 @@ use Rattle.std.proofs.Common.{◌≡◌, ◌≢◌, ℕ, zero, suc, ◌<◌, ◌
 use Rattle.std.specs.List.{slice_get}
 use Rattle.std.proofs.lemmas.Bool.{false≢true}
 use Rattle.std.proofs.lemmas.List.{take-append-le}
+use Rattle.zi_sat.proofs.CountLaws.{eqb_self}
 use Rattle.zi_formula.specs.declared.formula.Lit.{Lit}
 use Rattle.zi_formula.specs.declared.formula.Formula.{Formula}
 use Rattle.zi_formula.specs.declared.formula.Constraint.{Constraint}
@@ -24,7 +25,7 @@ use Rattle.zi_sat.proofs.GroupLaws.{In as InGroup}
 use Rattle.zi_sat.proofs.FreshStep.{lit_self}
 use Rattle.zi_sat.proofs.FreshLaws.{put_self, false_opposite, learn_extends, open_back}
 use Rattle.zi_sat.proofs.TrailLaws.{known-append, lits-append}
-use Rattle.zi_sat.proofs.LessLaws.{says_within, eqb_self}
+use Rattle.zi_sat.proofs.LessLaws.{says_within}
 use Rattle.zi_sat.proofs.ReachLaws.{known_next, front_inside, take_whole}
 use Rattle.zi_sat.proofs.RowLaws.{in_drop}
 use Rattle.zi_sat.proofs.WatchLaws.{Looked as LookedGroup, looked_silent, quiet_silent, true_silent}

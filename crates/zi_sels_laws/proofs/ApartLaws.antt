@@ -2,6 +2,7 @@
 use Rattle.std.proofs.Common.{◌≡◌, ℕ, Bool, true, false, cond, ◌||◌, List, [], ◌∷◌, ◌++◌, map, Option, Some, None, refl, sym, ap, ◌∙◌}
 use Rattle.std.specs.Prelude.{filter, find, bytes_eq, if◌then◌else◌}
 use Rattle.std.specs.List.{list_any}
+use Rattle.std.proofs.lemmas.Bool.{or_parts}
 use Rattle.zi_feed.specs.Texts.{same}
 use Rattle.zi_feed.specs.Words.{repeated, repeated_after, latest}
 use Rattle.zi_feed.specs.Impls.{are_alike, main_command, is_run, with_main}
@@ -9,7 +10,7 @@ use Rattle.zi_feed.specs.declared.feed.Command.{Command}
 use Rattle.zi_feed.proofs.TableLaws.{same_text, same_refl}
 use Rattle.zi_sels_laws.proofs.LikeLaws.{Each}
 use Rattle.zi_sels_laws.proofs.FieldLaws.{app}
-use Rattle.zi_sels_laws.proofs.FreeLaws.{both_false, each_map}
+use Rattle.zi_sels_laws.proofs.FreeLaws.{each_map}
 
 -- none of these has the name of one
 abbrev pub IsOther : Command → Command → Type 0
@@ -22,7 +23,7 @@ AreApart (c ∷ cs) = Each (IsOther c) cs × AreApart cs
 
 each_other : (c : Command) (cs : List Command) → list_any (are_alike c) cs ≡ false → Each (IsOther c) cs
 each_other c [] h = tt
-each_other c (d ∷ cs) h = let b = both_false (are_alike c d) (list_any (are_alike c) cs) h in (b.0, each_other c cs b.1)
+each_other c (d ∷ cs) h = let b = or_parts (are_alike c d) (list_any (are_alike c) cs) h in (b.0, each_other c cs b.1)
 
 -- The last of each name.
 
@@ -51,7 +52,7 @@ other_behind c m (d ∷ cs) h k = (h.0, other_behind c m cs h.1 k)
 run_behind : (p : List ℕ) (cs : List Command) → AreApart cs → list_any is_run cs ≡ false → AreApart (cs ++ main_command p ∷ [])
 run_behind p [] h k = (tt, tt)
 run_behind p (c ∷ cs) h k =
-    let b = both_false (is_run c) (list_any is_run cs) k in
+    let b = or_parts (is_run c) (list_any is_run cs) k in
     (other_behind c (main_command p) cs h.0 b.0, run_behind p cs h.1 b.1)
 
 main_apart : (main : Option (List ℕ)) (cs : List Command) → AreApart cs → AreApart (with_main main cs)

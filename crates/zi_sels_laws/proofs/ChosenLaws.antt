@@ -7,6 +7,7 @@ use Rattle.std.specs.declared.cmp.Ordering.TheVariants.{Less, Equal}
 use Rattle.std.specs.Cmp.Lexicographic.{slice_cmp}
 use Rattle.std.proofs.lemmas.Cmp.{nat_list_cmp_total, tied_itself}
 use Rattle.std.proofs.lemmas.List.Sorted.{IsPermutation-sym}
+use Rattle.std.proofs.lemmas.Bool.{or_right}
 use Rattle.zi_policy.specs.declared.types.Policy.{Policy}
 use Rattle.zi_outside.specs.Views.{Holding}
 use Rattle.zi_docout.specs.Amiss.{first_amiss}
@@ -69,10 +70,6 @@ sorted_other (x ∷ items) h =
 -- each is among all
 abbrev IsAmong : List (List ℕ) → Selection → Type 0
 IsAmong is x = is_among is x.interface ≡ true
-
-or_right : (a b : Bool) → b ≡ true → (a || b) ≡ true
-or_right true b h = refl
-or_right false b h = h
 
 each_among : (items : List Selection) → Each (IsAmong (map (λ (x : Selection). x.interface) items)) items
 unfolding is_among

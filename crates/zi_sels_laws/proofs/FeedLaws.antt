@@ -2,6 +2,7 @@
 use Rattle.std.proofs.Common.{◌≡◌, ℕ, Bool, true, false, ◌&&◌, List, [], ◌∷◌, ◌++◌, map, Option, Some, None, codes, refl, ap, subst}
 use Rattle.std.specs.Prelude.{not, option_map, option_and_then, is_some, if◌then◌else◌}
 use Rattle.std.specs.List.{filter_map, cons_option, flat_map, list_any}
+use Rattle.std.proofs.lemmas.Bool.{and_parts}
 use Rattle.zi_forest.specs.Forest.{Elem, value}
 use Rattle.zi_version.specs.Value.{value as version_value}
 use Rattle.zi_version.specs.Range.{a_version}
@@ -21,7 +22,7 @@ use Rattle.zi_feed.specs.declared.feed.Impl.{Impl}
 use Rattle.zi_sels_laws.proofs.LikeLaws.{Each, each_append, each_both}
 use Rattle.zi_sels_laws.proofs.BindingLaws.{IsProperBinding}
 use Rattle.zi_sels_laws.proofs.DigestsLaws.{AreProper}
-use Rattle.zi_sels_laws.proofs.FreeLaws.{both_true, empty_both, each_filter, each_weak, each_flat, least_none, IsRight, sound, free_all}
+use Rattle.zi_sels_laws.proofs.FreeLaws.{empty_both, each_filter, each_weak, each_flat, least_none, IsRight, sound, free_all}
 use Rattle.zi_sels_laws.proofs.SoundLaws.{bindings_sound}
 use Rattle.zi_sels_laws.proofs.GivenLaws.{IsGivenDep, IsGivenCommand, deps_given, commands_given}
 use Rattle.zi_sels_laws.proofs.AlongLaws.{IsRightAlong, along}
@@ -114,7 +115,7 @@ given_at : (uri : List ℕ) (t : Site) → faults_at (Some uri) t ≡ [] → IsR
 unfolding impl_of impl_from
 given_at uri t free right counted i h =
     let s = sound (Some uri) (said (path t)) t.element free in
-    let is_one = (both_true (is_impl t.element) (not (is_unclear t.element)) counted).0 in
+    let is_one = (and_parts (is_impl t.element) (not (is_unclear t.element)) counted).0 in
     let id = no_id (is_impl t.element) (is_none (value (codes "id") t.element)) is_one s.kinds.1.0 in
     by_text (version_text (said (path t))) id h
   where

@@ -3,6 +3,7 @@ use Rattle.std.proofs.Common.{◌≡◌, ℕ, Bool, true, false, cond, ◌&&◌,
 use Rattle.std.specs.Prelude.{not, bytes_eq, option_map, unwrap_or, if◌then◌else◌}
 use Rattle.std.specs.List.{find, list_any}
 use Rattle.std.proofs.lemmas.Slice.Eq.{bytes_eq-Decides}
+use Rattle.std.proofs.lemmas.Bool.{and_parts, not-true}
 use Rattle.zi_elements.specs.declared.element.Attr.{Attr}
 use Rattle.zi_forest.specs.Forest.{is_attribute, value_among}
 use Rattle.zi_docout.specs.Elements.{attr}
@@ -40,20 +41,11 @@ absent name (f ∷ fs) h = either (bytes_eq f.name name) h (absent name fs)
     either true k more = absurd (cc k)
     either false k more = more k
 
-both_of : (a b : Bool) → (a && b) ≡ true → (a ≡ true) × (b ≡ true)
-both_of true true h = (refl, refl)
-both_of true false h = absurd (cc h)
-both_of false b h = absurd (cc h)
-
-not_true : (b : Bool) → not b ≡ true → b ≡ false
-not_true true h = absurd (cc h)
-not_true false h = refl
-
 pub looked : (name : List ℕ) (fs : List Field) → are_apart fs ≡ true → value_among name (fields fs) ≡ look name fs
 looked name [] apart = refl
 looked name (f ∷ fs) apart =
-    let parts = both_of (not (list_any (λ (g : Field). bytes_eq g.name f.name) fs)) (are_apart fs) apart in
-    either f.value (bytes_eq f.name name) refl (looked name fs parts.1) (λ is. absent name fs (subst (λ n. list_any (λ (g : Field). bytes_eq g.name n) fs ≡ false) is (not_true _ parts.0)))
+    let parts = and_parts (not (list_any (λ (g : Field). bytes_eq g.name f.name) fs)) (are_apart fs) apart in
+    either f.value (bytes_eq f.name name) refl (looked name fs parts.1) (λ is. absent name fs (subst (λ n. list_any (λ (g : Field). bytes_eq g.name n) fs ≡ false) is (not-true _ parts.0)))
   where
     either : (v : Option (List ℕ)) (b : Bool) → bytes_eq f.name name ≡ b → value_among name (fields fs) ≡ look name fs → (f.name ≡ name → look name fs ≡ None)
         → value_among name (attr_of f.name v ++ fields fs) ≡ (if b then v else look name fs)

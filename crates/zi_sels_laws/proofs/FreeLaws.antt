@@ -19,16 +19,6 @@ pub clash : (b : Bool) → b ≡ true → b ≡ false → ⊥
 clash true p q = cc q
 clash false p q = cc p
 
-pub both_true : (a b : Bool) → (a && b) ≡ true → (a ≡ true) × (b ≡ true)
-both_true true true h = (refl, refl)
-both_true true false h = absurd (cc h)
-both_true false b h = absurd (cc h)
-
-pub both_false : (a b : Bool) → (a || b) ≡ false → (a ≡ false) × (b ≡ false)
-both_false false false h = (refl, refl)
-both_false false true h = absurd (cc h)
-both_false true b h = absurd (cc h)
-
 pub empty_both : {A : Type 0} (xs ys : List A) → xs ++ ys ≡ [] → (xs ≡ []) × (ys ≡ [])
 empty_both [] ys e = (refl, e)
 empty_both (x ∷ xs) ys e = absurd (cc e)

@@ -1,6 +1,7 @@
 -- The selection of a candidate: it is as it may be written, since the candidate's implementation is one of a feed.
 use Rattle.std.proofs.Common.{◌≡◌, ℕ, true, List, Option, Some, None, refl}
 use Rattle.std.specs.Prelude.{filter, is_some, option_map}
+use Rattle.std.proofs.lemmas.Bool.{and_parts}
 use Rattle.zi_feed.specs.Words.{optional}
 use Rattle.zi_feed.specs.declared.feed.Dep.{Dep}
 use Rattle.zi_feed.specs.declared.feed.DepKind.{DepKind}
@@ -20,7 +21,7 @@ use Rattle.zi_sels_laws.proofs.RunnerLaws.{IsProperRunner}
 use Rattle.zi_sels_laws.proofs.CommandLaws.{IsProperCommand}
 use Rattle.zi_sels_laws.proofs.ItemLaws.{IsProperItem}
 use Rattle.zi_sels_laws.proofs.AskedLaws.{IsMet}
-use Rattle.zi_sels_laws.proofs.FreeLaws.{both_true, each_filter, each_weak, each_map, each_true, sub_filter}
+use Rattle.zi_sels_laws.proofs.FreeLaws.{each_filter, each_weak, each_map, each_true, sub_filter}
 use Rattle.zi_sels_laws.proofs.GivenLaws.{IsGivenDep, IsGivenRunner, IsGivenCommand}
 use Rattle.zi_sels_laws.proofs.ApartLaws.{filter_apart, map_apart, apart_names}
 use Rattle.zi_sels_laws.proofs.FeedLaws.{IsGiven}
@@ -34,7 +35,7 @@ asked Restricts h = absurd (cc h)
 
 plain_proper : (u : List Interface) (s : Choice) (d : Dep) → IsGivenDep d → is_met u s d ≡ true → IsProperDep (plain d)
 plain_proper u s d h k = record {
-  kind = asked d.kind (both_true (asks d) (is_some (target u s d)) k).0;
+  kind = asked d.kind (and_parts (asks d) (is_some (target u s d)) k).0;
   ranges = refl;
   os = refl;
   wanted = refl;
@@ -51,7 +52,7 @@ met_proper u s ds h =
 pub met_among : (is : List (List ℕ)) (u : List Interface) (s : Choice) → ((d : Dep) → is_some (target u s d) ≡ true → IsMet is d) → (ds : List Dep) → Each (IsMet is) (met u s ds)
 met_among is u s one ds =
     each_map (IsMet is) plain (filter (is_met u s) ds)
-    (each_weak (λ d. Unit {0} × (is_met u s d ≡ true)) (λ d. IsMet is (plain d)) (λ d k. one d (both_true (asks d) (is_some (target u s d)) k.1).1) (filter (is_met u s) ds)
+    (each_weak (λ d. Unit {0} × (is_met u s d ≡ true)) (λ d. IsMet is (plain d)) (λ d k. one d (and_parts (asks d) (is_some (target u s d)) k.1).1) (filter (is_met u s) ds)
     (each_filter (λ d. Unit {0}) (is_met u s) ds (each_true ds)))
 
 -- Commands that are used.

@@ -1,6 +1,7 @@
 -- What a document says is as it may be written, and so is read again where it was written.
-use Rattle.std.proofs.Common.{◌≡◌, ℕ, Bool, true, false, cond, ◌&&◌, ◌||◌, List, [], ◌∷◌, ◌++◌, map, Option, Some, None, codes, refl, sym, ap, subst, ◌∙◌}
+use Rattle.std.proofs.Common.{◌≡◌, ℕ, Bool, true, false, cond, ◌&&◌, List, [], ◌∷◌, ◌++◌, map, Option, Some, None, codes, refl, sym, ap, subst, ◌∙◌}
 use Rattle.std.specs.Prelude.{not, filter, option_and_then, unwrap_or, if◌then◌else◌}
+use Rattle.std.proofs.lemmas.Bool.{or_left, or_right}
 use Rattle.zi_forest.specs.Forest.{Elem, elements, attribute, value, element_view}
 use Rattle.zi_docout.specs.Amiss.{first_amiss}
 use Rattle.zi_feed.specs.Texts.{same}
@@ -127,13 +128,6 @@ child_counts parent name c h k = by (is_ours c) _ (is_left_out c) _ _ refl refl 
     by true true true u r p q e = absurd (cc e)
     by true false l u r p q e = absurd (cc e)
     by false b l u r p q e = absurd (cc e)
-
-or_left : (a b : Bool) → a ≡ true → (a || b) ≡ true
-or_left a b h = ap (λ v. v || b) h
-
-or_right : (a b : Bool) → b ≡ true → (a || b) ≡ true
-or_right true b h = refl
-or_right false b h = h
 
 child_dep_met : (is : List (List ℕ)) (parent : List ℕ) (d : Elem) → IsChild None parent d → is_among asked_names d.name ≡ true → (asks_within d ≡ true → IsIn is d) → IsMet is (dep_of None d)
 child_dep_met is parent d h k asked essential =

@@ -4,6 +4,7 @@ use Rattle.std.specs.Prelude.{not, filter, is_some, option_map, option_and_then,
 use Rattle.std.specs.Option.{option_or}
 use Rattle.std.specs.List.{find, filter_map, cons_option, flat_map, list_any}
 use Rattle.std.proofs.lemmas.List.Folds.{find-append}
+use Rattle.std.proofs.lemmas.Bool.{and_parts, not-false}
 use Rattle.zi_forest.specs.Forest.{Elem, elements, attribute, has, lacks, value}
 use Rattle.zi_digest.specs.Name.{IsDigest}
 use Rattle.zi_digest.specs.declared.Algorithm.{Algorithm}
@@ -35,7 +36,7 @@ use Rattle.zi_sels_laws.proofs.DepLaws.{IsProperDep}
 use Rattle.zi_sels_laws.proofs.CommandLaws.{IsProperCommand}
 use Rattle.zi_sels_laws.proofs.DigestsLaws.{AreProper, three, used_are, first_said}
 use Rattle.zi_sels_laws.proofs.ItemLaws.{IsProperItem, AreNamed, any_shares}
-use Rattle.zi_sels_laws.proofs.FreeLaws.{both_true, empty_both, empty_map, empty_optional, empty_option, each_filter, each_weak, each_map, each_front, each_true, least_none, IsRight, part_right, right_part, right_clear}
+use Rattle.zi_sels_laws.proofs.FreeLaws.{empty_both, empty_map, empty_optional, empty_option, each_filter, each_weak, each_map, each_front, each_true, least_none, IsRight, part_right, right_part, right_clear}
 use Rattle.zi_sels_laws.proofs.SoundLaws.{is_name, is_of_name, second_cause, binding_sound, dep_sound, command_sound}
 
 -- Parts without a fault.
@@ -54,7 +55,7 @@ pub record IsCounted (name : List ℕ) (c : Elem) : Type 0 where
 
 pub counted : (name : List ℕ) (c : Elem) → IsRight None c → counts_as name c ≡ true → IsCounted name c
 counted name c h k =
-    let n = is_name name c (both_true (is name c) (not (is_left_out c)) k).0 in
+    let n = is_name name c (and_parts (is name c) (not (is_left_out c)) k).0 in
     record { right = h; ours = n.0; named = n.1 }
 
 -- those that pass a test pass it
@@ -273,17 +274,13 @@ pub record HasOwn (e : Elem) : Type 0 where
   pub interface : has (codes "interface") e ≡ true
   pub local : is_wrong is_local (attribute (codes "local-path") e) ≡ false
 
-positive : (b : Bool) → not b ≡ false → b ≡ true
-positive true q = refl
-positive false q = absurd (cc q)
-
 own_right : (e : Elem) → own_kind e ≡ None → HasOwn e
 unfolding own_kind
 own_right e h = by (is_none (value (codes "id") e)) (is_amiss is_version (attribute (codes "version") e)) (lacks (codes "interface") e) (is_wrong is_local (attribute (codes "local-path") e)) refl refl refl refl h
   where
     there : (o : Option (List ℕ)) → is_amiss is_version o ≡ false → is_version (unwrap_or o []) ≡ true
     there None k = absurd (cc k)
-    there (Some t) k = positive (is_version t) k
+    there (Some t) k = not-false (is_version t) k
 
     has_it : (b : Bool) → not b ≡ false → b ≡ true
     has_it true q = refl

@@ -2,6 +2,7 @@
 use Rattle.std.proofs.Common.{◌≡◌, ℕ, zero, suc, ◌+◌, Bool, true, false, cond, List, [], ◌∷◌, Option, Some, None, refl, sym, ap, ◌∙◌, subst, arith}
 use Rattle.std.specs.Prelude.{slice_get, bytes_eq, is_some, option_map, option_and_then, option_to_list}
 use Rattle.std.specs.List.{position_from}
+use Rattle.std.proofs.lemmas.Option.{same_Some}
 use Rattle.zi_feed.specs.Texts.{same}
 use Rattle.zi_feed.specs.Words.{is_among}
 use Rattle.zi_feed.specs.declared.feed.Dep.{Dep}
@@ -17,9 +18,6 @@ use Rattle.zi_sels.specs.Chosen.{selection_by, selected_at, selected_from, selec
 use Rattle.zi_sels_laws.proofs.LikeLaws.{Each, each_append}
 use Rattle.zi_sels_laws.proofs.FreeLaws.{each_front}
 
-some_same : {X : Type 0} (x y : X) → ◌≡◌ {A = Option X} (Some x) (Some y) → x ≡ y
-some_same x y e = cc
-
 -- What is so of all that is selected is so of each, and the other way round.
 
 -- this is so of what is selected for the interfaces, the first of them with this number
@@ -32,7 +30,7 @@ each_optional P f (Some x) h = (h x refl, tt)
 
 one_optional : {A B : Type 0} (P : B → Type 0) (f : A → B) (o : Option A) (x : A) → o ≡ Some x → Each P (option_to_list (option_map f o)) → P (f x)
 one_optional P f None x e h = absurd (cc e)
-one_optional P f (Some y) x e h = subst (λ z. P (f z)) (some_same y x e) h.0
+one_optional P f (Some y) x e h = subst (λ z. P (f z)) (same_Some y x e) h.0
 
 pub each_selected : (P : Selection → Type 0) (u : List Interface) (s : Choice) (w : Walk) (i : ℕ) (is : List Interface) → IsSoFrom P u s w i is → Each P (selected_from u s w i is)
 each_selected P u s w i [] h = tt
@@ -46,7 +44,7 @@ so_selected P u s w i (y ∷ is) h zero j x k q at e =
     let here : i ≡ j = omega (arith, q) in
     let front = (each_front P (selected_at u s w i y) (selected_from u s w (i + 1) is) h).0 in
     let one = one_optional P (selection_by u s w i y.uri) (chosen u s i) k (ap (λ m. chosen u s m) here ∙ e) front in
-    subst (λ (m : ℕ). P (selection_by u s w m x.uri k)) here (subst (λ (z : Interface). P (selection_by u s w i z.uri k)) (some_same y x at) one)
+    subst (λ (m : ℕ). P (selection_by u s w m x.uri k)) here (subst (λ (z : Interface). P (selection_by u s w i z.uri k)) (same_Some y x at) one)
 so_selected P u s w i (y ∷ is) h (suc n) j x k q at e =
     so_selected P u s w (i + 1) is (each_front P (selected_at u s w i y) (selected_from u s w (i + 1) is) h).1 n j x k (omega (arith, q)) at e
 
@@ -77,7 +75,7 @@ placed (x ∷ u) uri n m e = by (bytes_eq uri x.uri) refl e (placed u uri (n + 1
   where
     by : (b : Bool) → bytes_eq uri x.uri ≡ b → cond b (Some n) (position_from (bytes_eq uri) (n + 1) (uris_of u)) ≡ Some m → (position_from (bytes_eq uri) (n + 1) (uris_of u) ≡ Some m → IsPlaced u uri (n + 1) m)
         → IsPlaced (x ∷ u) uri n m
-    by true h k more = let q = some_same n m k in record { place = zero; interface = x; far = omega (arith, q); at = refl; named = address_is uri x.uri h }
+    by true h k more = let q = same_Some n m k in record { place = zero; interface = x; far = omega (arith, q); at = refl; named = address_is uri x.uri h }
     by false h k more = let r = more k in record { place = suc r.place; interface = r.interface; far = omega (arith, r.far); at = r.at; named = r.named }
 
 -- where a dependency's interface is chosen, something is chosen for its address

@@ -2,6 +2,7 @@
 use Rattle.std.proofs.Common.{◌≡◌, ℕ, Bool, true, false, ◌&&◌, ◌||◌, ◌==◌, List, [], ◌∷◌, map, Option, Some, None, codes, refl, sym, ap, subst, ◌∙◌}
 use Rattle.std.specs.Prelude.{not, is_some, option_and_then, unwrap_or, if◌then◌else◌}
 use Rattle.std.specs.List.{list_any}
+use Rattle.std.proofs.lemmas.Bool.{and_parts, or_parts}
 use Rattle.zi_forest.specs.Forest.{Elem, attribute, lacks, value, text_in}
 use Rattle.zi_feed.specs.Texts.{same, is_none}
 use Rattle.zi_feed.specs.Words.{is_among, listed, is_wrong}
@@ -21,7 +22,7 @@ use Rattle.zi_sels_laws.proofs.DepLaws.{IsProperDep, IsAsked}
 use Rattle.zi_sels_laws.proofs.WordLaws.{IsProperWord, word_names}
 use Rattle.zi_sels_laws.proofs.RunnerLaws.{IsProperRunner}
 use Rattle.zi_sels_laws.proofs.CommandLaws.{IsProperCommand, IsDir, dir_names, runner_names}
-use Rattle.zi_sels_laws.proofs.FreeLaws.{both_true, both_false, each_filter, each_weak, each_map, each_first, IsRight, IsChild, right_part, right_parts, child_ours, child_own}
+use Rattle.zi_sels_laws.proofs.FreeLaws.{each_filter, each_weak, each_map, each_first, IsRight, IsChild, right_part, right_parts, child_ours, child_own}
 
 -- Names.
 
@@ -36,7 +37,7 @@ only_name n m h = same_text n m (alone (same n m) h)
 
 -- an element of a name
 pub is_name : (name : List ℕ) (c : Elem) → is name c ≡ true → (is_ours c ≡ true) × (c.name ≡ name)
-is_name name c h = let b = both_true (is_ours c) (same c.name name) h in (b.0, same_text c.name name b.1)
+is_name name c h = let b = and_parts (is_ours c) (same c.name name) h in (b.0, same_text c.name name b.1)
 
 pub is_not_name : (name : List ℕ) (c : Elem) → is_ours c ≡ true → is name c ≡ false → same c.name name ≡ false
 is_not_name name c h k = sym (ap (λ b. b && same c.name name) h) ∙ k
@@ -147,7 +148,7 @@ split_well : (c : Elem) → is (codes "for-each") c ≡ true → is_bad_part c �
 split_well c h k =
     let bad : is_bad_for_each c ≡ false = sym (ap (λ b. b && is_bad_for_each c) h) ∙ third_cause (is (codes "environment") c && is_bad_environment c) (is (codes "command") c && lacks (codes "name") c) (is (codes "for-each") c && is_bad_for_each c)
     (is (codes "requires") c && is_wrong (λ t. is_some (importance_of t)) (attribute (codes "importance") c)) k in
-    either (attribute (codes "separator") c) (both_false (lacks (codes "item-from") c) (is_wrong (λ t. not (is_none t)) (attribute (codes "separator") c)) bad).1
+    either (attribute (codes "separator") c) (or_parts (lacks (codes "item-from") c) (is_wrong (λ t. not (is_none t)) (attribute (codes "separator") c)) bad).1
   where
     twice : (b : Bool) → not (not b) ≡ false → b ≡ false
     twice true q = absurd (cc q)

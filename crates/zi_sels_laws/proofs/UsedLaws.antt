@@ -1,6 +1,7 @@
 -- The commands that a valid choice uses: what each asks for is chosen, its runner too.
 use Rattle.std.proofs.Common.{◌≡◌, ℕ, ◌==◌, true, ◌&&◌, List, [], ◌∷◌, ◌++◌, Option, Some, None, refl, ap, ◌∙◌, eqb-true}
 use Rattle.std.specs.Prelude.{All, IfSome, filter, bytes_eq, is_some, option_map, option_and_then}
+use Rattle.std.proofs.lemmas.Bool.{and_parts}
 use Rattle.zi_feed.specs.Texts.{same}
 use Rattle.zi_feed.specs.Words.{is_among, optional}
 use Rattle.zi_feed.specs.declared.feed.Dep.{Dep}
@@ -17,7 +18,7 @@ use Rattle.zi_choice.proofs.Base.{all_at, any_found, if_some_at}
 use Rattle.zi_sels.specs.Chosen.{plain_runner, used_command, selection_by}
 use Rattle.zi_sels_laws.proofs.LikeLaws.{Each, each_both}
 use Rattle.zi_sels_laws.proofs.AskedLaws.{IsMetRunner, IsMetCommand, IsMetItem}
-use Rattle.zi_sels_laws.proofs.FreeLaws.{both_true, each_filter, each_weak, each_map, each_front}
+use Rattle.zi_sels_laws.proofs.FreeLaws.{each_filter, each_weak, each_map, each_front}
 use Rattle.zi_sels_laws.proofs.GivenLaws.{IsGivenRunner, IsGivenCommand}
 use Rattle.zi_sels_laws.proofs.ApartLaws.{IsFound, each_found}
 use Rattle.zi_sels_laws.proofs.FeedLaws.{IsGiven}
@@ -37,7 +38,7 @@ pub needs_met : (u : List Interface) (s : Choice) (w : Walk) (i : ℕ) (name : L
 needs_met u s w i name m h used at =
     let f = any_found (λ (x : Use). x.interface == i && bytes_eq x.command name) w.used used in
     let x = f.1 in
-    let b = both_true (x.interface == i) (bytes_eq x.command name) f.3 in
+    let b = and_parts (x.interface == i) (bytes_eq x.command name) f.3 in
     let here : command_at u s x.interface x.command ≡ Some m =
     ap (λ (j : ℕ). command_at u s j x.command) (eqb-true x.interface i b.0) ∙ (ap (λ (n : List ℕ). command_at u s i n) (text_is x.command name b.1) ∙ at) in
     if_some_at (λ m. AreMet u s (needs_of m)) (command_at u s x.interface x.command) m here

@@ -1,13 +1,12 @@
 -- What a valid choice selects in a universe that was loaded lacks no command.
-use Rattle.std.proofs.Common.{◌≡◌, ℕ, suc, zero, Bool, true, false, cond, List, [], ◌∷◌, ◌++◌, map, Option, Some, None, refl, sym, ap, ◌∙◌, subst, arith, inl, inr}
-use Rattle.std.specs.Prelude.{All, IsSome, IfSome, IsSomeAnd, slice_get, find, filter, bytes_eq, is_some, option_map, option_and_then, if◌then◌else◌}
+use Rattle.std.proofs.Common.{◌≡◌, ℕ, Bool, true, false, cond, List, [], ◌∷◌, ◌++◌, map, Option, Some, None, refl, sym, ap, ◌∙◌, subst, arith, inl, inr}
+use Rattle.std.specs.Prelude.{All, IsSome, IfSome, IsSomeAnd, slice_get, find, filter, bytes_eq, option_map, option_and_then, if◌then◌else◌}
 use Rattle.std.proofs.lemmas.List.Sorted.{IsPermutation-sym}
 use Rattle.zi_policy.specs.declared.types.Policy.{Policy}
 use Rattle.zi_outside.specs.Views.{Holding}
 use Rattle.zi_feed.specs.Texts.{same}
 use Rattle.zi_feed.specs.Words.{optional}
 use Rattle.zi_feed.specs.declared.feed.Dep.{Dep}
-use Rattle.zi_feed.specs.declared.feed.DepKind.{DepKind}
 use Rattle.zi_feed.specs.declared.feed.DepKind.TheVariants.{Essential}
 use Rattle.zi_feed.specs.declared.feed.Runner.{Runner}
 use Rattle.zi_feed.specs.declared.feed.Command.{Command}
@@ -20,26 +19,26 @@ use Rattle.zi_universe.specs.Whole.{BeginsWith}
 use Rattle.zi_universe.specs.Loading.{Loads}
 use Rattle.zi_universe.proofs.WholeLemmas.{begins}
 use Rattle.zi_choice.specs.Choice.{Choice, chosen, number, command_of, command_at, needs_of, with_runner}
-use Rattle.zi_choice.specs.Walk.{Walk, Walks, NeedsEach, is_used, leads_to, wanted}
-use Rattle.zi_choice.specs.Valid.{Has, Suits, target, AreMet, IsValid}
+use Rattle.zi_choice.specs.Walk.{Walk, is_used, leads_to, wanted}
+use Rattle.zi_choice.specs.Valid.{Has, Suits, AreMet, IsValid}
 use Rattle.zi_choice.specs.Valid.{IsMet as IsMetBy}
 use Rattle.zi_choice.proofs.Base.{some_of, if_some_at, if_some_from, stands_at}
 use Rattle.zi_choice.proofs.ThereLaws.{In}
-use Rattle.zi_choice.proofs.WalkFacts.{Item, Visit, Need, LeadsBy, Leads, deps_after, after, closed, cover_each}
+use Rattle.zi_choice.proofs.WalkFacts.{Item, Need, LeadsBy, Leads, deps_after, closed, cover_each}
 use Rattle.zi_choice.proofs.WalkLaws.{walk_one}
 use Rattle.zi_sels.specs.declared.types.Selection.{Selection}
 use Rattle.zi_sels.specs.declared.types.Selections.{Selections}
-use Rattle.zi_sels.specs.Chosen.{plain_runner, used_command, selection_by, selected, AreSorted, AreSelected}
+use Rattle.zi_sels.specs.Chosen.{plain_runner, used_command, selection_by, selected, AreSelected}
 use Rattle.zi_sels.specs.Written.{command_wanted}
 use Rattle.zi_sels_laws.specs.Whole.{IsNamed, HasCommand, RunnerIsThere, CanBeRun, AreWhole}
 use Rattle.zi_sels_laws.proofs.LikeLaws.{Each, each_both}
-use Rattle.zi_sels_laws.proofs.FreeLaws.{both_true, each_filter, each_weak, each_map, each_front}
+use Rattle.zi_sels_laws.proofs.FreeLaws.{each_filter, each_weak, each_map, each_front}
 use Rattle.zi_sels_laws.proofs.GivenLaws.{IsGivenRunner, IsGivenCommand}
 use Rattle.zi_sels_laws.proofs.ApartLaws.{AreOther, IsFound, each_found}
-use Rattle.zi_sels_laws.proofs.EachLaws.{all_each, each_all, each_permuted, each_at}
+use Rattle.zi_sels_laws.proofs.EachLaws.{all_each, each_all, each_permuted}
 use Rattle.zi_sels_laws.proofs.FeedLaws.{IsGiven}
 use Rattle.zi_sels_laws.proofs.LoadedLaws.{AreGivenIn, loaded_given}
-use Rattle.zi_sels_laws.proofs.SelectedLaws.{IsPlaced, placed, each_selected, so_selected}
+use Rattle.zi_sels_laws.proofs.SelectedLaws.{placed, each_selected, so_selected}
 use Rattle.zi_sels_laws.proofs.UsedLaws.{AreUsesMet, needs_met, command_is}
 use Rattle.zi_sels_laws.proofs.ChosenLaws.{sorted_other, chosen_given}
 

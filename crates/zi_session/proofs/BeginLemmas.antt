@@ -2,6 +2,7 @@
 use Rattle.std.proofs.Common.{◌≡◌, ℕ, zero, suc, Bool, true, false, ◌&&◌, ◌||◌, List, [], ◌∷◌, ◌++◌, Option, Some, None, refl, sym, ◌∙◌, ap, bytes_eq, if◌then◌else◌}
 use Rattle.std.specs.Option.{option_or}
 use Rattle.std.specs.Str.{is_utf8}
+use Rattle.std.proofs.lemmas.Bool.{and_parts}
 use Rattle.zi_tree.specs.Dir.{Dir, Nothing, AFile, ALink, AFolder}
 use Rattle.zi_tree.specs.declared.tree.TreeNode.{TreeNode}
 use Rattle.zi_tree.specs.declared.tree.TreeNode.TheVariants.{File, Link, Folder}
@@ -14,7 +15,6 @@ use Rattle.zi_manifest.specs.Manifest.{own_name, has_newline, is_bad, leaf_bad, 
 use Rattle.zi_manifest.specs.Walk.{after}
 use Rattle.zi_manifest.proofs.Walks.{after_step}
 use Rattle.zi_session.specs.Walk.{is_leaf}
-use Rattle.zi_session.proofs.Placed.{and_parts}
 
 plain_name : (m n : List ℕ) → is_name m ≡ true → Some m ≡ Some n → is_plain n ≡ true
 plain_name m n h k = let e : m ≡ n = cc k in ap is_plain (sym e) ∙ (and_parts (is_utf8 m) (is_plain m) h).1

@@ -2,6 +2,7 @@
 use Rattle.std.proofs.Common.{◌≡◌, Bool, true, false, ◌&&◌, List, [], ◌∷◌, Some, None, refl, sym, ◌∙◌, ap, bytes_eq, if◌then◌else◌}
 use Rattle.std.specs.Ordering.{is_lt}
 use Rattle.std.proofs.lemmas.Slice.Eq.{bytes_eq-Decides}
+use Rattle.std.proofs.lemmas.Bool.{and_parts, and_from}
 use Rattle.zi_tree.specs.Dir.{Dir}
 use Rattle.zi_tree.specs.declared.tree.TreeNode.{TreeNode}
 use Rattle.zi_tree.specs.declared.tree.TreeNode.TheVariants.{File, Link, Folder}
@@ -22,13 +23,6 @@ differ_flip n m h =
       | true ↦ λ d. absurd (both (bytes_eq n m) ((bytes_eq-Decides n m).1 (sym (d refl))) h)
       | false ↦ λ d. refl
     ] (bytes_eq-Decides m n).0
-
-pub and_parts : (a b : Bool) → (a && b) ≡ true → (a ≡ true) × (b ≡ true)
-and_parts true b h = (refl, h)
-and_parts false b h = absurd (cc h)
-
-pub and_whole : (a b : Bool) → a ≡ true → b ≡ true → (a && b) ≡ true
-and_whole a b h k = rw (h, k) refl
 
 pub and_first : (a b : Bool) → (a && b) ≡ true → a ≡ true
 and_first a b h = (and_parts a b h).0
@@ -86,7 +80,7 @@ before_parts : (m n : Name) (x : TreeNode) (rest : Dir) → is_before m (entry_o
 before_parts m n x rest h = and_parts (is_lt (cmp m n)) (is_before m rest) (sym (before_entry m n x rest) ∙ h)
 
 before_whole : (m n : Name) (x : TreeNode) (rest : Dir) → is_lt (cmp m n) ≡ true → is_before m rest ≡ true → is_before m (entry_of n x rest) ≡ true
-before_whole m n x rest h k = before_entry m n x rest ∙ and_whole (is_lt (cmp m n)) (is_before m rest) h k
+before_whole m n x rest h k = before_entry m n x rest ∙ and_from (is_lt (cmp m n)) (is_before m rest) h k
 
 before_more : (m n : Name) (x : TreeNode) (is : List Item) → is_lt (cmp m n) ≡ true → is_before m (dir is) ≡ true → is_before m (dir (placed n x is)) ≡ true
 before_more m n x [] h k = before_whole m n x (dir []) h refl

@@ -1,6 +1,7 @@
 -- The entries that the calls place are those of the tree.
 use Rattle.std.proofs.Common.{◌≡◌, Bool, true, false, ◌&&◌, List, [], ◌∷◌, None, refl, ◌∙◌, ap, if◌then◌else◌}
 use Rattle.std.specs.Ordering.{is_lt}
+use Rattle.std.proofs.lemmas.Bool.{and_parts, and_from}
 use Rattle.zi_tree.specs.Dir.{Dir, Nothing, AFile, ALink, AFolder}
 use Rattle.zi_tree.specs.declared.tree.TreeNode.{TreeNode}
 use Rattle.zi_tree.specs.declared.tree.TreeNode.TheVariants.{File, Link, Folder}
@@ -8,7 +9,7 @@ use Rattle.zi_tree.specs.Views.{Item}
 use Rattle.zi_tree.specs.Paths.{items, node_in, placed}
 use Rattle.zi_tree.specs.Order.{is_before, is_tree}
 use Rattle.zi_tree.proofs.Order.{Name, cmp, lt_less, lt_apart, parts}
-use Rattle.zi_session.proofs.Placed.{differ_flip, and_parts, and_whole, and_first, and_second, node_placed_other}
+use Rattle.zi_session.proofs.Placed.{differ_flip, and_first, and_second, node_placed_other}
 
 -- the files and links of a folder, placed one after another
 abbrev pub leaves_on : Dir → List Item → List Item
@@ -29,11 +30,11 @@ before_all n [] = true
 before_all n (i ∷ is) = is_lt (cmp n i.0) && before_all n is
 
 pub before_placed : (n m : Name) (x : TreeNode) (is : List Item) → is_lt (cmp n m) ≡ true → before_all n is ≡ true → before_all n (placed m x is) ≡ true
-before_placed n m x [] h k = and_whole (is_lt (cmp n m)) true h refl
+before_placed n m x [] h k = and_from (is_lt (cmp n m)) true h refl
 before_placed n m x (i ∷ is) h k =
     elim (is_lt (cmp m i.0)) as (λ l. before_all n (if l then (m, x) ∷ i ∷ is else i ∷ placed m x is) ≡ true) [
-      | true ↦ and_whole (is_lt (cmp n m)) (before_all n (i ∷ is)) h k
-      | false ↦ and_whole (is_lt (cmp n i.0)) (before_all n (placed m x is)) (and_first (is_lt (cmp n i.0)) (before_all n is) k) (before_placed n m x is h (and_second (is_lt (cmp n i.0)) (before_all n is) k))
+      | true ↦ and_from (is_lt (cmp n m)) (before_all n (i ∷ is)) h k
+      | false ↦ and_from (is_lt (cmp n i.0)) (before_all n (placed m x is)) (and_first (is_lt (cmp n i.0)) (before_all n is) k) (before_placed n m x is h (and_second (is_lt (cmp n i.0)) (before_all n is) k))
     ]
 
 -- one that stands before all goes to the front

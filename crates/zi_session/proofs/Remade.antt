@@ -6,6 +6,7 @@ use Rattle.std.specs.Str.{IsAscii, is_utf8}
 use Rattle.std.proofs.lemmas.Str.Ascii.{IsAscii-nil, IsAscii-cons}
 use Rattle.std.proofs.lemmas.Str.{IsUtf8-from_ascii, is_utf8-from_IsUtf8}
 use Rattle.std.proofs.lemmas.Bool.Decides.{nat_tests}
+use Rattle.std.proofs.lemmas.Bool.{and_parts, and_from}
 use Rattle.zi_digest.specs.declared.Algorithm.{Algorithm}
 use Rattle.zi_digest.specs.Name.{name_of}
 use Rattle.zi_tree.specs.Dir.{Dir, Nothing, AFile, ALink, AFolder}
@@ -21,7 +22,7 @@ use Rattle.zi_manifest.specs.Manifest.{own_name, as_read, digest_of}
 use Rattle.zi_session.specs.Works.{file_works, below, leaf_works, folder_works, node_works, works_of}
 use Rattle.zi_session.specs.Made.{made}
 use Rattle.zi_session.specs.Rebuilding.{with_manifest, Rebuilds, FitsAt}
-use Rattle.zi_session.proofs.Placed.{and_parts, and_whole, node_placed, replaced_placed, free_behind, tree_placed}
+use Rattle.zi_session.proofs.Placed.{node_placed, replaced_placed, free_behind, tree_placed}
 use Rattle.zi_session.proofs.Runs.{run, run_is_made, run_then, run_both, make_folder, make_link, make_file, run_in}
 use Rattle.zi_session.proofs.Placing.{leaves_on, folders_on, all_placed, AreFree, free_at_start, free_after, FoldersFree, folders_free_after, folders_free}
 
@@ -104,7 +105,7 @@ ascii (c ∷ cs) h = let p = and_parts (nat_lt c 128) (list_all (λ d. nat_lt d 
     low d e = grind (arith, nat_tests)
 
 own_named : is_name own_name ≡ true
-own_named = and_whole (is_utf8 own_name) (is_plain own_name) (is_utf8-from_IsUtf8 own_name (IsUtf8-from_ascii own_name (ascii own_name refl))) refl
+own_named = and_from (is_utf8 own_name) (is_plain own_name) (is_utf8-from_IsUtf8 own_name (IsUtf8-from_ascii own_name (ascii own_name refl))) refl
 
 same_digest : (a : Algorithm) (d e : Dir) → as_read e ≡ as_read d → digest_of a e ≡ digest_of a d
 same_digest a d e h = ap (λ x. name_of a (text_of (sketch a x))) h

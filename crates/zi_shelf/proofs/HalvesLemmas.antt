@@ -5,10 +5,10 @@ use Rattle.std.specs.Ordering.{is_lt, nat_cmp}
 use Rattle.std.specs.Cmp.Lexicographic.{slice_cmp}
 use Rattle.std.proofs.lemmas.Slice.Eq.{bytes_eq-Decides}
 use Rattle.std.specs.FinMap.{slice_cmp-IsAntisymmetric, nat_cmp-IsAntisymmetric}
-use Rattle.std.proofs.lemmas.Bool.{cases_lt}
+use Rattle.std.proofs.lemmas.Bool.{cases_lt, true≢false, and_parts}
 use Rattle.zi_shelf.specs.declared.top_entry.TopEntry.{TopEntry}
 use Rattle.zi_shelf.specs.Memory.{tops_of, are_apart, is_before, IsAt, IsPlace}
-use Rattle.zi_shelf.proofs.TopsLemmas.{none_from_all, at_from_first, order_parts, and_parts}
+use Rattle.zi_shelf.proofs.TopsLemmas.{none_from_all, at_from_first, order_parts}
 use Rattle.zi_tree.proofs.Order.{cmp, lt_trans, greater_flip, lt_apart, lt_less}
 
 pub place_from_first : (es : List TopEntry) (n : List ℕ) (i : ℕ) (e : TopEntry) → i < length es → ((k : ℕ) (d : TopEntry) → k < i → is_lt (slice_cmp nat_cmp n (get_or es k d).name) ≡ false) → is_lt (slice_cmp nat_cmp n (get_or es i e).name) ≡ true → IsPlace n es i
@@ -79,15 +79,12 @@ found_middle es n m x t lt is e = at_from_first es n m x lt before here
     before k d l = lt_apart (get_or es k d).name n
         (subst (λ (y : List ℕ). is_lt (cmp (get_or es k d).name y) ≡ true) (ap (λ (y : TopEntry). y.name) (same_at es m d x lt ∙ sym is) ∙ same) (rises es k m d t l lt))
 
-true_false : true ≡ false → ⊥
-true_false e = absurd (cc e)
-
 apart_flip : (x y : List ℕ) → bytes_eq y x ≡ false → bytes_eq x y ≡ false
 apart_flip x y h = by_test (bytes_eq x y) refl
   where
     by_test : (t : Bool) → bytes_eq x y ≡ t → bytes_eq x y ≡ false
     by_test false e = e
-    by_test true e = absurd (true_false (sym ((bytes_eq-Decides y x).1 (sym ((bytes_eq-Decides x y).0 e))) ∙ h))
+    by_test true e = absurd (true≢false (sym ((bytes_eq-Decides y x).1 (sym ((bytes_eq-Decides x y).0 e))) ∙ h))
 
 -- not found: none below and none from the place
 pub none_there : (es : List TopEntry) (n : List ℕ) (low : ℕ) → AreBelow es n low → AreAbove es n low → tops_of es n ≡ None

@@ -1,20 +1,19 @@
 -- What comes to the names is what the pick leaves.
-use Rattle.std.proofs.Common.{◌≡◌, ◌≢◌, ◌+◌, ◌<◌, ◌≤◌, ℕ, zero, suc, Bool, true, false, not, List, [], ◌∷◌, ◌++◌, map, reverse, length, Option, Some, None, ◌⊎◌, inl, inr, refl, sym, ◌∙◌, ap, subst, nat_le, bytes_eq, slice_get, get_or, option_map, IsSome, if◌then◌else◌, ◌&&◌, ◌||◌, arith}
-use Rattle.std.proofs.lemmas.Bool.{leb-true, leb-false}
+use Rattle.std.proofs.Common.{◌≡◌, ◌+◌, ◌<◌, ◌≤◌, ℕ, zero, suc, Bool, true, false, not, List, [], ◌∷◌, ◌++◌, map, reverse, length, Option, Some, None, ◌⊎◌, inl, inr, refl, sym, ◌∙◌, ap, subst, nat_le, bytes_eq, slice_get, get_or, option_map, if◌then◌else◌, ◌&&◌, arith}
+use Rattle.std.proofs.lemmas.Bool.{leb-true, leb-false, and_from, and_parts}
 use Rattle.std.proofs.lemmas.Option.{slice_get_within, slice_get-map, get_or_from_slice_get}
 use Rattle.std.proofs.lemmas.List.{reverse-append, reverse-reverse, length-reverse}
 use Rattle.zi_tree.specs.Dir.{Dir}
 use Rattle.zi_shelf.specs.Names.{Name, IsIn}
 use Rattle.zi_shelf.specs.Shelved.{Top, Pending, Renamed, Removed, Shelved}
-use Rattle.zi_shelf.specs.Crash.{names_before, removed, Source, Whence, Standing, Gone, source, standing}
-use Rattle.zi_shelf.specs.Picked.{back_at, gone_at, moment, GoesTo, IsStanding, Comes, IsPicked}
+use Rattle.zi_shelf.specs.Crash.{names_before, removed, Source, Whence, Standing, Gone, standing}
+use Rattle.zi_shelf.specs.Picked.{back_at, gone_at, moment, GoesTo, Comes, IsPicked}
 use Rattle.zi_shelf.specs.Memory.{top_of, tops_of, are_apart}
-use Rattle.zi_shelf.specs.Comers.{may_stay, first_or, first_at, earlier, offered, best, comer, added, removed_comers, standing_comers, no_entry}
+use Rattle.zi_shelf.specs.Comers.{may_stay, first_or, first_at, earlier, best, comer, added, removed_comers, standing_comers, no_entry}
 use Rattle.zi_shelf.specs.declared.top_entry.TopEntry.{TopEntry}
 use Rattle.zi_shelf.specs.declared.crash.Pick.{Pick}
 use Rattle.zi_shelf.specs.declared.crash.Comer.{Comer}
-use Rattle.zi_shelf.specs.declared.crash.First.{First}
-use Rattle.zi_shelf.proofs.TopsLemmas.{test_true, test_refl, and_parts, apart_parts}
+use Rattle.zi_shelf.proofs.TopsLemmas.{test_true, test_refl, apart_parts}
 use Rattle.zi_shelf.proofs.FirstLemmas.{name_back, goes_back, goes_there, first_is}
 
 -- of two numbers
@@ -95,9 +94,6 @@ stays p false h u = let no : not p.unsettled ≡ false = ap not u in absurd (cc 
 pub stays_so : (p : Pick) (settled : Bool) → (p.unsettled ≡ true → settled ≡ true) → may_stay p settled ≡ true
 stays_so p true h = refl
 stays_so p false h = elim p.unsettled as (λ t. (t ≡ true → false ≡ true) → not t ≡ true) [ true ↦ λ k. absurd (cc (k refl)) | false ↦ λ k. refl ] h
-
-both : (a b : Bool) → a ≡ true → b ≡ true → (a && b) ≡ true
-both a b h k = rw (h, k) refl
 
 -- what is last in a list that was turned round
 last_there : {X : Type 0} (xs : List X) (x : X) → slice_get (xs ++ x ∷ []) (length xs) ≡ Some x
@@ -182,7 +178,7 @@ removed_whole p base (Removed m e ∷ older) zero was n at goes may back =
     let same : (n, x.1) ≡ x = ap (λ q. (q, x.1)) (name ∙ sym (ap (λ (y : Name × Comer). y.0) said)) in
     let settled : may_stay p e.settled ≡ true = stays_so p e.settled (subst (λ (w : Source Dir). p.unsettled ≡ true → w.top.settled ≡ true) (sym is) may) in (
       x.1,
-      subst (λ y. IsIn y (removed_comers p base (Removed m e ∷ older))) (sym same) (added_it (p.removals && may_stay p e.settled) x (removed_comers p base older) (both p.removals (may_stay p e.settled) back settled)),
+      subst (λ y. IsIn y (removed_comers p base (Removed m e ∷ older))) (sym same) (added_it (p.removals && may_stay p e.settled) x (removed_comers p base older) (and_from p.removals (may_stay p e.settled) back settled)),
       ap (λ (y : Name × Comer). y.1.older) said,
     )
 removed_whole p base (Removed m e ∷ older) (suc k) was n at goes may back =

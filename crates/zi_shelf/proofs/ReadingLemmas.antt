@@ -10,6 +10,7 @@ use Rattle.zi_tree.specs.Views.{Item}
 use Rattle.zi_tree.specs.Paths.{items, node_in, name_in, node_of, found}
 use Rattle.zi_tree.specs.Order.{is_tree, is_before}
 use Rattle.std.specs.Ordering.{is_lt}
+use Rattle.std.proofs.lemmas.Bool.{and_parts}
 use Rattle.zi_tree.proofs.Order.{cmp, lt_apart, parts}
 use Rattle.zi_shelf.specs.Names.{Name, IsIn}
 use Rattle.zi_shelf.specs.Shelved.{Top, Shelved, Reply, Did}
@@ -23,7 +24,7 @@ use Rattle.zi_shelf.specs.declared.shelf.Listed.TheVariants as listed_as
 use Rattle.zi_shelf.specs.Told.{Told, FailsAsPlanned, recorded, spelled, plain_call}
 use Rattle.zi_shelf.specs.Reading.{Question, Names, Entries, Read, Target, question_call, NamesAnswer, EntriesAnswer, ReadAnswer, WholeAnswer, TargetAnswer, AreDistinct, ListsAll, IsPiece, kind_of, folder_at}
 use Rattle.zi_shelf.specs.Memory.{top_of, tops_of, are_apart, told_of, IsAt}
-use Rattle.zi_shelf.proofs.TopsLemmas.{test_true, test_false, test_refl, apart_parts, is_apart, and_parts, found_at}
+use Rattle.zi_shelf.proofs.TopsLemmas.{test_true, test_false, test_refl, apart_parts, is_apart, found_at}
 use Rattle.zi_shelf.proofs.DoingLemmas.{shelved, calls_more, not_planned}
 
 -- what an honest shelf goes on to tell after a call that reads

@@ -1,7 +1,8 @@
 -- The map of the entries after a change.
-use Rattle.std.proofs.Common.{◌≡◌, ◌≢◌, ℕ, zero, suc, ◌<◌, Bool, true, false, ◌&&◌, List, [], ◌∷◌, length, Option, Some, None, ◌⊎◌, inl, inr, refl, sym, ◌∙◌, bytes_eq, get_or, set, insert, remove, arith, if◌then◌else◌}
+use Rattle.std.proofs.Common.{◌≡◌, ◌≢◌, ℕ, zero, suc, ◌<◌, true, false, List, [], ◌∷◌, length, Option, Some, None, ◌⊎◌, inl, inr, refl, sym, ◌∙◌, bytes_eq, get_or, set, insert, remove, arith, if◌then◌else◌}
 use Rattle.std.proofs.lemmas.Slice.Eq.{bytes_eq-Decides}
 use Rattle.std.specs.Ordering.{is_lt}
+use Rattle.std.proofs.lemmas.Bool.{and_parts, and_from}
 use Rattle.zi_tree.proofs.Order.{cmp, lt_trans, lt_flip, lt_apart}
 use mathlib.Core.Path.{fun_ext}
 use Rattle.zi_shelf.specs.Names.{Name, put}
@@ -37,10 +38,6 @@ put_is f g n v at off = fun_ext (λ k. elim (same_or_not k n) [
 pub put_same : {V : Type 0} (f : Name → Option V) (n : Name) → put f n (f n) ≡ f
 put_same f n = sym (put_is f f n (f n) refl (λ k ne. refl))
 
-pub and_parts : (a b : Bool) → (a && b) ≡ true → (a ≡ true) × (b ≡ true)
-and_parts true b h = (refl, h)
-and_parts false b h = absurd (cc h)
-
 -- the first name stands before the others, so it isn't among them
 before_none : (n : Name) (es : List TopEntry) → is_before n es ≡ true → tops_of es n ≡ None
 before_none n [] h = refl
@@ -55,21 +52,18 @@ order_parts x es h = and_parts (is_before x.name es) (are_apart es) h
 pub apart_parts : (x : TopEntry) (es : List TopEntry) → are_apart (x ∷ es) ≡ true → (tops_of es x.name ≡ None) × (are_apart es ≡ true)
 apart_parts x es h = let p = order_parts x es h in (before_none x.name es p.0, p.1)
 
-and_whole : (a b : Bool) → a ≡ true → b ≡ true → (a && b) ≡ true
-and_whole a b h k = rw (h, k) refl
-
 before_parts : (m : Name) (x : TopEntry) (es : List TopEntry) → is_before m (x ∷ es) ≡ true → (is_lt (cmp m x.name) ≡ true) × (is_before m es ≡ true)
 before_parts m x es h = and_parts (is_lt (cmp m x.name)) (is_before m es) h
 
 before_whole : (m : Name) (x : TopEntry) (es : List TopEntry) → is_lt (cmp m x.name) ≡ true → is_before m es ≡ true → is_before m (x ∷ es) ≡ true
-before_whole m x es h k = and_whole (is_lt (cmp m x.name)) (is_before m es) h k
+before_whole m x es h k = and_from (is_lt (cmp m x.name)) (is_before m es) h k
 
 before_all : (a b : Name) (es : List TopEntry) → is_lt (cmp a b) ≡ true → is_before b es ≡ true → is_before a es ≡ true
 before_all a b [] lt h = refl
 before_all a b (x ∷ es) lt h = let p = before_parts b x es h in before_whole a x es (lt_trans a b x.name lt p.0) (before_all a b es lt p.1)
 
 apart_whole : (x : TopEntry) (es : List TopEntry) → is_before x.name es ≡ true → are_apart es ≡ true → are_apart (x ∷ es) ≡ true
-apart_whole x es h a = and_whole (is_before x.name es) (are_apart es) h a
+apart_whole x es h a = and_from (is_before x.name es) (are_apart es) h a
 
 -- where nothing has the name, the first entry hasn't
 none_parts : (x : TopEntry) (es : List TopEntry) (n : Name) → tops_of (x ∷ es) n ≡ None → (bytes_eq x.name n ≡ false) × (tops_of es n ≡ None)

@@ -1,9 +1,9 @@
 -- Each entry holds a tree, after each change.
 use Rattle.std.proofs.Common.{◌≡◌, ℕ, zero, suc, ◌<◌, true, List, [], ◌∷◌, length, refl, get_or, set, insert, remove, arith}
+use Rattle.std.proofs.lemmas.Bool.{and_parts}
 use Rattle.zi_tree.specs.Order.{is_tree}
 use Rattle.zi_shelf.specs.declared.top_entry.TopEntry.{TopEntry}
 use Rattle.zi_shelf.specs.Memory.{are_trees}
-use Rattle.zi_shelf.proofs.TopsLemmas.{and_parts}
 
 whole_parts : (x : TopEntry) (es : List TopEntry) → are_trees (x ∷ es) ≡ true → (is_tree x.tree ≡ true) × (are_trees es ≡ true)
 whole_parts x es h = and_parts (is_tree x.tree) (are_trees es) h

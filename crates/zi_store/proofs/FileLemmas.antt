@@ -6,6 +6,7 @@ use Rattle.std.proofs.lemmas.Bool.Decides.{nat_tests}
 use Rattle.zi_tree.specs.Dir.{Dir}
 use Rattle.std.specs.List.{list_all}
 use Rattle.std.specs.Str.{is_utf8}
+use Rattle.std.proofs.lemmas.Bool.{and_parts}
 use Rattle.zi_tree.specs.Order.{is_name, is_plain}
 use Rattle.zi_tree.specs.Paths.{items, node_in, found, is_last}
 use Rattle.zi_tree.specs.declared.tree.TreeNode.{TreeNode}
@@ -14,7 +15,7 @@ use Rattle.zi_shelf.specs.Names.{Name, IsIn}
 use Rattle.zi_shelf.specs.Shelved.{Shelved, Top}
 use Rattle.zi_shelf.specs.Told.{Told}
 use Rattle.zi_shelf.specs.Shelving.{Shelving, IsSure}
-use Rattle.zi_shelf.proofs.TopsLemmas.{test_true, test_refl, and_parts}
+use Rattle.zi_shelf.proofs.TopsLemmas.{test_true, test_refl}
 use Rattle.zi_shelf.specs.Reading.{Entries, EntriesAnswer, folder_at, kind_of, ListsAll}
 use Rattle.zi_shelf.specs.declared.shelf.Listed.{Listed}
 use Rattle.zi_shelf.specs.declared.shelf.Listed.TheVariants as listed

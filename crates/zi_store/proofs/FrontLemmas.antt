@@ -3,6 +3,7 @@ use Rattle.std.proofs.Common.{◌≡◌, ℕ, Bool, true, false, List, [], ◌�
 use Rattle.std.specs.Ordering.{is_lt, nat_cmp}
 use Rattle.std.specs.Cmp.Lexicographic.{slice_cmp}
 use Rattle.std.proofs.lemmas.Slice.Eq.{bytes_eq-Decides}
+use Rattle.std.proofs.lemmas.Bool.{and_parts, and_from}
 use Rattle.zi_tree.specs.Dir.{Dir, Nothing, AFile, ALink, AFolder}
 use Rattle.zi_tree.specs.Order.{is_before, is_tree}
 use Rattle.zi_tree.specs.Paths.{items, node_in, placed, replaced}
@@ -14,7 +15,6 @@ use Rattle.zi_tree.proofs.Replaced.{dir_items}
 use Rattle.zi_manifest.specs.Manifest.{own_name, as_read}
 use Rattle.zi_manifest.specs.Walk.{shown}
 use Rattle.zi_store.specs.Entries.{bare, emptied}
-use Rattle.zi_store.proofs.OrderLemmas.{and_parts, and_whole}
 
 -- the name stands behind each of these
 abbrev pub IsBehind : List ℕ → List Item → Type 0
@@ -99,14 +99,14 @@ before_read m (AFile n b e t rest) h =
     let p = and_parts (is_lt (slice_cmp nat_cmp m n)) (is_before m rest) h in
     elim (bytes_eq n own_name) as (λ o. is_before m (if o then as_read rest else AFile n b e t (as_read rest)) ≡ true) [
       | true ↦ before_read m rest p.1
-      | false ↦ and_whole (is_lt (slice_cmp nat_cmp m n)) (is_before m (as_read rest)) p.0 (before_read m rest p.1)
+      | false ↦ and_from (is_lt (slice_cmp nat_cmp m n)) (is_before m (as_read rest)) p.0 (before_read m rest p.1)
     ]
 before_read m (ALink n t rest) h =
     let p = and_parts (is_lt (slice_cmp nat_cmp m n)) (is_before m rest) h in
-    and_whole (is_lt (slice_cmp nat_cmp m n)) (is_before m (as_read rest)) p.0 (before_read m rest p.1)
+    and_from (is_lt (slice_cmp nat_cmp m n)) (is_before m (as_read rest)) p.0 (before_read m rest p.1)
 before_read m (AFolder n inside rest) h =
     let p = and_parts (is_lt (slice_cmp nat_cmp m n)) (is_before m rest) h in
-    and_whole (is_lt (slice_cmp nat_cmp m n)) (is_before m (as_read rest)) p.0 (before_read m rest p.1)
+    and_from (is_lt (slice_cmp nat_cmp m n)) (is_before m (as_read rest)) p.0 (before_read m rest p.1)
 
 tree_read : (d : Dir) → is_tree d ≡ true → is_tree (as_read d) ≡ true
 tree_read Nothing h = h

@@ -4,6 +4,7 @@ use Rattle.std.specs.Ordering.{is_lt}
 use Rattle.std.specs.Cmp.Lexicographic.{slice_cmp}
 use Rattle.std.specs.List.Sorted.{IsSortedBy, IsPermutation}
 use Rattle.std.proofs.lemmas.List.Sorted.{IsPermutation-sym, IsPermutation-map}
+use Rattle.std.proofs.lemmas.Bool.{and_parts, and_from}
 use Rattle.zi_tree.specs.Dir.{Dir, Nothing, AFile, ALink, AFolder}
 use Rattle.zi_tree.specs.Order.{is_tree, is_before, is_name}
 use Rattle.zi_tree.specs.Paths.{items}
@@ -20,7 +21,7 @@ use Rattle.zi_manifest.specs.Walk.{shown}
 use Rattle.zi_store.specs.Rising.{is_below, rises}
 use Rattle.zi_store.specs.Standing.{Stands}
 use Rattle.zi_store.specs.Entries.{entries_of, is_shown}
-use Rattle.zi_store.proofs.OrderLemmas.{and_parts, and_whole, in_permuted, distinct_permuted, rises_of_sorted, same_rising}
+use Rattle.zi_store.proofs.OrderLemmas.{in_permuted, distinct_permuted, rises_of_sorted, same_rising}
 
 abbrev name_of : Entry → Name
 name_of e = e.name
@@ -68,7 +69,7 @@ below_filter p n (e ∷ es) h =
     by_test (p e) q.0 (below_filter p n es q.1)
   where
     by_test : (b : Bool) → is_lt (slice_cmp nat_cmp n e.name) ≡ true → is_below n (map name_of (filter p es)) ≡ true → is_below n (map name_of (cond b (e ∷ filter p es) (filter p es))) ≡ true
-    by_test true first r = and_whole (is_lt (slice_cmp nat_cmp n e.name)) (is_below n (map name_of (filter p es))) first r
+    by_test true first r = and_from (is_lt (slice_cmp nat_cmp n e.name)) (is_below n (map name_of (filter p es))) first r
     by_test false first r = r
 
 rises_filter : (p : Entry → Bool) (es : List Entry) → rises (map name_of es) ≡ true → rises (map name_of (filter p es)) ≡ true
@@ -78,20 +79,20 @@ rises_filter p (e ∷ es) h =
     by_test (p e) (below_filter p e.name es q.0) (rises_filter p es q.1)
   where
     by_test : (b : Bool) → is_below e.name (map name_of (filter p es)) ≡ true → rises (map name_of (filter p es)) ≡ true → rises (map name_of (cond b (e ∷ filter p es) (filter p es))) ≡ true
-    by_test true low r = and_whole (is_below e.name (map name_of (filter p es))) (rises (map name_of (filter p es))) low r
+    by_test true low r = and_from (is_below e.name (map name_of (filter p es))) (rises (map name_of (filter p es))) low r
     by_test false low r = r
 
 -- the entries of a tree rise
 before_below : (n : Name) (d : Dir) → is_before n d ≡ true → is_below n (map name_of (entries_of d)) ≡ true
 before_below n Nothing h = refl
-before_below n (AFile m b e t rest) h = let q = and_parts (is_lt (slice_cmp nat_cmp n m)) (is_before n rest) h in and_whole (is_lt (slice_cmp nat_cmp n m)) (is_below n (map name_of (entries_of rest))) q.0 (before_below n rest q.1)
-before_below n (ALink m t rest) h = let q = and_parts (is_lt (slice_cmp nat_cmp n m)) (is_before n rest) h in and_whole (is_lt (slice_cmp nat_cmp n m)) (is_below n (map name_of (entries_of rest))) q.0 (before_below n rest q.1)
-before_below n (AFolder m i rest) h = let q = and_parts (is_lt (slice_cmp nat_cmp n m)) (is_before n rest) h in and_whole (is_lt (slice_cmp nat_cmp n m)) (is_below n (map name_of (entries_of rest))) q.0 (before_below n rest q.1)
+before_below n (AFile m b e t rest) h = let q = and_parts (is_lt (slice_cmp nat_cmp n m)) (is_before n rest) h in and_from (is_lt (slice_cmp nat_cmp n m)) (is_below n (map name_of (entries_of rest))) q.0 (before_below n rest q.1)
+before_below n (ALink m t rest) h = let q = and_parts (is_lt (slice_cmp nat_cmp n m)) (is_before n rest) h in and_from (is_lt (slice_cmp nat_cmp n m)) (is_below n (map name_of (entries_of rest))) q.0 (before_below n rest q.1)
+before_below n (AFolder m i rest) h = let q = and_parts (is_lt (slice_cmp nat_cmp n m)) (is_before n rest) h in and_from (is_lt (slice_cmp nat_cmp n m)) (is_below n (map name_of (entries_of rest))) q.0 (before_below n rest q.1)
 
 first_rises : (n : Name) (rest : Dir) → (is_name n && (is_before n rest && is_tree rest)) ≡ true → (is_tree rest ≡ true → rises (map name_of (entries_of rest)) ≡ true) → (is_below n (map name_of (entries_of rest)) && rises (map name_of (entries_of rest))) ≡ true
 first_rises n rest h more =
     let q = and_parts (is_before n rest) (is_tree rest) (and_parts (is_name n) (is_before n rest && is_tree rest) h).1 in
-    and_whole (is_below n (map name_of (entries_of rest))) (rises (map name_of (entries_of rest))) (before_below n rest q.0) (more q.1)
+    and_from (is_below n (map name_of (entries_of rest))) (rises (map name_of (entries_of rest))) (before_below n rest q.0) (more q.1)
 
 entries_rise : (d : Dir) → is_tree d ≡ true → rises (map name_of (entries_of d)) ≡ true
 entries_rise Nothing h = refl

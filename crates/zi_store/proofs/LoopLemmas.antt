@@ -21,8 +21,8 @@ use Rattle.zi_store.specs.Entries.{entries_of, bare, emptied, leaf_met, inner_me
 use Rattle.zi_store.specs.declared.stop.Stop.{Stop}
 use Rattle.zi_store.specs.declared.stop.Stop.TheVariants as stop
 use Rattle.std.specs.Str.{is_utf8}
+use Rattle.std.proofs.lemmas.Bool.{and_parts}
 use Rattle.zi_store.proofs.FrontLemmas.{bared, bared_append, IsBehind, behind_bared, behind_front, part_there, free_behind, placed_behind, node_there, replaced_there, emptied_bared, tree_shown, node_shown}
-use Rattle.zi_store.proofs.OrderLemmas.{and_parts}
 use Rattle.zi_store.proofs.StandingLemmas.{node_below}
 use Rattle.zi_store.proofs.WalkLemmas.{leaves_entry, folders_entry, passes_none, passes_then, stops_then, stops_early}
 

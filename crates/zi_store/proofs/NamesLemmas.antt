@@ -13,6 +13,7 @@ use Rattle.std.proofs.lemmas.List.{append-nil}
 use Rattle.std.proofs.Math.Seq.{drop-cons}
 use Rattle.std.proofs.Math.ListN.{drop_of_length-le}
 use Rattle.std.specs.FinMap.{slice_cmp-IsAntisymmetric, nat_cmp-IsAntisymmetric}
+use Rattle.std.proofs.lemmas.Bool.{and_parts, and_from}
 use Rattle.zi_tree.specs.Dir.{Dir}
 use Rattle.zi_digest.specs.Name.{spelling, IsDigest}
 use Rattle.zi_digest.specs.declared.Algorithm.{Algorithm}
@@ -23,7 +24,7 @@ use Rattle.zi_shelf.specs.Shelved.{Shelved, Top}
 use Rattle.zi_shelf.specs.Reading.{AreDistinct}
 use Rattle.zi_store.specs.Rising.{is_below, rises, is_among}
 use Rattle.zi_store.specs.Stored.{is_of, in_use_order}
-use Rattle.zi_store.proofs.OrderLemmas.{and_parts, and_whole, in_permuted, distinct_permuted, contains_of_in, in_of_at, rises_of_sorted, among_of_in, in_of_among}
+use Rattle.zi_store.proofs.OrderLemmas.{in_permuted, distinct_permuted, contains_of_in, in_of_at, rises_of_sorted, among_of_in, in_of_among}
 
 -- the names in another order
 pub names_permuted : (xs ys : List Name) (s : Shelved Dir) → IsPermutation xs ys → IsPermutation ys xs → AreDistinct xs × ((n : Name) → IsIn n xs ↔ IsSome (s.tops n)) → AreDistinct ys × ((n : Name) → IsIn n ys ↔ IsSome (s.tops n))
@@ -59,14 +60,14 @@ below_picked m _ _ end_ h = refl
 below_picked m _ _ (skip n ns ds u p) h = below_picked m ns ds p (and_parts (is_lt (slice_cmp nat_cmp m n)) (is_below m ns) h).1
 below_picked m _ _ (pick ns d ds v p) h =
     let q = and_parts (is_lt (slice_cmp nat_cmp m (spelling d))) (is_below m ns) h in
-    and_whole (is_lt (slice_cmp nat_cmp m (spelling d))) (is_below m (map spelling ds)) q.0 (below_picked m ns ds p q.1)
+    and_from (is_lt (slice_cmp nat_cmp m (spelling d))) (is_below m (map spelling ds)) q.0 (below_picked m ns ds p q.1)
 
 rises_picked : (ns : List Name) (ds : List DigestName) → Picks ns ds → rises ns ≡ true → rises (map spelling ds) ≡ true
 rises_picked _ _ end_ h = refl
 rises_picked _ _ (skip n ns ds u p) h = rises_picked ns ds p (and_parts (is_below n ns) (rises ns) h).1
 rises_picked _ _ (pick ns d ds v p) h =
     let q = and_parts (is_below (spelling d) ns) (rises ns) h in
-    and_whole (is_below (spelling d) (map spelling ds)) (rises (map spelling ds)) (below_picked (spelling d) ns ds p q.0) (rises_picked ns ds p q.1)
+    and_from (is_below (spelling d) (map spelling ds)) (rises (map spelling ds)) (below_picked (spelling d) ns ds p q.0) (rises_picked ns ds p q.1)
 
 map_same : (ns : List Name) → map (λ n. n) ns ≡ ns
 map_same [] = refl

@@ -1,5 +1,5 @@
 -- Lists in byte order of their names.
-use Rattle.std.proofs.Common.{◌≡◌, ◌≢◌, ℕ, zero, suc, ◌+◌, ◌<◌, ◌≤◌, Bool, true, false, ◌&&◌, ◌||◌, List, [], ◌∷◌, map, length, refl, sym, ◌∙◌, ap, subst, bytes_eq, cond, get_or, arith, ◌⊎◌, inl, inr, nat_cmp}
+use Rattle.std.proofs.Common.{◌≡◌, ◌≢◌, ℕ, zero, suc, ◌+◌, ◌<◌, ◌≤◌, Bool, true, false, ◌||◌, List, [], ◌∷◌, map, length, refl, sym, ◌∙◌, ap, subst, bytes_eq, cond, get_or, arith, ◌⊎◌, inl, inr, nat_cmp}
 use Rattle.std.specs.Ordering.{is_lt}
 use Rattle.std.specs.Cmp.Lexicographic.{slice_cmp}
 use Rattle.std.specs.List.{Contains, list_all, sum_by}
@@ -8,17 +8,11 @@ use Rattle.std.proofs.lemmas.Cmp.{nat_list_cmp_total}
 use Rattle.std.proofs.lemmas.List.Sorted.{Contains-permutation, sum_by-IsPermutation, sorted_far, ranks_by}
 use Rattle.std.proofs.lemmas.List.Sums.{sum_by-cons}
 use Rattle.std.proofs.lemmas.Slice.Eq.{bytes_eq-Decides}
+use Rattle.std.proofs.lemmas.Bool.{and_parts, and_from}
 use Rattle.zi_tree.proofs.Order.{cmp, lt_trans, lt_flip, lt_less}
 use Rattle.zi_shelf.specs.Names.{Name, IsIn}
 use Rattle.zi_shelf.specs.Reading.{AreDistinct}
 use Rattle.zi_store.specs.Rising.{is_below, rises, is_among}
-
-pub and_parts : (a b : Bool) → (a && b) ≡ true → (a ≡ true) × (b ≡ true)
-and_parts true b h = (refl, h)
-and_parts false b h = absurd (cc h)
-
-pub and_whole : (a b : Bool) → a ≡ true → b ≡ true → (a && b) ≡ true
-and_whole a b h k = rw (h, k) refl
 
 -- membership
 pub contains_of_in : {X : Type 0} (x : X) (xs : List X) → IsIn x xs → Contains xs x
@@ -93,7 +87,7 @@ distinct_permuted xs ys p d = distinct_of_once ys (λ x. let e = sum_by-IsPermut
 -- a test of each
 pub all_of : {X : Type 0} (p : X → Bool) (xs : List X) → ((x : X) → IsIn x xs → p x ≡ true) → list_all p xs ≡ true
 all_of p [] h = refl
-all_of p (x ∷ xs) h = and_whole (p x) (list_all p xs) (h x (inl refl)) (all_of p xs (λ y i. h y (inr i)))
+all_of p (x ∷ xs) h = and_from (p x) (list_all p xs) (h x (inl refl)) (all_of p xs (λ y i. h y (inr i)))
 
 pub of_all : {X : Type 0} (p : X → Bool) (xs : List X) (x : X) → list_all p xs ≡ true → IsIn x xs → p x ≡ true
 of_all p [] x h i = absurd i
@@ -123,7 +117,7 @@ not_below_first key x xs s y i =
 pub rises_of_sorted : {X : Type 0} (key : X → Name) (xs : List X) → IsSortedBy (BelowBy key) xs → AreDistinct (map key xs) → rises (map key xs) ≡ true
 rises_of_sorted key [] s d = refl
 rises_of_sorted key (x ∷ xs) s d =
-    and_whole (is_below (key x) (map key xs)) (rises (map key xs))
+    and_from (is_below (key x) (map key xs)) (rises (map key xs))
     (all_of (λ m. is_lt (slice_cmp nat_cmp (key x) m)) (map key xs) (λ n i.
     let p = in_of_map key xs n i in
     let apart : key p.0 ≢ key x = λ e. d.0 (subst (λ z. IsIn z (map key xs)) (p.2 ∙ e) i) in

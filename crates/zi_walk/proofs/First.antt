@@ -3,6 +3,7 @@ use Rattle.std.proofs.Common.{◌≡◌, ℕ, zero, suc, ◌==◌, ◌+◌, ◌<
 use Rattle.std.specs.Prelude.{All}
 use Rattle.std.proofs.lemmas.Bool.{false≢true, false_from_ne_true}
 use Rattle.std.proofs.lemmas.List.Elements.{All-head, All-tail}
+use Rattle.zi_sat.proofs.CountLaws.{eqb_self}
 use Rattle.zi_formula.specs.declared.formula.Lit.{Lit}
 use Rattle.zi_formula.specs.declared.formula.Constraint.{Constraint}
 use Rattle.zi_formula.specs.Truth.{all_true}
@@ -38,7 +39,7 @@ use Rattle.zi_walk.specs.Laws.{IsFirst, FirstIsKept}
 use Rattle.zi_walk.proofs.Quiet.{true_known}
 use Rattle.zi_walk.specs.Rule.{is_undecided, is_chosen, so_far, walk_of, first_open, as_lit, walk_picks}
 use Rattle.zi_walk.proofs.Rules.{FirstAt, first_is, first_none, so_far_picks, NoneWaits, none_open, OpensAt, opens_at}
-use Rattle.zi_walk.proofs.Passed.{IsOf, not_open, walk_faithful, settled, reaches, stays, the_place, AllFaithful, learn_extends, self_known, eqb_self}
+use Rattle.zi_walk.proofs.Passed.{IsOf, not_open, walk_faithful, settled, reaches, stays, the_place, AllFaithful, learn_extends, self_known}
 
 first_here : (u : List Interface) (ps before : List Place) (p : Place) (behind : List Place) → ps ≡ before ++ p ∷ behind → All (IsFirst u) ps → IsFirst u p
 first_here u ps before p behind e h = at before (subst (λ xs. All (IsFirst u) xs) e h)

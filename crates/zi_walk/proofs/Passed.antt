@@ -5,6 +5,7 @@ use Rattle.std.specs.Prelude.{slice_get}
 use Rattle.std.proofs.lemmas.Bool.{false≢true}
 use Rattle.std.proofs.lemmas.Bool.Decides.{nat_tests}
 use Rattle.std.proofs.lemmas.Option.{slice_get_within}
+use Rattle.zi_sat.proofs.CountLaws.{eqb_self}
 use Rattle.zi_formula.specs.declared.formula.Lit.{Lit}
 use Rattle.zi_formula.specs.declared.formula.Constraint.{Constraint}
 use Rattle.zi_formula.specs.Truth.{all_true}
@@ -193,9 +194,6 @@ learn_extends k (l ∷ ls) o =
 pub self_known : (k : Known) (l : Lit) (t : Bool) → t ≡ true → cond t (Some l.positive) (k l.variable) ≡ Some l.positive
 self_known k l true e = refl
 self_known k l false e = absurd (false≢true e)
-
-pub eqb_self : (x : ℕ) → eqb x x ≡ true
-eqb_self x = grind (arith, nat_tests)
 
 -- t is the choice of v, and r that of x, which says what the trail knows in the end; their walks part at interface i, where t
 -- has e, and r has q, which is worse.

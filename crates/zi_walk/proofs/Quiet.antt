@@ -1,7 +1,7 @@
 -- Where no constraint has more to say and what is chosen is known, what is known to be true is a model of the families by
 -- itself; so every command that is used, and 64-bit where it is needed, is known.
 use Rattle.std.proofs.Common.{◌≡◌, ℕ, Bool, true, false, not, cond, ◌||◌, ◌&&◌, List, [], ◌∷◌, length, map, refl, sym, ap, ◌∙◌, subst, Option, Some, None, inl, inr}
-use Rattle.std.proofs.lemmas.Bool.{false≢true, cases_Bool}
+use Rattle.std.proofs.lemmas.Bool.{false≢true, cases_Bool, and_parts, or_left, or_right, not-true, not_from_false}
 use Rattle.zi_proof.specs.Known.{Known, says, is_false, standing, by_standing, Fails, Goes}
 use Rattle.zi_proof.proofs.Sound.{Agrees}
 use Rattle.zi_sat.specs.Trail.{fails, silent, all_silent}
@@ -11,7 +11,7 @@ use Rattle.zi_choice.specs.Choice.{Choice, pick, chosen}
 use Rattle.zi_choice.specs.Valid.{IsValid}
 use Rattle.zi_choice.specs.Vars.{Var, Cand, Cmd, Wide, var_number}
 use Rattle.zi_build.specs.Clauses.{Says, yes, Rule, Some_of, One_of, rules, lit_of, constraint_of, formula}
-use Rattle.zi_choice.proofs.Base.{and_split, or_split, or_left, or_right, chosen_is, chosen_from}
+use Rattle.zi_choice.proofs.Base.{or_split, chosen_is, chosen_from}
 use Rattle.zi_choice.proofs.WalkFacts.{Need}
 use Rattle.zi_build.proofs.Meaning.{Means}
 use Rattle.zi_build.proofs.MeansValid.{all_are_used}
@@ -22,13 +22,6 @@ use Rattle.zi_build.proofs.Formed.{Every, SaysListed, RuleListed, rules_listed}
 use Rattle.zi_build.proofs.Shapes.{IsCand, AsksCand, NegThen, Shape, shapes}
 use Rattle.zi_build.proofs.Central.{by_var}
 use Rattle.zi_walk.proofs.Passed.{IsOf, says_some}
-
-not_true : (b : Bool) → not b ≡ true → b ≡ false
-not_true true e = absurd (false≢true e)
-not_true false e = refl
-
-not_false : (b : Bool) → b ≡ false → not b ≡ true
-not_false b e = ap not e
 
 module _ (u : List Interface) (req : Requirement) (k : Known) (v : ℕ → Bool) (s : Choice) (agrees : Agrees v k) (of : IsOf u v s) (cand_known : (i c : ℕ) → pick s i ≡ Some c → says (k (var_number u (Cand i c))) true ≡ true) where
   abbrev pub w : Var → Bool
@@ -41,7 +34,7 @@ module _ (u : List Interface) (req : Requirement) (k : Known) (v : ℕ → Bool)
   stays_false y f = elim (cases_Bool (w y)) [ inl t ↦ absurd (false≢true (sym f ∙ below y t)) | inr g ↦ g ]
 
   lit_known : (y : Var) (b : Bool) → (b ≡ true → IsCand y) → Listed u y → cond b (v (var_number u y)) (not (v (var_number u y))) ≡ true → cond b (w y) (not (w y)) ≡ true
-  lit_known y false h l t = not_false (w y) (stays_false y (not_true (v (var_number u y)) t))
+  lit_known y false h l t = not_from_false (w y) (stays_false y (not-true (v (var_number u y)) t))
   lit_known (Cand i c) true h l t = cand_known i c (of.full i c l.0 l.1 t)
   lit_known (Cmd i c n) true h l t = absurd (h refl)
   lit_known Wide true h l t = absurd (h refl)
@@ -75,7 +68,7 @@ module _ (u : List Interface) (req : Requirement) (k : Known) (v : ℕ → Bool)
   horn z (x ∷ ls) (inl h) q =
       elim (cases_Bool (w x.of)) [
         | inl t ↦ or_right (says_true w x) (some_true w ls) (horn z ls h.1 (neg_case x ls h.0 t q))
-        | inr f ↦ or_left (says_true w x) (some_true w ls) (ap (λ b. cond b (w x.of) (not (w x.of))) h.0 ∙ not_false (w x.of) f)
+        | inr f ↦ or_left (says_true w x) (some_true w ls) (ap (λ b. cond b (w x.of) (not (w x.of))) h.0 ∙ not_from_false (w x.of) f)
       ]
   horn z (x ∷ ls) (inr h) q =
       subst (λ ys. some_true w ys ≡ true) (sym (ap (λ y. y ∷ ls) h.0 ∙ ap (λ ys. yes z ∷ ys) h.1)) (last_known z (subst (λ ys. fails (by_standing k (standing k (map (lit_of u) ys))) ≡ true) (ap (λ y. y ∷ ls) h.0 ∙ ap (λ ys. yes z ∷ ys) h.1) q))
@@ -116,8 +109,8 @@ module _ (u : List Interface) (req : Requirement) (k : Known) (v : ℕ → Bool)
   rules_known : (rs : List Rule) → Every Shape rs → Every (RuleListed u) rs → rules_true (by_var u v) rs ≡ true → all_silent k (map (constraint_of u) rs) ≡ true → rules_true w rs ≡ true
   rules_known [] h l t q = refl
   rules_known (r ∷ rs) h l t q =
-      let a = and_split (rule_true (by_var u v) r) (rules_true (by_var u v) rs) t in
-      let b = and_split (silent k (constraint_of u r)) (all_silent k (map (constraint_of u) rs)) q in
+      let a = and_parts (rule_true (by_var u v) r) (rules_true (by_var u v) rs) t in
+      let b = and_parts (silent k (constraint_of u r)) (all_silent k (map (constraint_of u) rs)) q in
       ap (λ x. x && rules_true w rs) (rule_known r h.0 l.0 a.0 b.0) ∙ rules_known rs h.1 l.1 a.1 b.1
 
   pub known_means : Means u req (by_var u v) → all_silent k (formula u req).constraints ≡ true → Means u req w
@@ -129,7 +122,7 @@ module _ (u : List Interface) (req : Requirement) (k : Known) (v : ℕ → Bool)
   true_known m q valid (Cand i c) l t = cand_known i c (pick_eq (pick s i) c t)
   true_known m q valid (Cmd i c n) l t =
       let mw = known_means m q in
-      let b = and_split _ (use_at valid.walk i n (chosen u s i)) t in
+      let b = and_parts _ (use_at valid.walk i n (chosen u s i)) t in
       let p = pick_eq (pick s i) c b.0 in
       let e = chosen_is u s i c l.0 p l.2 in
       let used = used_case u req s valid i c n l.0 l.1 l.3 (subst (λ o. use_at valid.walk i n o ≡ true) e b.1) in

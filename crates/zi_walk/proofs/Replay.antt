@@ -2,6 +2,7 @@
 use Rattle.std.proofs.Common.{◌≡◌, ℕ, Bool, true, false, not, eqb, cond, List, [], ◌∷◌, refl, sym, ap, ◌∙◌, subst, arith, Option, Some, None, ◌⊎◌, inl, inr}
 use Rattle.std.proofs.lemmas.Bool.{false≢true, cases_Bool}
 use Rattle.std.proofs.lemmas.Bool.Decides.{nat_tests}
+use Rattle.zi_sat.proofs.CountLaws.{eqb_self}
 use Rattle.zi_formula.specs.declared.formula.Lit.{Lit}
 use Rattle.zi_formula.specs.declared.formula.Constraint.{Constraint}
 use Rattle.zi_formula.specs.declared.formula.Constraint.TheVariants.{Clause, AtMostOne}
@@ -13,7 +14,7 @@ use Rattle.zi_sat.specs.declared.entry.Why.TheVariants.{Decision, Hint}
 use Rattle.zi_sat.specs.Trail.{lits_of, OpenAll}
 use Rattle.zi_sat.specs.Entries.{Makes, HasReason, HaveReasons}
 use Rattle.zi_choice.proofs.ThereLaws.{In}
-use Rattle.zi_walk.proofs.Passed.{Extends, put_extends, eqb_self}
+use Rattle.zi_walk.proofs.Passed.{Extends, put_extends}
 
 -- the hints
 abbrev pub go_on : Outcome → (Known → List ℕ) → List ℕ

@@ -6,6 +6,7 @@ use Rattle.std.proofs.lemmas.List.{append-nil, length-map, get_or-map}
 use Rattle.std.proofs.lemmas.Option.{slice_get_past, slice_get_within, get_or_from_slice_get}
 use Rattle.std.proofs.lemmas.List.Quantifiers.{position-Some}
 use Rattle.std.proofs.Math.Seq.{get_or-append_seam}
+use Rattle.std.proofs.lemmas.Bool.{not-true, not-false}
 use Rattle.zi_feed.specs.declared.feed.Dep.{Dep}
 use Rattle.zi_feed.specs.declared.feed.Command.{Command}
 use Rattle.zi_feed.specs.declared.feed.Runner.{Runner}
@@ -17,7 +18,7 @@ use Rattle.zi_choice.specs.Tasks.{place_at}
 use Rattle.zi_choice.specs.Traces.{as_use}
 use Rattle.zi_choice.proofs.WalkLaws.{true_false, none_some, some_same}
 use Rattle.zi_choice.proofs.GrowLaws.{grow_need, stays_listed, visit_lists}
-use Rattle.zi_choice.proofs.TaskLaws.{Came, Stayed, CameUse, StayedUse, came, stayed, came_use, stayed_use, keys_new, keys_old, was_new, was_old, same_use, a_used, less_place, less_use, listed_is, no_command, command_there}
+use Rattle.zi_choice.proofs.TaskLaws.{Came, Stayed, CameUse, StayedUse, came, stayed, came_use, stayed_use, keys_new, keys_old, same_use, a_used, less_place, less_use, listed_is, no_command, command_there}
 use Rattle.zi_walk.specs.declared.tasks.Task.{Task}
 use Rattle.zi_walk.specs.declared.tasks.Task.TheVariants.{Follow, FollowOne, Need}
 use Rattle.zi_choice.specs.declared.traced.Used.{Used}
@@ -130,10 +131,10 @@ pub record IsInserted (i : ℕ) (ks js : List ℕ) (new : Bool) : Type 0 where
   pub keys : js ≡ (if list_any (λ k. i == k) ks then ks else ks ++ i ∷ [])
 
 pub inserted_new : (i : ℕ) (ks js : List ℕ) (new : Bool) → IsInserted i ks js new → new ≡ true → js ≡ ks ++ i ∷ []
-inserted_new i ks js new h e = keys_new (list_any (λ k. i == k) ks) ks js i h.keys (was_new (list_any (λ k. i == k) ks) (sym h.added ∙ e))
+inserted_new i ks js new h e = keys_new (list_any (λ k. i == k) ks) ks js i h.keys (not-true (list_any (λ k. i == k) ks) (sym h.added ∙ e))
 
 pub inserted_old : (i : ℕ) (ks js : List ℕ) (new : Bool) → IsInserted i ks js new → new ≡ false → js ≡ ks
-inserted_old i ks js new h e = keys_old (list_any (λ k. i == k) ks) ks js i h.keys (was_old (list_any (λ k. i == k) ks) (sym h.added ∙ e))
+inserted_old i ks js new h e = keys_old (list_any (λ k. i == k) ks) ks js i h.keys (not-false (list_any (λ k. i == k) ks) (sym h.added ∙ e))
 
 bool_by : {G : Type 0} (b : Bool) → (b ≡ true → G) → (b ≡ false → G) → G
 bool_by true f g = f refl
@@ -186,7 +187,7 @@ pub need_lacks_steps : (u : List Interface) (i : ℕ) (name : List ℕ) (y : Sta
 need_lacks_steps u i name y ready none = stays u (NeedsThere u i name) y ready (λ s b agrees d. need_lacking (none s agrees d.0) d.1)
 
 pub used_same : (i : ℕ) (name : List ℕ) (ks js : List Used) → IsUsedNow i name ks js false → js ≡ ks
-used_same i name ks js h = keys_old (list_any (same_use i name) ks) ks js (a_used i name) h.keys (was_old (list_any (same_use i name) ks) (sym h.added))
+used_same i name ks js h = keys_old (list_any (same_use i name) ks) ks js (a_used i name) h.keys (not-false (list_any (same_use i name) ks) (sym h.added))
 
 pub need_old_steps : (u : List Interface) (i : ℕ) (name : List ℕ) (y : Stand) (js : List Used) → IsReady y → IsUsedNow i name y.used js false → Steps u (NeedsThere u i name) y (with_used y js) false
 need_old_steps u i name y js ready h s b w agrees d r =

@@ -3,6 +3,7 @@ use Rattle.std.proofs.Common.{◌≡◌, ℕ, zero, suc, ◌==◌, Bool, true, f
 use Rattle.std.specs.Prelude.{slice_get}
 use Rattle.std.proofs.lemmas.Bool.{false≢true, cases_eq}
 use Rattle.std.proofs.lemmas.Bool.Decides.{nat_tests}
+use Rattle.zi_sat.proofs.CountLaws.{eqb_self}
 use Rattle.zi_formula.specs.declared.formula.Lit.{Lit}
 use Rattle.zi_formula.specs.declared.formula.Constraint.{Constraint}
 use Rattle.zi_formula.specs.Truth.{lit_true}
@@ -28,7 +29,7 @@ use Rattle.zi_choice.proofs.Base.{any_at}
 use Rattle.zi_choice.proofs.ThereLaws.{In}
 use Rattle.zi_build.proofs.Meaning.{IsAt}
 use Rattle.zi_walk.specs.Rule.{walk_picks}
-use Rattle.zi_walk.proofs.Passed.{IsOf, Extends, put_extends, learn_extends, self_known, eqb_self, the_place}
+use Rattle.zi_walk.proofs.Passed.{IsOf, Extends, put_extends, learn_extends, self_known, the_place}
 use Rattle.zi_walk.proofs.Ways.{IsPassed, IsSaid, decision_said}
 use Rattle.zi_walk.proofs.Replay.{IsHinted, IsGiven, Stops}
 

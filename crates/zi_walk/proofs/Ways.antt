@@ -1,7 +1,7 @@
 -- While a candidate that is passed over is still undecided, each decision is what an earlier place says.
 use Rattle.std.proofs.Common.{◌≡◌, ℕ, zero, suc, ◌+◌, ◌<◌, Bool, true, false, cond, ◌&&◌, List, [], ◌∷◌, ◌++◌, length, map, refl, sym, ap, ◌∙◌, subst, arith, Option, Some, None, inl, inr}
 use Rattle.std.specs.Prelude.{slice_get}
-use Rattle.std.proofs.lemmas.Bool.{false≢true}
+use Rattle.std.proofs.lemmas.Bool.{false≢true, and_parts}
 use Rattle.std.proofs.lemmas.Option.{slice_get_within}
 use Rattle.zi_formula.specs.declared.formula.Lit.{Lit}
 use Rattle.zi_proof.specs.Known.{Known, says, is_open, true_ones}
@@ -18,7 +18,6 @@ use Rattle.zi_choice.proofs.ThereLaws.{walk_there, In}
 use Rattle.zi_choice.proofs.ApartLaws.{walks_part}
 use Rattle.zi_choice.specs.Vars.{Var, Cand, candidates_of, var_number}
 use Rattle.zi_build.specs.Clauses.{Rule, One_of, clause, each, keep, two_or_more, one_var, group_of, root_one, of_requirement, of_interface, constraint_of, formula, yes, lit_of}
-use Rattle.zi_choice.proofs.Base.{and_split}
 use Rattle.zi_build.proofs.Meaning.{IsAt}
 use Rattle.zi_choice.proofs.Base.{interface_at}
 use Rattle.zi_walk.specs.Rule.{is_undecided, is_chosen, so_far, walk_of, if_none, first_open, as_lit, walk_picks, first_where}
@@ -29,12 +28,12 @@ use Rattle.zi_walk.proofs.Passed.{IsOf, heads, tails, candidate_below, walk_fait
 silent_left : (u : List Interface) (k : Known) (a b : List Rule) → all_silent k (map (constraint_of u) (a ++ b)) ≡ true → all_silent k (map (constraint_of u) a) ≡ true
 silent_left u k [] b h = refl
 silent_left u k (r ∷ a) b h =
-    let s = and_split (silent k (constraint_of u r)) (all_silent k (map (constraint_of u) (a ++ b))) h in
+    let s = and_parts (silent k (constraint_of u r)) (all_silent k (map (constraint_of u) (a ++ b))) h in
     ap (λ x. x && all_silent k (map (constraint_of u) a)) s.0 ∙ silent_left u k a b s.1
 
 silent_right : (u : List Interface) (k : Known) (a b : List Rule) → all_silent k (map (constraint_of u) (a ++ b)) ≡ true → all_silent k (map (constraint_of u) b) ≡ true
 silent_right u k [] b h = h
-silent_right u k (r ∷ a) b h = silent_right u k a b (and_split (silent k (constraint_of u r)) (all_silent k (map (constraint_of u) (a ++ b))) h).1
+silent_right u k (r ∷ a) b h = silent_right u k a b (and_parts (silent k (constraint_of u r)) (all_silent k (map (constraint_of u) (a ++ b))) h).1
 
 silent_at : {A : Type 0} (u : List Interface) (k : Known) (n : ℕ) (f : ℕ → A → List Rule) (xs : List A) (i : ℕ) (x : A) → slice_get xs i ≡ Some x → all_silent k (map (constraint_of u) (each n f xs)) ≡ true → all_silent k (map (constraint_of u) (f (n + i) x)) ≡ true
 silent_at u k n f [] i x e h = absurd (none_some e)
@@ -46,7 +45,7 @@ silent_at u k n f (y ∷ ys) (suc i) x e h =
     subst (λ m. all_silent k (map (constraint_of u) (f m x)) ≡ true) z (silent_at u k (suc n) f ys i x e (silent_right u k (f n y) (each (suc n) f ys) h))
 
 kept_silent : (u : List Interface) (k : Known) (b : Bool) (r : Rule) → b ≡ true → all_silent k (map (constraint_of u) (keep b r)) ≡ true → silent k (constraint_of u r) ≡ true
-kept_silent u k true r e h = (and_split (silent k (constraint_of u r)) true h).0
+kept_silent u k true r e h = (and_parts (silent k (constraint_of u r)) true h).0
 kept_silent u k false r e h = absurd (false≢true e)
 
 -- a group with one true variable has no undecided one
@@ -98,7 +97,7 @@ one_decides u req k i c e x y q at_c at_e d t o =
     let first = clause (each 0 root_one (candidates_of u 0)) in
     let g = each 0 group_of u in
     let m = each 0 (of_interface u) u in
-    let s1 = and_split (silent k (constraint_of u first)) (all_silent k (map (constraint_of u) (of_requirement u req.command ++ (g ++ m)))) q in
+    let s1 = and_parts (silent k (constraint_of u first)) (all_silent k (map (constraint_of u) (of_requirement u req.command ++ (g ++ m)))) q in
     let s2 = silent_left u k g m (silent_right u k (of_requirement u req.command) (g ++ m) s1.1) in
     let z : 0 + i ≡ i = omega arith in
     let r = interface_at u i c x at_c in

@@ -2,6 +2,7 @@
 use Rattle.std.proofs.Common.{◌≡◌, Bool, true, false, ◌||◌, ◌&&◌, List, [], ◌∷◌, ◌++◌, refl, ap, ◌∙◌}
 use Rattle.std.specs.List.{list_any}
 use Rattle.std.proofs.lemmas.List.Folds.{list_any-append}
+use Rattle.std.proofs.lemmas.Bool.{or_parts}
 use Rattle.zi_words.specs.Options.{Item, clash, any_clash}
 
 pub or_none : (b : Bool) → (b || false) ≡ b
@@ -20,10 +21,6 @@ pub and_true : (b : Bool) → (b && true) ≡ b
 and_true true = refl
 and_true false = refl
 
-or_false : (a b : Bool) → a || b ≡ false → (a ≡ false) × (b ≡ false)
-or_false true b h = (cc, cc)
-or_false false b h = (refl, h)
-
 or_cases : {Q : Type 0} (a b : Bool) → a || b ≡ true → (a ≡ true → Q) → (b ≡ true → Q) → Q
 or_cases true b h f g = f refl
 or_cases false b h f g = g h
@@ -39,8 +36,8 @@ any_among p (y ∷ xs) x ys h = ap (λ v. p y || v) (any_among p xs x ys h) ∙ 
 pub clash_push : (xs : List Item) (x : Item) → any_clash xs ≡ false → list_any (λ y. clash y x) xs ≡ false → any_clash (xs ++ x ∷ []) ≡ false
 clash_push [] x h k = refl
 clash_push (y ∷ xs) x h k =
-    let a = or_false (list_any (λ j. clash y j) xs) (any_clash xs) h in
-    let b = or_false (clash y x) (list_any (λ z. clash z x) xs) k in
+    let a = or_parts (list_any (λ j. clash y j) xs) (any_clash xs) h in
+    let b = or_parts (clash y x) (list_any (λ z. clash z x) xs) k in
     let none : list_any (λ j. clash y j) (xs ++ x ∷ []) ≡ false = any_push (λ j. clash y j) xs x ∙ (ap (λ v. v || clash y x) a.0 ∙ b.0) in
     ap (λ v. v || any_clash (xs ++ x ∷ [])) none ∙ clash_push xs x a.1 b.1
 

@@ -3,9 +3,9 @@ use Rattle.std.specs.Prelude.{◌==◌, if◌then◌else◌, Ok, Err, option_map
 use Rattle.std.proofs.Common.{◌≡◌, ℕ, Bool, true, false, ◌||◌, ◌&&◌, List, [], ◌∷◌, ◌++◌, Option, Some, None, codes, refl, sym, ap, ◌∙◌, subst, arith}
 use Rattle.std.specs.List.{flat_map, list_all}
 use Rattle.std.proofs.lemmas.Bool.Decides.{nat_tests}
+use Rattle.std.proofs.lemmas.Bool.{and_parts}
 use Rattle.url.specs.Parser.{parse_url, Parsed}
 use Rattle.url.specs.Parts.{Parts, serialize}
-use Rattle.zi_docout.proofs.FineLemmas as fine
 use Rattle.zi_feed.specs.Texts.{same, is_none, pieces_of}
 use Rattle.zi_feed.specs.Address.{is_web, is_local, is_seen, web_text, joined_to, without_last, taken, names_left, settled, path_of, placed, resolved}
 use Rattle.zi_doc_laws.specs.Trees.{IsCarried}
@@ -72,7 +72,7 @@ seen_shown c h = grind (arith, nat_tests)
 all_shown : (t : List ℕ) → list_all is_seen t ≡ true → list_all is_shown t ≡ true
 all_shown [] h = refl
 all_shown (c ∷ t) h =
-    let x = fine.and_true (is_seen c) (list_all is_seen t) h in
+    let x = and_parts (is_seen c) (list_all is_seen t) h in
     ap (λ b. b && list_all is_shown t) (seen_shown c x.0) ∙ all_shown t x.1
 
 web_carried : (url : Parsed Parts) → IsCarriedOr (web_text url)

@@ -1,15 +1,15 @@
 -- An element can be written whose attributes can be, and whose children can be.
 use Rattle.std.specs.Prelude.{bytes_eq, not}
-use Rattle.std.proofs.Common.{◌≡◌, ℕ, suc, ◌+◌, nat_le, Bool, true, false, ◌||◌, cond, List, [], ◌∷◌, ◌++◌, map, Option, Some, None, refl, sym, ap, ◌∙◌}
+use Rattle.std.proofs.Common.{◌≡◌, ℕ, suc, ◌+◌, nat_le, Bool, true, false, ◌||◌, cond, List, [], ◌∷◌, ◌++◌, Some, None, refl, sym, ap, ◌∙◌}
 use Rattle.std.specs.List.{list_any, position_from}
 use Rattle.std.proofs.lemmas.List.Folds.{list_any-append}
+use Rattle.std.proofs.lemmas.Bool.{or_from, or_parts}
 use Rattle.zi_elements.specs.declared.element.Attr.{Attr}
 use Rattle.zi_forest.specs.Forest.{Forest, none, words, child, Elem}
-use Rattle.zi_names.specs.Names.{is_empty, has_twice}
+use Rattle.zi_names.specs.Names.{has_twice}
 use Rattle.zi_docout.specs.Canonical.{injector}
 use Rattle.zi_docout.specs.Amiss.{is_plain_name, is_carried, is_amiss_attr, is_amiss_text, same_name, texts, count, Standing, is_amiss, standing, alone, first_amiss}
 use Rattle.zi_docout.specs.Elements.{nodes, elem}
-use Rattle.zi_docout.proofs.FineLemmas as fine
 use Rattle.zi_universe.proofs.NamingLemmas.{bytes_eq-refl}
 use Rattle.zi_doc_laws.specs.Trees.{IsCarried}
 use Rattle.zi_sels_laws.proofs.LikeLaws.{Each}
@@ -21,10 +21,6 @@ use Rattle.zi_written_laws.proofs.DrawnLaws.{Drawn, drawn_fine, drawn_once, are_
 abbrev pub CanStand : ℕ → Elem → Type 0
 CanStand d e = list_any is_amiss (standing d (alone e)) ≡ false
 
-neither : (a b : Bool) → a ≡ false → b ≡ false → a || b ≡ false
-neither true b h k = cc
-neither false b h k = k
-
 no_texts : (es : List Elem) → texts (nodes es) ≡ []
 no_texts [] = refl
 no_texts (e ∷ es) = no_texts es
@@ -34,16 +30,16 @@ own_fine : (d : ℕ) (name : List ℕ) (attrs : List Attr) (f : Forest) → nat_
     → list_any (is_amiss_text (count f)) (texts f) ≡ false → is_amiss (record { around = d; space = injector; name = name; attrs = attrs; inside = f }) ≡ false
 unfolding is_amiss
 own_fine d name attrs f near plain values once text =
-    neither _ (has_twice same_name attrs)
-    (neither _ (list_any (is_amiss_text (count f)) (texts f))
-    (neither _ (list_any is_amiss_attr attrs)
-    (neither _ (not (is_plain_name name)) (neither (nat_le 64 d) (not (bytes_eq injector injector)) near (ap not (bytes_eq-refl injector))) (ap not plain)) values) text) once
+    or_from _ (has_twice same_name attrs)
+    (or_from _ (list_any (is_amiss_text (count f)) (texts f))
+    (or_from _ (list_any is_amiss_attr attrs)
+    (or_from _ (not (is_plain_name name)) (or_from (nat_le 64 d) (not (bytes_eq injector injector)) near (ap not (bytes_eq-refl injector))) (ap not plain)) values) text) once
 
 -- the first of nodes, what is in it, and the nodes behind it
 joined_fine : (s : Standing) (inner behind : List Standing) → is_amiss s ≡ false → list_any is_amiss inner ≡ false → list_any is_amiss behind ≡ false → list_any is_amiss (s ∷ (inner ++ behind)) ≡ false
 joined_fine s inner behind x y z =
-    neither (is_amiss s) (list_any is_amiss (inner ++ behind)) x
-    (list_any-append is_amiss inner behind ∙ neither (list_any is_amiss inner) (list_any is_amiss behind) y z)
+    or_from (is_amiss s) (list_any is_amiss (inner ++ behind)) x
+    (list_any-append is_amiss inner behind ∙ or_from (list_any is_amiss inner) (list_any is_amiss behind) y z)
 
 -- elements one behind another
 all_stand : (d : ℕ) (es : List Elem) → Each (CanStand d) es → list_any is_amiss (standing d (nodes es)) ≡ false
@@ -51,8 +47,8 @@ all_stand d [] h = refl
 all_stand d (e ∷ es) h =
     let here : Standing = record { around = d; space = e.space; name = e.name; attrs = e.attrs; inside = e.inside } in
     let inner : List Standing = standing (suc d) e.inside in
-    let x = fine.or_false (is_amiss here) (list_any is_amiss (inner ++ [])) h.0 in
-    let y = fine.or_false (list_any is_amiss inner) false (sym (list_any-append is_amiss inner []) ∙ x.1) in
+    let x = or_parts (is_amiss here) (list_any is_amiss (inner ++ [])) h.0 in
+    let y = or_parts (list_any is_amiss inner) false (sym (list_any-append is_amiss inner []) ∙ x.1) in
     joined_fine here inner (standing d (nodes es)) x.0 y.0 (all_stand d es h.1)
 
 pub elem_stands : {ns : List (List ℕ)} (d : ℕ) (name : List ℕ) (attrs : List Attr) (es : List Elem) → nat_le 64 d ≡ false → is_plain_name name ≡ true → Drawn ns attrs → are_own ns ≡ true
@@ -71,7 +67,7 @@ text_stands d name (x ∷ t) near plain c =
     let f : Forest = words (x ∷ t) none in
     let fit : not (is_carried (x ∷ t)) ≡ false = ap not (carried_passes (x ∷ t) c) in
     joined_fine (record { around = d; space = injector; name = name; attrs = []; inside = f }) [] []
-    (own_fine d name [] f near plain refl refl (neither (not (is_carried (x ∷ t))) false fit refl)) refl refl
+    (own_fine d name [] f near plain refl refl (or_from (not (is_carried (x ∷ t))) false fit refl)) refl refl
 
 none_found : (es : List Standing) (i : ℕ) → list_any is_amiss es ≡ false → position_from is_amiss i es ≡ None
 none_found [] i h = refl

@@ -7,6 +7,7 @@ use Rattle.std.specs.Str.{chars, is_utf8}
 use Rattle.std.proofs.Math.Utf8.{encode, scalar, scalars}
 use Rattle.std.proofs.lemmas.Str.{encodes-chars, chars-encodes, is_utf8-from_IsUtf8}
 use Rattle.std.proofs.lemmas.Bool.Decides.{nat_tests}
+use Rattle.std.proofs.lemmas.Bool.{and_from, and_parts}
 use Rattle.zi_text.specs.Pieces.{pieces}
 use Rattle.zi_xml.specs.Chars.{is_char}
 use Rattle.zi_xml.specs.Syntax.{AllAre}
@@ -19,10 +20,6 @@ use Rattle.zi_docout.proofs.FineLemmas as fine
 use Rattle.zi_feed.specs.Texts.{pieces_of}
 use Rattle.zi_sels_laws.proofs.LikeLaws.{Each}
 
-both : (a b : Bool) → a ≡ true → b ≡ true → (a && b) ≡ true
-both true b h k = k
-both false b h k = absurd (cc h)
-
 -- The test.
 
 char_scalar : (c : ℕ) → is_char c ≡ true → scalar c ≡ true
@@ -31,15 +28,15 @@ char_scalar c h = grind (arith, nat_tests)
 
 all_scalars : (cs : List ℕ) → AllAre is_char cs → scalars cs ≡ true
 all_scalars [] h = refl
-all_scalars (c ∷ cs) h = both (scalar c) (scalars cs) (char_scalar c h.0) (all_scalars cs h.1)
+all_scalars (c ∷ cs) h = and_from (scalar c) (scalars cs) (char_scalar c h.0) (all_scalars cs h.1)
 
 all_pass : (p : ℕ → Bool) (cs : List ℕ) → AllAre p cs → list_all p cs ≡ true
 all_pass p [] h = refl
-all_pass p (c ∷ cs) h = both (p c) (list_all p cs) h.0 (all_pass p cs h.1)
+all_pass p (c ∷ cs) h = and_from (p c) (list_all p cs) h.0 (all_pass p cs h.1)
 
 all_are : (p : ℕ → Bool) (cs : List ℕ) → list_all p cs ≡ true → AllAre p cs
 all_are p [] h = tt
-all_are p (c ∷ cs) h = let x = fine.and_true (p c) (list_all p cs) h in (x.0, all_are p cs x.1)
+all_are p (c ∷ cs) h = let x = and_parts (p c) (list_all p cs) h in (x.0, all_are p cs x.1)
 
 pub carried_passes : (t : List ℕ) → IsCarried t → is_carried t ≡ true
 unfolding is_carried
@@ -47,7 +44,7 @@ carried_passes t h =
     let u : scalars h.chars ≡ true = all_scalars h.chars h.right in
     let utf8 : IsUtf8 t = (h.chars, (u, sym h.bytes)) in
     let same : chars t ≡ h.chars = ap chars h.bytes ∙ chars-encodes h.chars u in
-    both (is_utf8 t) (list_all is_char (chars t)) (is_utf8-from_IsUtf8 t utf8) (ap (list_all is_char) same ∙ all_pass is_char h.chars h.right)
+    and_from (is_utf8 t) (list_all is_char (chars t)) (is_utf8-from_IsUtf8 t utf8) (ap (list_all is_char) same ∙ all_pass is_char h.chars h.right)
 
 pub passes_carried : (t : List ℕ) → is_carried t ≡ true → IsCarried t
 passes_carried t h = let x = fine.carried t h in record { chars = chars t; bytes = sym (encodes-chars t x.utf8); right = all_are is_char (chars t) x.chars }
@@ -71,9 +68,9 @@ record AreShown (t : List ℕ) : Type 0 where
 are_shown : (t : List ℕ) → list_all is_shown t ≡ true → AreShown t
 are_shown [] h = record { ascii = refl; chars = tt }
 are_shown (c ∷ t) h =
-    let x = fine.and_true (is_shown c) (list_all is_shown t) h in
+    let x = and_parts (is_shown c) (list_all is_shown t) h in
     let y = are_shown t x.1 in
-    record { ascii = both (is_ascii c) (list_all is_ascii t) (shown_ascii c x.0) y.ascii; chars = (shown_char c x.0, y.chars) }
+    record { ascii = and_from (is_ascii c) (list_all is_ascii t) (shown_ascii c x.0) y.ascii; chars = (shown_char c x.0, y.chars) }
 
 pub shown_carried : (t : List ℕ) → list_all is_shown t ≡ true → IsCarried t
 shown_carried t h = let x = are_shown t h in record { chars = t; bytes = sym (ascii t x.ascii).text; right = x.chars }

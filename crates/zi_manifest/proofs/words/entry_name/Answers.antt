@@ -1,9 +1,9 @@
 use Rattle.std.proofs.Common.{◌≡◌, true, sym, ◌∙◌, ap, rules}
 use Rattle.std.specs.Str.{is_utf8}
 use Rattle.std.proofs.lemmas.Str.{IsUtf8-from_is_utf8, is_utf8-from_IsUtf8}
+use Rattle.std.proofs.lemmas.Bool.{and_parts}
 use Rattle.zi_tree.specs.Order.{is_plain}
 use Rattle.zi_tree.proofs.Pieces.{plain_name}
-use Rattle.zi_manifest.proofs.Accepted.{and_parts}
 use Rattle.zi_manifest.specs.Manifest.{is_bad}
 use Rattle.zi_manifest.proofs.words.entry_name.Goals as goal
 
