@@ -31,7 +31,7 @@ equal_lists (x ∷ xs) (y ∷ ys) e =
     cc
 
 -- where all orders tie, those behind the first n do
-ties_behind : (n : ℕ) (os : List Order) (c d : Standing) → in_turn os c d ≡ Equal → in_turn (drop n os) c d ≡ Equal
+ties_behind : (n : ℕ) (os : List (Order Standing)) (c d : Standing) → in_turn os c d ≡ Equal → in_turn (drop n os) c d ≡ Equal
 ties_behind zero os c d e = e
 ties_behind (suc n) [] c d e = e
 ties_behind (suc n) (o ∷ os) c d e = ties_behind n os c d (then_parts (o c d) (in_turn os c d) e).1

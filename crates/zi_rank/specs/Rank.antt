@@ -16,33 +16,33 @@ use Rattle.zi_rank.specs.declared.types.Standing.{Standing}
 use Rattle.zi_rank.specs.Languages.{base, tag, language_place}
 use Rattle.zi_rank.specs.Reasons.{os_of, machine_of, is_at_hand}
 
--- An order answers `Less` where the first of two implementations stands before the second.
-abbrev pub Order : Type 0
-Order = Standing → Standing → Ordering
+-- An order answers `Less` where the first of two, as two implementations, stands before the second.
+abbrev pub Order : Type 0 → Type 0
+Order X = X → X → Ordering
 
 -- first the one with the smaller number, with the greater number, or with the mark
-abbrev pub smaller : (Standing → ℕ) → Order
+abbrev pub smaller : {X : Type 0} → (X → ℕ) → Order X
 smaller f c d = nat_cmp (f c) (f d)
 
-abbrev pub greater : (Standing → ℕ) → Order
+abbrev pub greater : {X : Type 0} → (X → ℕ) → Order X
 greater f c d = nat_cmp (f d) (f c)
 
-abbrev pub marked : (Standing → Bool) → Order
+abbrev pub marked : {X : Type 0} → (X → Bool) → Order X
 marked f c d = bool_cmp (f d) (f c)
 
 -- first the one with the lesser list of numbers, or with the greater one; a proper front is less
-abbrev pub smaller_list : (Standing → List ℕ) → Order
+abbrev pub smaller_list : {X : Type 0} → (X → List ℕ) → Order X
 smaller_list f c d = slice_cmp nat_cmp (f c) (f d)
 
-abbrev pub greater_list : (Standing → List ℕ) → Order
+abbrev pub greater_list : {X : Type 0} → (X → List ℕ) → Order X
 greater_list f c d = slice_cmp nat_cmp (f d) (f c)
 
 -- first the one with the greater version
-abbrev pub newer : Order
-newer c d = version_cmp d.version c.version
+abbrev pub newer : {X : Type 0} → (X → List ℕ) → Order X
+newer f c d = version_cmp (f d) (f c)
 
 -- by the first order of these that tells the two apart
-abbrev pub in_turn : List Order → Order
+abbrev pub in_turn : {X : Type 0} → List (Order X) → Order X
 in_turn [] c d = Equal
 in_turn (o ∷ os) c d = ordering_then (o c d) (in_turn os c d)
 
@@ -107,14 +107,14 @@ machine_number p s = unwrap_or (machine_place p (machine_of s.arch)) 0
 -- The components, one a line: the place of its languages; the user's preference; what is at hand where the network is to be
 -- spared; the level; the first dotted list of the version; the version; the operating system; the machine; the place of its
 -- whole tags; what is at hand; the id; the feed's address, and then the place in the feed.
-abbrev pub components : Policy → List Order
+abbrev pub components : Policy → List (Order Standing)
 components p =
     smaller (base_place p)
     ∷ marked is_preferred
     ∷ marked (is_ready p)
     ∷ greater (level p)
     ∷ greater_list first_numbers
-    ∷ newer
+    ∷ newer (λ s. s.version)
     ∷ smaller (os_number p)
     ∷ smaller (machine_number p)
     ∷ smaller (tag_place p)
@@ -124,7 +124,7 @@ components p =
     ∷ []
 
 -- the order of the rank
-unfoldable pub rank_cmp : Policy → Order
+unfoldable pub rank_cmp : Policy → Order Standing
 rank_cmp p c d = in_turn (components p) c d
 
 -- c stands before d

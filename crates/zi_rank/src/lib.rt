@@ -7,17 +7,20 @@
 //! are closed to proofs above (`unfoldable`): a layer that sorts by `compare` cites `RankOrder.rank_total`, that the order is
 //! total, and the law. The fifth component, the first dotted list of the version, decides nothing that the whole version
 //! doesn't: that is proved (`first_decides`), and the code leaves it out. Code: `types` (what decides), `reasons` (`usable`),
-//! `languages`, `components` (the value of each), `order` (`compare` and `before`, component by component), `laws`.
+//! `languages`, `components` (the value of each), `rating` (what a policy makes of one, computed once), `order` (`compare_rated`
+//! component by component, `compare` and `before`), `laws`. Who sorts rates each implementation once, and compares by ratings.
 #![tactic(auto)]
 
 mod components;
 mod languages;
 pub mod laws;
 mod order;
+mod rating;
 mod reasons;
 mod types;
 
 pub use languages::place_among;
-pub use order::{before, compare};
+pub use order::{before, compare, compare_rated};
+pub use rating::Rating;
 pub use reasons::usable;
 pub use types::{Standing, WhyNot};

@@ -1,19 +1,17 @@
 ghost use Rattle.std.specs.Prelude.{◌≡◌, ◌↔◌, IsTrue, drop, true};
 ghost use Rattle.zi_rank.specs.Reasons.{runs_on};
-ghost use Rattle.zi_rank.specs.Rank.{in_turn, components, rank_cmp, Before};
+ghost use Rattle.zi_rank.specs.Rank.{in_turn, rank_cmp, Before};
+ghost use Rattle.zi_rank.specs.Ratings.{rated_components, rated_cmp};
 
-use crate::components::{
-    language_base, language_tag, level_number, machine_rank_number, os_rank_number, preferred,
-    ready,
-};
+use crate::rating::Rating;
 use crate::reasons::at_hand;
 use crate::types::Standing;
 use std::cmp::Ordering;
 use zi_policy::Policy;
 
 // By the last three components.
-fn from_at_hand(c: &Standing, d: &Standing, p: &Policy) -> Ordering
-    ensures { result ≡ in_turn (drop 9 (components p.now)) c.now d.now }
+fn from_at_hand(q: &Rating, c: &Standing, r: &Rating, d: &Standing) -> Ordering
+    ensures { result ≡ in_turn (drop 9 rated_components) (q.now, c.now) (r.now, d.now) }
 {
     let here = at_hand(d).cmp(&at_hand(c));
     let id = d.id.as_str().cmp(c.id.as_str());
@@ -22,38 +20,47 @@ fn from_at_hand(c: &Standing, d: &Standing, p: &Policy) -> Ordering
 }
 
 // By the platform and the whole tags, and then by what comes behind.
-fn from_os(c: &Standing, d: &Standing, p: &Policy) -> Ordering
-    ensures { result ≡ in_turn (drop 6 (components p.now)) c.now d.now }
+fn from_os(q: &Rating, c: &Standing, r: &Rating, d: &Standing) -> Ordering
+    ensures { result ≡ in_turn (drop 6 rated_components) (q.now, c.now) (r.now, d.now) }
 {
-    let os = os_rank_number(c, p).cmp(&os_rank_number(d, p));
-    let machine = machine_rank_number(c, p).cmp(&machine_rank_number(d, p));
-    let tags = language_tag(c, p).cmp(&language_tag(d, p));
-    os.then(machine.then(tags.then(from_at_hand(c, d, p))))
+    let os = q.os.cmp(&r.os);
+    let machine = q.machine.cmp(&r.machine);
+    let tags = q.tags.cmp(&r.tags);
+    os.then(machine.then(tags.then(from_at_hand(q, c, r, d))))
 }
 
 // By the version, and then by what comes behind. Its first numbers decide nothing that the whole doesn't.
 #[tactic(auto, using(crate::proofs::RankLemmas::first_decides))]
-fn from_version(c: &Standing, d: &Standing, p: &Policy) -> Ordering
-    ensures { result ≡ in_turn (drop 4 (components p.now)) c.now d.now }
+fn from_version(q: &Rating, c: &Standing, r: &Rating, d: &Standing) -> Ordering
+    ensures { result ≡ in_turn (drop 4 rated_components) (q.now, c.now) (r.now, d.now) }
 {
     match d.version.cmp(&c.version) {
         Ordering::Less => Ordering::Less,
-        Ordering::Equal => from_os(c, d, p),
+        Ordering::Equal => from_os(q, c, r, d),
         Ordering::Greater => Ordering::Greater,
     }
 }
 
+/// The order of two implementations by their ratings, which stand before them: under a policy whose ratings these are it is
+/// that of `compare`. It takes no memory.
+#[tactic(auto, unfolding(crate::specs::Ratings::rated_cmp))]
+pub fn compare_rated(q: &Rating, c: &Standing, r: &Rating, d: &Standing) -> Ordering
+    ensures { result ≡ rated_cmp (q.now, c.now) (r.now, d.now) }
+{
+    let languages = q.base.cmp(&r.base);
+    let mark = r.preferred.cmp(&q.preferred);
+    let there = r.ready.cmp(&q.ready);
+    let levels = r.level.cmp(&q.level);
+    languages.then(mark.then(there.then(levels.then(from_version(q, c, r, d)))))
+}
+
 /// The order of two implementations under a policy: `Less` where the first stands before the second, by the first of the
 /// twelve components that tells them apart. A platform that isn't run ranks as one that is run best. It takes no memory.
-#[tactic(auto, unfolding(crate::specs::Rank::rank_cmp))]
+#[tactic(auto, using(crate::specs::RankOrder::rated_ranks))]
 pub fn compare(c: &Standing, d: &Standing, p: &Policy) -> Ordering
     ensures { result ≡ rank_cmp p.now c.now d.now }
 {
-    let languages = language_base(c, p).cmp(&language_base(d, p));
-    let mark = preferred(d).cmp(&preferred(c));
-    let there = ready(d, p).cmp(&ready(c, p));
-    let levels = level_number(d, p).cmp(&level_number(c, p));
-    languages.then(mark.then(there.then(levels.then(from_version(c, d, p)))))
+    compare_rated(&Rating::of(c, p), c, &Rating::of(d, p), d)
 }
 
 /// Whether an implementation stands before another under a policy that runs the platforms of both: by the first of the
