@@ -1,7 +1,7 @@
 //! What documents, elements and addresses mean.
 use crate::spelling;
 use std::alloc::Global;
-use zi_doc::{DocFault, read};
+use zi_doc::{DocFault, Document, read};
 use zi_elements::Element;
 use zi_feed::{
     Feed, FeedFault, Impl, binding_of, command_of, counts_as, counts_as_binding, dep_of,
@@ -49,7 +49,7 @@ fn put_feed_fault(out: &mut Sheet, fault: &FeedFault) {
 }
 
 /// Adds the feed that a tree is under an address, or its fault.
-fn put_tree(alloc: Global, out: &mut Sheet, tree: &Element, uri: &str) {
+fn put_tree(alloc: Global, out: &mut Sheet, tree: &Document, uri: &str) {
     match Feed::from_tree(alloc, tree, uri) {
         Ok(feed) => spelling::put_feed(alloc, out, &feed),
         Err(fault) => put_feed_fault(out, &fault),
@@ -100,7 +100,7 @@ fn put_places(out: &mut Sheet, impls: &[Impl]) {
 }
 
 /// Adds where the implementations of a feed lie; the fault's kind where it is none.
-fn put_place(alloc: Global, out: &mut Sheet, tree: &Element, base: &str) {
+fn put_place(alloc: Global, out: &mut Sheet, tree: &Document, base: &str) {
     match Feed::from_tree(alloc, tree, base) {
         Ok(feed) => put_places(out, feed.impls.as_slice()),
         Err(fault) => put_feed_fault(out, &fault),
@@ -190,8 +190,8 @@ fn put_meant(alloc: Global, out: &mut Sheet, e: &Element) -> Result<(), Memory> 
 /// Adds what the element of a document is by itself.
 fn put_element_of(alloc: Global, out: &mut Sheet, document: &str) {
     match read(alloc, document.as_bytes()) {
-        Ok(e) => {
-            let end = put_meant(alloc, out, &e);
+        Ok(tree) => {
+            let end = put_meant(alloc, out, tree.root());
             out.needs(end);
         }
         Err(fault) => put_doc_fault(out, &fault),

@@ -54,7 +54,7 @@ fn put_tree(alloc: Global, out: &mut Sheet, tree: &Element) {
 /// Adds what is written of the tree of these bytes.
 fn put_again(alloc: Global, out: &mut Sheet, bytes: &[u8]) {
     match read(alloc, bytes) {
-        Ok(tree) => put_tree(alloc, out, &tree),
+        Ok(tree) => put_tree(alloc, out, tree.root()),
         Err(fault) => put_doc_fault(out, &fault),
     }
 }

@@ -13,7 +13,9 @@ use crate::laws::one_answer;
 use crate::state::{Mode, Owner, Reader, Word};
 use std::alloc::Global;
 use std::{mem, str};
+use zi_doc_laws::what_is_read_keeps;
 use zi_elements::{Element, Node};
+use zi_forest::Document;
 use zi_names::Scopes;
 use zi_text::{List, Memory, Text};
 use zi_xml::answers_are_right;
@@ -180,12 +182,25 @@ fn read_checked(alloc: Global, bytes: &[u8]) -> Result<Element, DocFault>
     }
 }
 
-/// The tree that the bytes of a document spell (XML 1.0, Fifth Edition, without a document type declaration; Namespaces
+// The root as a document: bytes spell no tree that is too deep for one.
+fn read_document(alloc: Global, bytes: &[u8]) -> Result<Document, DocFault>
+    ensures found { IfOk result (λ e. Spells bytes.now e) }
+    ensures fault { IfErr result (λ e. FaultMeans bytes.now e) }
+{
+    what_is_read_keeps();
+    match read_checked(alloc, bytes) {
+        Ok(root) => Ok(Document::new(root)),
+        Err(fault) => Err(fault),
+    }
+}
+
+/// The document whose tree the bytes spell (XML 1.0, Fifth Edition, without a document type declaration; Namespaces
 /// in XML 1.0). The bytes are UTF-8, with or without a byte order mark, and places count all of them.
 ///
 /// `Bad` is answered exactly where the bytes spell no tree, with the kind and the place of the first fault that is shown.
-/// `Memory` is answered where memory was refused, and says nothing of the bytes. The tree is at most 64 elements deep.
-pub fn read(alloc: Global, bytes: &[u8]) -> Result<Element, DocFault>
+/// `Memory` is answered where memory was refused, and says nothing of the bytes. The tree is at most 64 elements deep, by
+/// its type.
+pub fn read(alloc: Global, bytes: &[u8]) -> Result<Document, DocFault>
     // What is read is the tree that the bytes spell.
     ensures found { IfOk result (λ e. Spells bytes.now e) }
     // What they spell is read, unless memory is refused.
@@ -196,5 +211,5 @@ pub fn read(alloc: Global, bytes: &[u8]) -> Result<Element, DocFault>
     ensures faulty { (k : Kind) (p : ℕ) → HasFault bytes.now k p → GivesFault result k p }
 {
     one_answer();
-    read_checked(alloc, bytes)
+    read_document(alloc, bytes)
 }

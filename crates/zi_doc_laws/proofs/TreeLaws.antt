@@ -2,14 +2,13 @@
 use Rattle.std.proofs.Common.{◌≡◌, ℕ, true, false, List, [], ◌++◌, sym, ap, ◌∙◌, subst, arith}
 use Rattle.std.specs.Prelude.{codes, encode_utf8_all}
 use Rattle.zi_elements.specs.declared.element.Element.{Element}
-use Rattle.zi_forest.specs.Forest.{Forest, none, joined, nodes_view}
+use Rattle.zi_forest.specs.Forest.{Forest, none, joined, nodes_view, whole}
 use Rattle.zi_names.specs.Names.{first_scope}
 use Rattle.zi_xml.specs.Syntax.{stop, void, pair, Root, alone, whole as of_content, doctype, root_text, IsRoot, Document, IsDocument, document_text, mark_text, declared_text, miscs_text}
 use Rattle.zi_xml.specs.Meaning.{Level, doctype_kind, passed, start, declared_told, root_told, document_told}
 use Rattle.zi_xml.proofs.CharLemmas.{append_none}
-use Rattle.zi_xml.specs.Documents.{SaysChars}
-use Rattle.zi_doc.specs.Documents.{Spells}
-use Rattle.zi_doc_laws.specs.Trees.{whole, places, AreRising}
+use Rattle.zi_xml.specs.Documents.{SaysChars, Spells}
+use Rattle.zi_doc_laws.specs.Trees.{places, AreRising}
 use Rattle.zi_doc_laws.proofs.CarriedLaws.{none_carried}
 use Rattle.zi_doc_laws.proofs.PastLaws.{Past, past_both, past_passed, past_declared, not_blamed}
 use Rattle.zi_doc_laws.proofs.FineLaws.{child_alone, joined_none, Fine, fine_none, RisesFrom, rising, Good, goes_on, good_start}
@@ -54,14 +53,14 @@ pub record IsKept (w : List ℕ) (t : Element) : Type 0 where
 
 pub spelled : (w : List ℕ) (t : Element) → Spells w t → IsKept w t
 spelled w t h =
-    let r : Level = h.1.0 in
-    let says = h.1.1 in
+    let r : Level = h.0 in
+    let says = h.1 in
     let chars : SaysChars says.0 r = says.2 in
     let d : Document = chars.document in
     let stands : Stands w 0 (document_text d) = stand_all w (document_text d) (says.1 ∙ ap encode_utf8_all chars.written) in
-    let clean : (document_told d).found ≡ [] = ap (λ (v : Level). v.found) (sym chars.told) ∙ h.1.2 in
+    let clean : (document_told d).found ≡ [] = ap (λ (v : Level). v.found) (sym chars.told) ∙ h.2 in
     let good : Good w 0 0 (document_told d) = document_kept w d chars.right stands clean in
-    let root : nodes_view (document_told d).before ≡ whole t = ap (λ (v : Level). nodes_view v.before) (sym chars.told) ∙ (ap nodes_view h.1.3 ∙ child_alone t) in
+    let root : nodes_view (document_told d).before ≡ whole t = ap (λ (v : Level). nodes_view v.before) (sym chars.told) ∙ (ap nodes_view h.3 ∙ child_alone t) in
     let fine : Fine w 0 (joined (nodes_view (document_told d).before) none) = good.nodes.fine none (fine_none w 0 (omega arith)) in
     let rises : RisesFrom 0 (places (nodes_view (document_told d).before) ++ []) = good.nodes.order [] tt in
     let P : Forest → Type 0 = λ v. Fine w 0 v in

@@ -1,21 +1,10 @@
 -- What a tree keeps that a document spells: relations over the tree and the bytes (XML 1.0, Fifth Edition, and Namespaces in XML 1.0).
-use Rattle.std.specs.Prelude.{◌≡◌, ℕ, suc, max, ◌<◌, Bool, true, false, ◌||◌, ◌==◌, List, [], ◌∷◌, ◌++◌, length, encode_utf8_all}
+use Rattle.std.specs.Prelude.{◌≡◌, ℕ, ◌<◌, Bool, true, false, ◌||◌, ◌==◌, List, [], ◌∷◌, ◌++◌, length, encode_utf8_all}
 use Rattle.zi_elements.specs.declared.element.Attr.{Attr}
-use Rattle.zi_elements.specs.declared.element.Element.{Element}
-use Rattle.zi_forest.specs.Forest.{Forest, none, words, child, nodes_view}
+use Rattle.zi_forest.specs.Forest.{Forest, none, words, child}
 use Rattle.zi_names.specs.Names.{is_empty, local as local_part}
 use Rattle.zi_xml.specs.Chars.{is_char, is_white}
 use Rattle.zi_xml.specs.Syntax.{AllAre, IsName}
-
--- a tree as nodes: its root alone
-abbrev pub whole : Element → Forest
-whole t = child t.space t.name t.attrs (nodes_view t.children) t.place none
-
--- How deep the elements among nodes go: an element that holds none is one deep.
-abbrev pub depth : Forest → ℕ
-depth none = 0
-depth (words t k) = depth k
-depth (child s n attrs f p k) = max (suc (depth f)) (depth k)
 
 -- nodes that begin with a text
 abbrev pub has_text_first : Forest → Bool

@@ -2,10 +2,11 @@
 //! The law is a function without parameters and with no work to do, whose clauses are what it says.
 ghost use Rattle.std.specs.Prelude.{ℕ, ◌≤◌, List};
 ghost use Rattle.zi_elements.specs.declared.element.Element.{Element};
-ghost use Rattle.zi_doc.specs.Documents.{Spells};
-ghost use Rattle.zi_doc_laws.specs.Trees.{whole, depth, HasWholeTexts, places, AreRising, HasTags, HasCarriedTexts};
+ghost use Rattle.zi_forest.specs.Forest.{whole, depth};
+ghost use Rattle.zi_xml.specs.Documents.{Spells};
+ghost use Rattle.zi_doc_laws.specs.Trees.{HasWholeTexts, places, AreRising, HasTags, HasCarriedTexts};
 
-/// What every tree keeps that bytes spell, and so every tree that `zi_doc::read` answers.
+/// What every tree keeps that bytes spell, and so every tree that is read.
 pub fn what_is_read_keeps()
     // Elements nest at most 64 deep.
     ensures deep { (w : List ℕ) (t : Element) → Spells w t → depth (whole t) ≤ 64 }

@@ -1,7 +1,4 @@
-ghost use Rattle.std.specs.Prelude.{◌≡◌, IfOk};
-
-use std::alloc::Global;
-use zi_text::{List, Memory, Text};
+use zi_text::{List, Text};
 
 /// An attribute of an element (XML 1.0, 3.1). Declarations of namespaces aren't attributes of the tree.
 #[derive(Debug, Drop, PartialEq, Eq)]
@@ -38,60 +35,4 @@ pub enum Node {
     Child(Element),
     /// A text, its line ends being LF (XML 1.0, 2.11) and its references replaced.
     Words(Text),
-}
-
-impl Attr {
-    /// The same attribute once more. Memory is its one refusal.
-    pub fn copy(&self, alloc: Global) -> Result<Attr, Memory>
-        ensures { IfOk result (λ a. a ≡ self.now) }
-    {
-        Ok(Attr {
-            space: self.space.copy(alloc)?,
-            name: self.name.copy(alloc)?,
-            value: self.value.copy(alloc)?,
-        })
-    }
-}
-
-fn copy_attrs(alloc: Global, attrs: &[Attr]) -> Result<List<Attr>, Memory>
-    ensures { IfOk result (λ b. b ≡ attrs.now) }
-{
-    let mut out = List::new(alloc);
-    for attr in attrs {
-        out.push(attr.copy(alloc)?)?;
-    }
-    Ok(out)
-}
-
-impl Node {
-    /// The same node once more. Memory is its one refusal. It recurses as deep as the tree is.
-    #[cycle(copying)]
-    pub fn copy(&self, alloc: Global) -> Result<Node, Memory>
-        ensures { IfOk result (λ n. n ≡ self.now) }
-    {
-        match self {
-            Node::Child(element) => Ok(Node::Child(element.copy(alloc)?)),
-            Node::Words(text) => Ok(Node::Words(text.copy(alloc)?)),
-        }
-    }
-}
-
-impl Element {
-    /// The same element once more. Memory is its one refusal. It recurses as deep as the tree is.
-    #[cycle(copying)]
-    pub fn copy(&self, alloc: Global) -> Result<Element, Memory>
-        ensures { IfOk result (λ e. e ≡ self.now) }
-    {
-        let mut children = List::new(alloc);
-        for child in self.children.as_slice() {
-            children.push(child.copy(alloc)?)?;
-        }
-        Ok(Element {
-            space: self.space.copy(alloc)?,
-            name: self.name.copy(alloc)?,
-            attrs: copy_attrs(alloc, self.attrs.as_slice())?,
-            children,
-            place: self.place,
-        })
-    }
 }

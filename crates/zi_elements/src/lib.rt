@@ -1,9 +1,10 @@
 //! The tree of a document: elements with their namespaces, attributes, children and places.
-//! Contracts see an element as a plain record of lists, and a copy is equal to what it copies.
-//! Trees that `zi_doc::read` gives are at most 64 deep, which bounds the recursion of a copy or a drop.
+//! Contracts see an element as a plain record of lists.
+//! Its types are all in src/element.rt.
 //!
-//! Its types and their copies are all in src/element.rt. The definitions over them stand where they are used: the tree as
-//! definitions go down it in `zi_forest`, what a document spells in `zi_xml`.
+//! A drop or a comparison recurses as deep as the tree is. A tree that was read stands in a `zi_forest::Document`, which goes at
+//! most 64 deep. The definitions over the types stand where they are used: the tree as definitions go down it in `zi_forest`,
+//! what a document spells in `zi_xml`.
 #![tactic(auto)]
 
 mod element;

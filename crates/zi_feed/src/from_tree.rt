@@ -13,6 +13,7 @@ use crate::{digests, finding, parts};
 use std::alloc::Global;
 use zi_digest::DigestName;
 use zi_elements::Element;
+use zi_forest::Document;
 use zi_text::{List, Memory};
 
 // The answer of a fault.
@@ -25,17 +26,25 @@ fn bad(fault: Fault) -> FeedFault
     }
 }
 
+// The feed that a document's root says.
+fn from_root(alloc: Global, root: &Element, uri: &str) -> Result<Feed, FeedFault>
+    ensures { Reads (feed_fault (element_view root.now) uri.now) (feed_of (element_view root.now) uri.now) result }
+{
+    let seen = finding::seen_in(alloc, Some(uri), root)?;
+    if let Some(fault) = finding::feed_fault(alloc, root, uri, seen.as_slice())? {
+        return Err(bad(fault));
+    }
+    Ok(finding::feed_of(alloc, root, uri, seen.as_slice())?)
+}
+
 impl Feed {
     /// The feed that a document says (the Zero Install feed format), read under an address. Bad exactly where it has a
-    /// fault: of all, the one of least place, and there the one of least kind. Memory is the other refusal.
-    pub fn from_tree(alloc: Global, tree: &Element, uri: &str) -> Result<Feed, FeedFault>
+    /// fault: of all, the one of least place, and there the one of least kind. Memory is the other refusal. It goes as deep
+    /// as the document, whose type bounds that.
+    pub fn from_tree(alloc: Global, tree: &Document, uri: &str) -> Result<Feed, FeedFault>
         ensures { Reads (feed_fault (element_view tree.now) uri.now) (feed_of (element_view tree.now) uri.now) result }
     {
-        let seen = finding::seen_in(alloc, Some(uri), tree)?;
-        if let Some(fault) = finding::feed_fault(alloc, tree, uri, seen.as_slice())? {
-            return Err(bad(fault));
-        }
-        Ok(finding::feed_of(alloc, tree, uri, seen.as_slice())?)
+        from_root(alloc, tree.root(), uri)
     }
 }
 

@@ -1,6 +1,6 @@
 -- A tree of elements as definitions read it: nodes and their siblings in one, so that what is said of all of them is said by
 -- structural recursion.
-use Rattle.std.specs.Prelude.{ℕ, Bool, not, ◌&&◌, List, [], ◌∷◌, ◌++◌, map, bytes_eq, Option, is_some, option_map, unwrap_or}
+use Rattle.std.specs.Prelude.{ℕ, suc, max, Bool, not, ◌&&◌, List, [], ◌∷◌, ◌++◌, map, bytes_eq, Option, is_some, option_map, unwrap_or}
 use Rattle.std.specs.List.{find}
 use Rattle.zi_elements.specs.declared.element.Attr.{Attr}
 use Rattle.zi_elements.specs.declared.element.Element.{Element}
@@ -84,3 +84,13 @@ nodes_view ns = gathered (map node_view ns)
 -- an element as the definitions read it
 abbrev pub element_view : Element → Elem
 element_view e = record { space = e.space; name = e.name; attrs = e.attrs; inside = nodes_view e.children; place = e.place }
+
+-- a tree as nodes: its root alone
+abbrev pub whole : Element → Forest
+whole t = child t.space t.name t.attrs (nodes_view t.children) t.place none
+
+-- How deep the elements among nodes go: an element that holds none is one deep.
+abbrev pub depth : Forest → ℕ
+depth none = 0
+depth (words t k) = depth k
+depth (child s n attrs f p k) = max (suc (depth f)) (depth k)

@@ -1,4 +1,11 @@
-//! Definitions alone: a tree of elements as definitions read it, nodes and siblings in one, so that what is said of all
-//! elements of a tree is said by structural recursion. specs/Forest.antt has them, with the view of an element.
-//! What is read of feeds and of selections, and what is written, is defined over this view.
+//! The tree of a document as definitions read it, and `Document`, the type of a tree that goes at most 64 elements deep.
+//!
+//! specs/Forest.antt has nodes and siblings in one, so that what is said of all elements of a tree is said by structural
+//! recursion, with the view of an element and the depth. What is read of feeds and of selections, and what is written, is
+//! defined over this view. Documents are made where bytes are read, by `zi_doc::read`: what recurses over one, a drop too, is
+//! bounded by its type.
 #![tactic(auto)]
+
+mod document;
+
+pub use document::Document;

@@ -21,6 +21,7 @@ use crate::types::{Selection, Selections};
 use std::alloc::Global;
 use zi_elements::Element;
 use zi_feed::{Fault, FeedKind, counts_as};
+use zi_forest::Document;
 use zi_text::{List, Memory, Text};
 
 // Whether a root is that of a selections document.
@@ -95,8 +96,8 @@ fn check_closed<'a>(
     Ok(())
 }
 
-// What a tree says as a selections document, or its fault.
-fn read_tree(alloc: Global, root: &Element) -> Result<Selections, SelsFault>
+// What a root says as a selections document, or its fault.
+fn read_root(alloc: Global, root: &Element) -> Result<Selections, SelsFault>
     ensures { ReadsTree (tree_fault (element_view root.now)) (selections_of (element_view root.now)) result }
 {
     if !is_selections(root) {
@@ -120,13 +121,20 @@ fn read_tree(alloc: Global, root: &Element) -> Result<Selections, SelsFault>
     })
 }
 
+// What a document says as selections, or its fault.
+fn read_tree(alloc: Global, tree: &Document) -> Result<Selections, SelsFault>
+    ensures { ReadsTree (tree_fault (element_view tree.now)) (selections_of (element_view tree.now)) result }
+{
+    read_root(alloc, tree.root())
+}
+
 // The selections that bytes say, or their fault.
 fn read_bytes(alloc: Global, bytes: &[u8]) -> Result<Selections, SelsFault>
     ensures found { IfOk result (λ s. Says bytes.now s) }
     ensures fault { IfErr result (λ f. FaultMeans bytes.now f) }
 {
-    let root = zi_doc::read(alloc, bytes)?;
-    read_tree(alloc, &root)
+    let tree = zi_doc::read(alloc, bytes)?;
+    read_tree(alloc, &tree)
 }
 
 /// The selections that a document says, in any layout, with elements and attributes passed over that the format doesn't have.

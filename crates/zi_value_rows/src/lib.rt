@@ -1,9 +1,7 @@
-//! Rows of small values that no program answers: texts, bytes, lists, elements, literals, and the laws of proofs.
+//! Rows of small values that no program answers: texts, bytes, lists, literals, and the laws of proofs.
 //! It has tests alone: in the crates whose calls they try, each of those would be proved once more for them.
 #![tactic(auto)]
 
-#[cfg(test)]
-mod elements;
 #[cfg(test)]
 mod laws;
 #[cfg(test)]

@@ -5,12 +5,12 @@ use Rattle.std.specs.List.{find, filter}
 use Rattle.std.specs.Option.{option_or}
 use Rattle.zi_elements.specs.declared.element.Attr.{Attr}
 use Rattle.zi_elements.specs.declared.element.Element.{Element}
-use Rattle.zi_forest.specs.Forest.{Forest, none, words, child, Elem, elements, text_in, is_attribute, value_among, attribute, value, nodes_view, element_view}
+use Rattle.zi_forest.specs.Forest.{Forest, none, words, child, Elem, elements, text_in, is_attribute, value_among, attribute, value, nodes_view, element_view, whole}
 use Rattle.zi_feed.specs.Address.{resolved}
 use Rattle.zi_feed.specs.Sites.{Ways, meaning, Site, here, under, sites, stands, is_closed, is_part, parts, path, inherited, Said, said}
 use Rattle.zi_feed.specs.Values.{those, named, address_in}
 use Rattle.zi_feed.specs.Words.{is_among}
-use Rattle.zi_doc_laws.specs.Trees.{whole, IsCarried, HasCarriedValues, HasCarriedTexts}
+use Rattle.zi_doc_laws.specs.Trees.{IsCarried, HasCarriedValues, HasCarriedTexts}
 use Rattle.zi_doc_laws.proofs.CarriedLaws.{none_carried, both_carried}
 use Rattle.zi_sels_laws.proofs.LikeLaws.{Each, each_append}
 use Rattle.zi_sels_laws.proofs.FreeLaws.{each_weak, each_map, sub_filter}

@@ -6,7 +6,7 @@ use Rattle.std.proofs.lemmas.List.{take_all, take_more}
 use Rattle.zi_policy.specs.declared.types.Policy.{Policy}
 use Rattle.zi_policy.specs.Platform.{listed, is_active}
 use Rattle.zi_outside.specs.Views.{Holding}
-use Rattle.zi_forest.specs.Forest.{element_view}
+use Rattle.zi_forest.specs.Forest.{element_view, whole}
 use Rattle.zi_feed.specs.declared.feed.Dep.{Dep}
 use Rattle.zi_feed.specs.declared.feed.Runner.{Runner}
 use Rattle.zi_feed.specs.declared.feed.Command.{Command}
@@ -22,8 +22,8 @@ use Rattle.zi_universe.specs.Candidates.{Store, is_followed, imports_of, active_
 use Rattle.zi_universe.specs.Whole.{uris_of, feed_limit}
 use Rattle.zi_universe.specs.Loading.{Reading, Says, no_feed, IsRead, IsInterface, reached, Loads}
 use Rattle.zi_universe.proofs.NamingLemmas.{all_of-append, joined-append, at_stage, length-map, listed-Contains, listed-cons, listed-without_repeats, bytes_eq-refl}
-use Rattle.zi_doc_laws.specs.Trees.{IsCarried, HasCarriedTexts, whole}
-use Rattle.zi_doc.specs.Documents.{Spells}
+use Rattle.zi_doc_laws.specs.Trees.{IsCarried, HasCarriedTexts}
+use Rattle.zi_xml.specs.Documents.{Spells}
 use Rattle.zi_elements.specs.declared.element.Element.{Element}
 use Rattle.zi_sels_laws.proofs.LikeLaws.{Each, each_append}
 use Rattle.zi_sels_laws.proofs.FreeLaws.{each_weak, each_map, each_of_flat, each_flat, sub_filter, each_filter}
@@ -148,7 +148,7 @@ read_carried kept told root uri f h u = by h.held h.means
 
     by : (held : Option (List ℕ)) → MatchOption held ((uri ≢ root) × (f ≡ no_feed uri)) (λ (bytes : List ℕ). (length bytes ≤ feed_limit) × Says uri bytes f) → IsCarriedFeed f
     by None k = subst IsCarriedFeed (sym k.1) none
-    by (Some bytes) k = let says = k.1 in subst IsCarriedFeed (sym says.3) (feed_carried (element_view says.0) uri u (root_carried says.0 (kept bytes says.0 says.1)))
+    by (Some bytes) k = let says = k.1 in subst IsCarriedFeed (sym says.3) (feed_carried (element_view says.0) uri u (root_carried says.0 (kept bytes says.0 says.1.1)))
 
 imports_carried : (p : Policy) (f : Feed) → IsCarriedFeed f → Each IsCarried (imports_of p f)
 imports_carried p f h =

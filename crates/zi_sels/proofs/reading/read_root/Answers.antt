@@ -4,7 +4,7 @@ use Rattle.zi_forest.specs.Forest.{element_view}
 use Rattle.zi_sels.specs.declared.types.Selection.{Selection}
 use Rattle.zi_sels.specs.Refused.{closed_fault}
 use Rattle.zi_sels.proofs.TreeLaws.{other_root, wrong_part, first_is, items_are, wrong_whole, rest_is, value_of}
-use Rattle.zi_sels.proofs.reading.read_tree.Goals as goal
+use Rattle.zi_sels.proofs.reading.read_root.Goals as goal
 
 pub returns-then-not-is_selections : goal.returns-then-not-is_selections
 returns-then-not-is_selections c = inr (other_root (element_view c.args.root.now) (sym c.is_selections.ensures ∙ c.if-not-is_selections.true))
