@@ -8,7 +8,7 @@ use Rattle.zi_xml.specs.Syntax.{stop, void, pair, Root, alone, whole as of_conte
 use Rattle.zi_xml.specs.Meaning.{Level, doctype_kind, passed, start, declared_told, root_told, document_told}
 use Rattle.zi_xml.proofs.CharLemmas.{append_none}
 use Rattle.zi_xml.specs.Documents.{SaysChars, Spells}
-use Rattle.zi_doc_laws.specs.Trees.{places, AreRising}
+use Rattle.zi_forest.specs.Places.{places, AreRising}
 use Rattle.zi_doc_laws.proofs.CarriedLaws.{none_carried}
 use Rattle.zi_doc_laws.proofs.PastLaws.{Past, past_both, past_passed, past_declared, not_blamed}
 use Rattle.zi_doc_laws.proofs.FineLaws.{child_alone, joined_none, Fine, fine_none, RisesFrom, rising, Good, goes_on, good_start}

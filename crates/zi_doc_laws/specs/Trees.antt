@@ -1,5 +1,5 @@
 -- What a tree keeps that a document spells: relations over the tree and the bytes (XML 1.0, Fifth Edition, and Namespaces in XML 1.0).
-use Rattle.std.specs.Prelude.{◌≡◌, ℕ, ◌<◌, Bool, true, false, ◌||◌, ◌==◌, List, [], ◌∷◌, ◌++◌, length, encode_utf8_all}
+use Rattle.std.specs.Prelude.{◌≡◌, ℕ, Bool, true, false, ◌||◌, ◌==◌, List, [], ◌∷◌, ◌++◌, length, encode_utf8_all}
 use Rattle.zi_elements.specs.declared.element.Attr.{Attr}
 use Rattle.zi_forest.specs.Forest.{Forest, none, words, child}
 use Rattle.zi_names.specs.Names.{is_empty, local as local_part}
@@ -18,22 +18,6 @@ abbrev pub HasWholeTexts : Forest → Type 0
 HasWholeTexts none = Unit {0}
 HasWholeTexts (words t k) = (is_empty t ≡ false) × ((has_text_first k ≡ false) × HasWholeTexts k)
 HasWholeTexts (child s n attrs f p k) = HasWholeTexts f × HasWholeTexts k
-
--- the places of the elements among nodes and in them, in document order
-abbrev pub places : Forest → List ℕ
-places none = []
-places (words t k) = places k
-places (child s n attrs f p k) = p ∷ (places f ++ places k)
-
--- a number is less than each of these
-abbrev pub IsBelow : ℕ → List ℕ → Type 0
-IsBelow p [] = Unit {0}
-IsBelow p (q ∷ qs) = (p < q) × IsBelow p qs
-
--- each is less than all behind it
-abbrev pub AreRising : List ℕ → Type 0
-AreRising [] = Unit {0}
-AreRising (p ∷ ps) = IsBelow p ps × AreRising ps
 
 -- what may stand behind the name of a start tag or of an empty tag: white space, `/`, `>`
 abbrev pub ends_name : ℕ → Bool

@@ -3,8 +3,9 @@
 ghost use Rattle.std.specs.Prelude.{ℕ, ◌≤◌, List};
 ghost use Rattle.zi_elements.specs.declared.element.Element.{Element};
 ghost use Rattle.zi_forest.specs.Forest.{whole, depth};
+ghost use Rattle.zi_forest.specs.Places.{places, AreRising};
 ghost use Rattle.zi_xml.specs.Documents.{Spells};
-ghost use Rattle.zi_doc_laws.specs.Trees.{HasWholeTexts, places, AreRising, HasTags, HasCarriedTexts};
+ghost use Rattle.zi_doc_laws.specs.Trees.{HasWholeTexts, HasTags, HasCarriedTexts};
 
 /// What every tree keeps that bytes spell, and so every tree that is read.
 pub fn what_is_read_keeps()

@@ -11,7 +11,8 @@ use Rattle.zi_feed.specs.Impls.{impl_of, impl_from, version_text}
 use Rattle.zi_feed.specs.Faults.{is_impl, has_fault, fault_at, kinds_at, faults_with, faults_at, counts, implementations, same_ids, root_faults, repeats_in, all_kinds}
 use Rattle.zi_feed.specs.Feeds.{feed_fault, feed_of, feed_sites, all_faults}
 use Rattle.zi_feed.specs.IdLaws.{by_bool, true_false, cons_nil, none_some, some_same, or_neither, both_empty, map_nil, second_fails, unclear_false, no_faults}
-use Rattle.zi_feed.specs.Places.{places, IsBelow, AreRising, impl_places, site_places, StandApart, ImplsAreInOrder}
+use Rattle.zi_forest.specs.Places.{places, IsBelow, AreRising}
+use Rattle.zi_feed.specs.Places.{impl_places, site_places, StandApart, ImplsAreInOrder}
 use Rattle.zi_feed.specs.declared.feed.Impl.{Impl}
 use Rattle.zi_feed.specs.declared.fault.FeedKind.TheVariants.{NotInterface, NoId, BadVersion, BadPart}
 

@@ -1,27 +1,12 @@
 -- Where the implementations of a feed stand.
-use Rattle.std.specs.Prelude.{ℕ, ◌<◌, ◌≡◌, List, [], ◌∷◌, ◌++◌, map, Some, None}
+use Rattle.std.specs.Prelude.{ℕ, ◌≡◌, List, map, Some, None}
 use Rattle.std.specs.List.{slice_get}
-use Rattle.zi_forest.specs.Forest.{Forest, none, words, child, Elem}
+use Rattle.zi_forest.specs.Forest.{Elem}
+use Rattle.zi_forest.specs.Places.{places, AreRising}
 use Rattle.zi_feed.specs.Sites.{Site}
 use Rattle.zi_feed.specs.Faults.{implementations}
 use Rattle.zi_feed.specs.Feeds.{feed_fault, feed_of, feed_sites}
 use Rattle.zi_feed.specs.declared.feed.Impl.{Impl}
-
--- the places of the elements among nodes and in them, in document order
-abbrev pub places : Forest → List ℕ
-places none = []
-places (words t k) = places k
-places (child s n attrs f p k) = p ∷ (places f ++ places k)
-
--- a number is less than each of these
-abbrev pub IsBelow : ℕ → List ℕ → Type 0
-IsBelow p [] = Unit {0}
-IsBelow p (q ∷ qs) = (p < q) × IsBelow p qs
-
--- each is less than all behind it
-abbrev pub AreRising : List ℕ → Type 0
-AreRising [] = Unit {0}
-AreRising (p ∷ ps) = IsBelow p ps × AreRising ps
 
 abbrev pub impl_places : List Impl → List ℕ
 impl_places = map (λ i. i.place)

@@ -3,9 +3,10 @@
 ghost use Rattle.std.specs.Prelude.{◌≡◌, ℕ, List, None};
 ghost use Rattle.zi_elements.specs.declared.element.Element.{Element};
 ghost use Rattle.zi_forest.specs.Forest.{element_view};
+ghost use Rattle.zi_forest.specs.Places.{AreRising};
 ghost use Rattle.zi_doc.specs.Documents.{Spells};
 ghost use Rattle.zi_feed.specs.Feeds.{feed_fault, feed_of};
-ghost use Rattle.zi_feed.specs.Places.{AreRising, impl_places, StandApart};
+ghost use Rattle.zi_feed.specs.Places.{impl_places, StandApart};
 
 use zi_doc_laws::what_is_read_keeps;
 use zi_feed::impls_are_in_order;

@@ -1,9 +1,9 @@
 //! The tree of a document as definitions read it, and `Document`, the type of a tree that goes at most 64 elements deep.
 //!
 //! specs/Forest.antt has nodes and siblings in one, so that what is said of all elements of a tree is said by structural
-//! recursion, with the view of an element and the depth. What is read of feeds and of selections, and what is written, is
-//! defined over this view. Documents are made where bytes are read, by `zi_doc::read`: what recurses over one, a drop too, is
-//! bounded by its type.
+//! recursion, with the view of an element and the depth, and specs/Places.antt where the elements stand. What is read of feeds
+//! and of selections, and what is written, is defined over this view. Documents are made where bytes are read, by
+//! `zi_doc::read`: what recurses over one, a drop too, is bounded by its type.
 #![tactic(auto)]
 
 mod document;
