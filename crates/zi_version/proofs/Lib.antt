@@ -2,6 +2,7 @@ pub mod Steps
 pub mod ReaderLemmas
 pub mod Order
 pub mod OrderLaws
+pub mod SpanLemmas
 pub mod VersionBytes
 pub mod CutLemmas
 pub mod RangeLemmas

@@ -3,4 +3,5 @@ pub mod Reading
 pub mod Fault
 pub mod Laws
 pub mod Range
+pub mod Spans
 pub mod Cuts

@@ -4,6 +4,7 @@
 
 ghost use Rattle.std.specs.Prelude.{◌≡◌, [], IfOk};
 
+use crate::ranges::Ranges;
 use crate::version::Version;
 use std::alloc::Global;
 use zi_text::{List, Memory};
@@ -25,7 +26,7 @@ pub enum Range {
     /// Those of which the one range holds.
     One(Alternative),
     /// Those of which one of the ranges holds.
-    Any(List<Alternative>),
+    Any(Ranges),
 }
 
 // The same end once more.
@@ -71,8 +72,8 @@ pub fn with_room(alloc: Global, count: usize) -> Result<List<Alternative>, Memor
     Ok(List::from_vec(Vec::with_capacity(alloc, count)?))
 }
 
-// The same ranges once more.
-fn copy_all(alloc: Global, ranges: &[Alternative]) -> Result<List<Alternative>, Memory>
+/// The same ranges once more.
+pub fn copy_all(alloc: Global, ranges: &[Alternative]) -> Result<List<Alternative>, Memory>
     ensures { IfOk result (λ copies. copies ≡ ranges.now) }
 {
     let mut copies = with_room(alloc, ranges.len())?;
@@ -94,7 +95,7 @@ impl Range {
                 Ok(Range::One(b))
             }
             Range::Any(ranges) => {
-                let copies = copy_all(alloc, ranges.as_slice())?;
+                let copies = ranges.copy(alloc)?;
                 Ok(Range::Any(copies))
             }
         }

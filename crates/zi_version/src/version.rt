@@ -1,5 +1,6 @@
-ghost use Rattle.std.specs.Prelude.{◌≡◌, IfOk, MatchResult};
+ghost use Rattle.std.specs.Prelude.{◌≡◌, Some, IfOk, MatchResult};
 ghost use Rattle.zi_version.specs.Fault.{FaultMeans};
+ghost use Rattle.zi_version.specs.Reading.{packed};
 ghost use Rattle.zi_version.specs.Value.{IsVersion, version_cmp};
 
 use crate::fault::VersionFault;
@@ -52,6 +53,13 @@ impl Version {
         ensures right { IsVersion self.now }
     {
         self.text.as_str()
+    }
+
+    // Its numbers and marks.
+    pub(crate) fn words(&self) -> &[Word]
+        ensures { packed self.now ≡ Some result.now }
+    {
+        self.words.as_slice()
     }
 
     /// The same version once more. Memory is its one refusal.
