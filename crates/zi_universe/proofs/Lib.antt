@@ -1,5 +1,6 @@
 pub mod NamingLemmas
 pub mod OfferLemmas
+pub mod LookupLemmas
 pub mod ReadingLemmas
 pub mod TableLemmas
 pub mod ListingLemmas

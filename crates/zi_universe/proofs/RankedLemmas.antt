@@ -1,25 +1,29 @@
 -- Sorted candidates that stand at different places each stand before all behind them.
-use Rattle.std.proofs.Common.{◌≡◌, ◌≢◌, ◌⊎◌, inl, inr, ℕ, zero, suc, ◌+◌, ◌<◌, ◌≤◌, Bool, true, false, ◌&&◌, ◌||◌, eqb, cond, List, [], ◌∷◌, ◌++◌, map, filter, get_or, bytes_eq, refl, sym, ap, subst, ◌∙◌, arith}
+use Rattle.std.proofs.Common.{◌≡◌, ◌≢◌, ◌⊎◌, inl, inr, ℕ, zero, suc, ◌+◌, ◌<◌, ◌≤◌, Bool, true, false, ◌&&◌, ◌||◌, eqb, cond, List, [], ◌∷◌, ◌++◌, map, filter, length, get_or, All, bytes_eq, refl, sym, ap, subst, ◌∙◌, arith}
 use Rattle.std.specs.Prelude.{IsPermutation, IsSortedBy}
 use Rattle.std.specs.Ordering.{is_lt}
 use Rattle.std.specs.List.{IsDistinct, AllByRecursion}
 use Rattle.std.proofs.lemmas.List.{get_or-map}
-use Rattle.std.proofs.lemmas.List.Sorted.{ranks_by, sorted_far, IsPermutation-map}
+use Rattle.std.proofs.lemmas.List.Elements.{All-nil, All-cons}
+use Rattle.std.proofs.lemmas.List.Sorted.{ranks_by, sorted_far, IsPermutation-map, All-permutation}
 use Rattle.std.proofs.lemmas.Map.Keys.{IsDistinct-IsPermutation, IsDistinct-head, IsDistinct-tail, IsDistinct-cons, apart_from_distinct, IsDistinct-from_apart}
 use Rattle.std.proofs.lemmas.Bool.Decides.{nat_tests}
 use Rattle.zi_policy.specs.declared.types.Policy.{Policy}
 use Rattle.zi_policy.specs.Platform.{listed}
 use Rattle.zi_rank.specs.Laws.{RanksAreStrict}
 use Rattle.zi_rank.specs.Rank.{rank_cmp}
-use Rattle.zi_rank.specs.RankOrder.{rank_total}
+use Rattle.zi_rank.specs.declared.rating.Rating.{Rating}
+use Rattle.zi_rank.specs.Ratings.{rating_of, rated_cmp}
+use Rattle.zi_rank.specs.RankOrder.{rank_total, rated_ranks}
 use Rattle.zi_feed.specs.declared.feed.Feed.{Feed}
 use Rattle.zi_feed.specs.declared.feed.Impl.{Impl}
 use Rattle.zi_universe.specs.declared.types.Candidate.{Candidate}
+use Rattle.zi_universe.specs.declared.ranking.RatedCandidate.{RatedCandidate}
 use Rattle.zi_universe.specs.declared.types.Requirement.{Requirement}
 use Rattle.zi_universe.specs.Naming.{Uri, Uris, AreApart}
 use Rattle.zi_universe.specs.Candidates.{Store, standing_of, candidate_of, offered_from, is_admitted, admitted_by, admitted, AreRanked}
 use Rattle.zi_universe.specs.Tables.{addresses}
-use Rattle.zi_universe.specs.Stages.{place_of, alike, ArePlaced, IsSorting}
+use Rattle.zi_universe.specs.Stages.{place_of, alike, ArePlaced, rated_one, IsSorting}
 use Rattle.zi_universe.proofs.NamingLemmas.{bytes_eq-true, bytes_eq-refl, bytes_eq-false, listed-cons, listed-Contains, map-append, length-map}
 
 -- Two places are alike, or not, either way.
@@ -70,8 +74,45 @@ ranked_pairs strict p cs up placed i j d lt in_list =
           (sorted_far (λ (x y : Candidate). is_lt (rank_cmp p x.standing y.standing)) (ranks_by (rank_total p) (λ (x : Candidate). x.standing)) cs up i j d (omega arith) in_list))
     ]
 
-pub sorting : RanksAreStrict → (p : Policy) (cs ds : List Candidate) → IsPermutation cs ds → IsSortedBy (λ c d. is_lt (rank_cmp p c.standing d.standing)) ds → IsSorting p cs ds
+sorting : RanksAreStrict → (p : Policy) (cs ds : List Candidate) → IsPermutation cs ds → IsSortedBy (λ c d. is_lt (rank_cmp p c.standing d.standing)) ds → IsSorting p cs ds
 sorting strict p cs ds same up = record { same = same; ranked = λ placed. ranked_pairs strict p ds up (placed_sorted cs ds same placed) }
+
+-- Candidates with their ratings.
+unrated_back : (p : Policy) (cs : List Candidate) → map (λ (r : RatedCandidate). r.candidate) (map (rated_one p) cs) ≡ cs
+unrated_back p [] = refl
+unrated_back p (c ∷ cs) = ap (λ q. c ∷ q) (unrated_back p cs)
+
+abbrev IsRated : Policy → RatedCandidate → Type 0
+IsRated p r = r.rating ≡ rating_of p r.candidate.standing
+
+all_rated : (p : Policy) (cs : List Candidate) → All (IsRated p) (map (rated_one p) cs)
+all_rated p [] = All-nil (IsRated p)
+all_rated p (c ∷ cs) = All-cons (IsRated p) (rated_one p c) (map (rated_one p) cs) refl (all_rated p cs)
+
+rated_up : (p : Policy) (rs : List RatedCandidate) → All (IsRated p) rs → IsSortedBy (λ x y. is_lt (rated_cmp (x.rating, x.candidate.standing) (y.rating, y.candidate.standing))) rs
+    → IsSortedBy (λ c d. is_lt (rank_cmp p c.standing d.standing)) (map (λ (r : RatedCandidate). r.candidate) rs)
+rated_up p rs rated up k d low high =
+    let unrate : RatedCandidate → Candidate = λ r. r.candidate in
+    let in_list : k + 1 < length rs = omega (arith, high, length-map unrate rs) in
+    let e : RatedCandidate = rated_one p d in
+    let x : RatedCandidate = get_or rs (k + 1) e in
+    let y : RatedCandidate = get_or rs k e in
+    ap (λ (q : Candidate). is_lt (rank_cmp p q.standing (get_or (map unrate rs) k d).standing)) (get_or-map unrate rs (k + 1) e d in_list)
+    ∙ ap (λ (q : Candidate). is_lt (rank_cmp p x.candidate.standing q.standing)) (get_or-map unrate rs k e d (omega (arith, in_list)))
+    ∙ ap is_lt (sym (rated_ranks p x.candidate.standing y.candidate.standing))
+    ∙ ap (λ (q : Rating). is_lt (rated_cmp (q, x.candidate.standing) (rating_of p y.candidate.standing, y.candidate.standing))) (sym (rated (k + 1) e in_list))
+    ∙ ap (λ (q : Rating). is_lt (rated_cmp (x.rating, x.candidate.standing) (q, y.candidate.standing))) (sym (rated k e (omega (arith, in_list))))
+    ∙ up k e low in_list
+
+-- candidates that were rated, and sorted by that
+pub rated_sorting : RanksAreStrict → (p : Policy) (cs : List Candidate) (rs ss : List RatedCandidate) (ds : List Candidate) → rs ≡ map (rated_one p) cs → IsPermutation rs ss
+    → IsSortedBy (λ x y. is_lt (rated_cmp (x.rating, x.candidate.standing) (y.rating, y.candidate.standing))) ss → ds ≡ map (λ r. r.candidate) ss → IsSorting p cs ds
+rated_sorting strict p cs rs ss ds rates same up back =
+    let unrate : RatedCandidate → Candidate = λ r. r.candidate in
+    let P : List Candidate → Type 0 = λ q. IsPermutation q (map unrate ss) in
+    let rated : All (IsRated p) ss = All-permutation (IsRated p) rs ss same (subst (All (IsRated p)) (sym rates) (all_rated p cs)) in
+    let moved : IsPermutation cs (map unrate ss) = subst P (ap (map unrate) rates ∙ unrated_back p cs) (IsPermutation-map unrate rs ss same) in
+    subst (IsSorting p cs) (sym back) (sorting strict p cs (map unrate ss) moved (rated_up p ss rated up))
 
 -- Those of feeds of different addresses stand at different places.
 weaker : {X : Type 0} (P Q : X → Type 0) → ((x : X) → P x → Q x) → (xs : List X) → AllByRecursion P xs → AllByRecursion Q xs

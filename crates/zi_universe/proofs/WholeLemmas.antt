@@ -6,14 +6,13 @@ use Rattle.zi_policy.specs.declared.types.Policy.{Policy}
 use Rattle.zi_policy.specs.Platform.{listed}
 use Rattle.zi_digest.specs.declared.DigestName.{DigestName}
 use Rattle.zi_digest.specs.Name.{spelling}
-use Rattle.zi_outside.specs.Views.{Holding, Feeding}
+use Rattle.zi_outside.specs.Views.{Holding}
 use Rattle.zi_universe.specs.declared.types.Requirement.{Requirement}
 use Rattle.zi_universe.specs.declared.types.Interface.{Interface}
-use Rattle.zi_universe.specs.declared.fault.LoadFault.{LoadFault}
 use Rattle.zi_universe.specs.Naming.{Uri, Uris, in_set, without_repeats, all_of, AreApart}
 use Rattle.zi_universe.specs.Candidates.{Store, AreRanked, asked_by}
 use Rattle.zi_universe.specs.Whole.{uris_of, BeginsWith, IsWhole}
-use Rattle.zi_universe.specs.Loading.{Reading, IsInterface, Loads, LoadsAsking, RefusesAsking, names_of}
+use Rattle.zi_universe.specs.Loading.{Reading, IsInterface, Loads, Task, names_of}
 use Rattle.zi_universe.proofs.NamingLemmas.{joined_behind, length-map, without_repeats_apart, listed-joined, listed-cons, Contains-listed, listed-Contains, listed-without_repeats}
 
 -- a list of names begins with the first
@@ -59,19 +58,12 @@ module _ (told : Option Holding) (req : Requirement) (p : Policy) (stored : Stor
   }
 
 -- The names of the stored trees, each once, are the same store.
+abbrev pub task : Requirement → Policy → Store → Task
+task req p stored = record { req = req; policy = p; stored = stored }
+
 same_store : (keys : Uris) (digests : List DigestName) → keys ≡ without_repeats (map spelling digests) → in_set keys ≡ names_of digests
 same_store keys digests e = λ i t. (ap (listed t) e ∙ listed-without_repeats t (map spelling digests)) i
 
-pub loads_stored : (req : Requirement) (p : Policy) (keys : Uris) (digests : List DigestName) (old : Feeding) (is : List Interface) (new : Feeding)
-    → keys ≡ without_repeats (map spelling digests) → LoadsAsking (record { req = req; policy = p; stored = in_set keys }) old is new
-    → LoadsAsking (record { req = req; policy = p; stored = names_of digests }) old is new
-loads_stored req p keys digests old is new e l =
-    let P : Store → Type 0 = λ q. LoadsAsking (record { req = req; policy = p; stored = q }) old is new in
-    subst P (same_store keys digests e) l
-
-pub refuses_stored : (req : Requirement) (p : Policy) (keys : Uris) (digests : List DigestName) (old : Feeding) (why : LoadFault) (new : Feeding)
-    → keys ≡ without_repeats (map spelling digests) → RefusesAsking (record { req = req; policy = p; stored = in_set keys }) old why new
-    → RefusesAsking (record { req = req; policy = p; stored = names_of digests }) old why new
-refuses_stored req p keys digests old why new e r =
-    let P : Store → Type 0 = λ q. RefusesAsking (record { req = req; policy = p; stored = q }) old why new in
-    subst P (same_store keys digests e) r
+pub same_task : (req : Requirement) (p : Policy) (keys : Uris) (digests : List DigestName) → keys ≡ without_repeats (map spelling digests)
+    → task req p (in_set keys) ≡ task req p (names_of digests)
+same_task req p keys digests e = ap (task req p) (same_store keys digests e)

@@ -1,6 +1,7 @@
 pub mod Asked
 pub mod Naming
 pub mod Candidates
+pub mod Lookups
 pub mod Whole
 pub mod Loading
 pub mod Tables

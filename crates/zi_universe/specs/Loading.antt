@@ -20,7 +20,7 @@ use Rattle.zi_universe.specs.declared.fault.BadFeed.{BadFeed}
 use Rattle.zi_universe.specs.declared.fault.BadFeed.TheVariants as bad
 use Rattle.zi_universe.specs.declared.fault.LoadFault.{LoadFault}
 use Rattle.zi_universe.specs.declared.fault.LoadFault.TheVariants as fault
-use Rattle.zi_universe.specs.Naming.{Uri, Uris, joined, without_repeats, all_of, IsNamed, IsClosed}
+use Rattle.zi_universe.specs.Naming.{Uri, Uris, in_set, joined, without_repeats, all_of, IsNamed, IsClosed}
 use Rattle.zi_universe.specs.Candidates.{Store, imports_of, admitted, AreCandidates, asked_by, asked_by_all}
 use Rattle.zi_universe.specs.Whole.{uris_of, candidates_in, most_feeds, most_candidates, most_interfaces, feed_limit}
 
@@ -181,6 +181,15 @@ pub record Task : Type 0 where
   pub req : Requirement
   pub policy : Policy
   pub stored : Store
+
+-- a task whose store is given by the names of its trees
+pub record Wish : Type 0 where
+  pub req : Requirement
+  pub policy : Policy
+  pub stored : Uris
+
+abbrev pub task_of : Wish → Task
+task_of w = record { req = w.req; policy = w.policy; stored = in_set w.stored }
 
 -- these addresses were asked for, in their order, and no call failed
 pub record AreAsked (uris : Uris) (old new : Feeding) : Type 0 where

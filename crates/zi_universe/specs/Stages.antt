@@ -4,12 +4,14 @@ use Rattle.std.specs.Prelude.{◌≡◌, ℕ, ◌+◌, ◌<◌, ◌≤◌, Bool,
 use Rattle.std.specs.List.{IsDistinct}
 use Rattle.zi_policy.specs.declared.types.Policy.{Policy}
 use Rattle.zi_policy.specs.Platform.{listed}
+use Rattle.zi_rank.specs.Ratings.{rating_of}
 use Rattle.zi_feed.specs.declared.feed.Feed.{Feed}
 use Rattle.zi_outside.specs.Count.{Rose}
 use Rattle.zi_outside.specs.Views.{Holding}
 use Rattle.zi_universe.specs.declared.types.Requirement.{Requirement}
 use Rattle.zi_universe.specs.declared.types.Interface.{Interface}
 use Rattle.zi_universe.specs.declared.types.Candidate.{Candidate}
+use Rattle.zi_universe.specs.declared.ranking.RatedCandidate.{RatedCandidate}
 use Rattle.zi_universe.specs.declared.loading.Loading.{Loading}
 use Rattle.zi_universe.specs.declared.fault.LoadFault.{LoadFault}
 use Rattle.zi_universe.specs.declared.fault.LoadFault.TheVariants as fault
@@ -126,6 +128,10 @@ alike a b = bytes_eq a.0 b.0 && a.1 == b.1
 -- no two of them stand at one place of one feed
 abbrev pub ArePlaced : List Candidate → Type 0
 ArePlaced cs = IsDistinct alike (map place_of cs)
+
+-- a candidate with its rating
+abbrev pub rated_one : Policy → Candidate → RatedCandidate
+rated_one p c = record { rating = rating_of p c.standing; candidate = c }
 
 -- these are the candidates, in rank order where their places differ
 pub record IsSorting (p : Policy) (offered cs : List Candidate) : Type 0 where

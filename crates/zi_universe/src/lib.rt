@@ -14,12 +14,13 @@
 //! set that keeps the order in which they were first asked for), the feeds got so far (`table`), the interfaces that are
 //! done, and the number of their candidates. `load_next` does one: `look_for` gets its feeds (`feeds`, each by `reading`) and
 //! gathers what they offer for it (`offers`, `copies`), `finish` counts the candidates, puts them into rank order
-//! (`ranking`), and names what they ask for (`naming`). Each step looks up in constant time; a loading is linear in what it
-//! reads, and n log n in the candidates of an interface. `universe` is the type that `load` alone makes.
+//! (`ranking`, which rates each once), and names what they ask for (`naming`). What a loading is for (`wanted`) finds overrides
+//! and limits by maps that are made once. Each step looks up in constant time; a loading is linear in what it reads, and
+//! n log n in the candidates of an interface. `universe` is the type that `load` alone makes.
 //!
-//! proofs: LoadedLemmas (one interface more), RankedLemmas (sorting gives the strict order), RefusalLemmas (the stop of a
-//! stage is the refusal of the whole), NextLemmas (these together), WholeLemmas (the invariant of `Universe`); OnceLemmas,
-//! ExclusionLemmas, RefusedOnceLemmas and SomeLemmas have the four laws.
+//! proofs: LookupLemmas (what the maps of `wanted` find), LoadedLemmas (one interface more), RankedLemmas (sorting gives the
+//! strict order), RefusalLemmas (the stop of a stage is the refusal of the whole), NextLemmas (these together), WholeLemmas
+//! (the invariant of `Universe`); OnceLemmas, ExclusionLemmas, RefusedOnceLemmas and SomeLemmas have the four laws.
 #![tactic(auto)]
 
 mod copies;
@@ -35,6 +36,7 @@ mod reading;
 mod table;
 mod types;
 mod universe;
+mod wanted;
 
 pub use fault::{BadFeed, LoadFault};
 pub use loading::load;

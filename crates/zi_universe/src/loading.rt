@@ -4,19 +4,20 @@ ghost use Rattle.zi_outside.specs.Views.{holding};
 ghost use Rattle.zi_universe.specs.Naming.{in_set};
 ghost use Rattle.zi_universe.specs.Whole.{BeginsWith, most_feeds, most_candidates};
 ghost use Rattle.zi_universe.specs.Tables.{addresses};
-ghost use Rattle.zi_universe.specs.Loading.{names_of, LoadsAsking, RefusesAsking};
+ghost use Rattle.zi_universe.specs.Loading.{task_of, names_of, LoadsAsking, RefusesAsking};
 ghost use Rattle.zi_universe.specs.Stages.{Gathers, IsAt, IsBegun, Finishes, StopsFinishing, LoadsNext};
 ghost use Rattle.zi_universe.specs.Asked.{GetsMore, LeavesListing, StopsLoading};
 
 use crate::fault::LoadFault;
 use crate::feeds::list_feeds;
 use crate::limits::{MOST_CANDIDATES, MOST_INTERFACES};
-use crate::naming::{add_asked, copy_at, single, spelled};
-use crate::offers::{Wanted, gather};
+use crate::naming::{add_asked, copy_at, single};
+use crate::offers::gather;
 use crate::ranking::rank;
 use crate::table::FeedTable;
 use crate::types::{Candidate, Interface, Requirement};
 use crate::universe::Universe;
+use crate::wanted::Wanted;
 use indexmap::IndexSet;
 use std::alloc::Global;
 use zi_digest::DigestName;
@@ -55,19 +56,19 @@ fn finish(
     alloc: Global,
     wanted: &Wanted,
     uri: Text,
-    mut candidates: Vec<Candidate>,
+    candidates: Vec<Candidate>,
     state: &mut Loading,
 ) -> Result<(), LoadFault>
     requires { state.old.count ≤ most_candidates }
-    ensures { MatchResult result (λ _. Finishes wanted.now.policy.now uri candidates.items state.old state.new)
-        (StopsFinishing wanted.now.policy.now candidates.items state.old) }
+    ensures { MatchResult result (λ _. Finishes wanted.now.policy uri candidates.items state.old state.new)
+        (StopsFinishing wanted.now.policy candidates.items state.old) }
 {
     if candidates.len() > MOST_CANDIDATES - state.count {
         let limit = MOST_CANDIDATES as u64;
         return Err(LoadFault::TooManyCandidates { limit });
     }
     state.count += candidates.len();
-    rank(candidates.as_mut_slice(), wanted.policy);
+    let candidates = rank(alloc, candidates, wanted.policy())?;
     add_asked(alloc, candidates.as_slice(), &mut state.names)?;
     if state.names.len() > MOST_INTERFACES {
         let limit = MOST_INTERFACES as u64;
@@ -88,14 +89,14 @@ fn look_for<F: Feeds>(
 ) -> Result<Vec<Candidate>, LoadFault>
     requires { length table.old ≤ most_feeds }
     ensures gathers { MatchResult result
-        (λ cs. Gathers (holding (F.seen feeds.old)) wanted.now.req.now wanted.now.policy.now (in_set wanted.now.stored.keys) uri.now table.old cs.items table.new)
-        (λ e. LeavesListing (holding (F.seen feeds.old)) wanted.now.req.now.interface wanted.now.policy.now uri.now table.old (F.seen feeds.old) e (F.seen feeds.new)) }
+        (λ cs. Gathers (holding (F.seen feeds.old)) wanted.now.req wanted.now.policy (in_set wanted.now.stored) uri.now table.old cs.items table.new)
+        (λ e. LeavesListing (holding (F.seen feeds.old)) wanted.now.req.interface wanted.now.policy uri.now table.old (F.seen feeds.old) e (F.seen feeds.new)) }
     ensures asks { OnOk result (GetsMore (addresses table.old) (addresses table.new) (F.seen feeds.old) (F.seen feeds.new)) }
 {
     let here = list_feeds(
         alloc,
-        &wanted.req.interface,
-        wanted.policy,
+        &wanted.req().interface,
+        wanted.policy(),
         uri,
         table,
         feeds,
@@ -111,11 +112,11 @@ fn load_next<F: Feeds>(
     state: &mut Loading,
     feeds: &mut F,
 ) -> Result<(), LoadFault>
-    requires at { IsAt (holding (F.seen feeds.old)) wanted.now.req.now wanted.now.policy.now (in_set wanted.now.stored.keys) state.old }
+    requires at { IsAt (holding (F.seen feeds.old)) wanted.now.req wanted.now.policy (in_set wanted.now.stored) state.old }
     requires more { length state.old.done < length state.old.names.keys }
     ensures next { MatchResult result
-        (λ _. LoadsNext (holding (F.seen feeds.old)) wanted.now.req.now wanted.now.policy.now (in_set wanted.now.stored.keys) state.old state.new)
-        (λ e. StopsLoading (holding (F.seen feeds.old)) wanted.now.req.now wanted.now.policy.now (in_set wanted.now.stored.keys) (addresses state.old.table) (F.seen feeds.old) e (F.seen feeds.new)) }
+        (λ _. LoadsNext (holding (F.seen feeds.old)) wanted.now.req wanted.now.policy (in_set wanted.now.stored) state.old state.new)
+        (λ e. StopsLoading (holding (F.seen feeds.old)) wanted.now.req wanted.now.policy (in_set wanted.now.stored) (addresses state.old.table) (F.seen feeds.old) e (F.seen feeds.new)) }
     ensures asks { OnOk result (GetsMore (addresses state.old.table) (addresses state.new.table) (F.seen feeds.old) (F.seen feeds.new)) }
 {
     let uri = copy_at(alloc, &state.names, state.done.len())?;
@@ -130,10 +131,10 @@ fn load_all<F: Feeds>(
     feeds: &mut F,
 ) -> Result<List<Interface>, LoadFault>
     ensures all { MatchResult result
-        (λ is. LoadsAsking (record { req = wanted.now.req.now; policy = wanted.now.policy.now; stored = in_set wanted.now.stored.keys }) (F.seen feeds.old) is (F.seen feeds.new))
-        (λ e. RefusesAsking (record { req = wanted.now.req.now; policy = wanted.now.policy.now; stored = in_set wanted.now.stored.keys }) (F.seen feeds.old) e (F.seen feeds.new)) }
+        (λ is. LoadsAsking (task_of wanted.now) (F.seen feeds.old) is (F.seen feeds.new))
+        (λ e. RefusesAsking (task_of wanted.now) (F.seen feeds.old) e (F.seen feeds.new)) }
 {
-    let mut state = begin(alloc, wanted.req)?;
+    let mut state = begin(alloc, wanted.req())?;
     while state.done.len() < state.names.len() {
         load_next(alloc, wanted, &mut state, feeds)?;
     }
@@ -160,12 +161,7 @@ pub fn load<F: Feeds>(
     ensures refuses { IfErr result (λ e. RefusesAsking (record { req = req.now; policy = policy.now; stored = names_of stored.now }) (F.seen feeds.old) e (F.seen feeds.new)) }
     ensures rooted { IfOk result (λ u. BeginsWith u req.now.interface) }
 {
-    let stored = spelled(alloc, stored)?;
-    let wanted = Wanted {
-        req,
-        policy,
-        stored,
-    };
+    let wanted = Wanted::new(alloc, req, policy, stored)?;
     let interfaces = load_all(alloc, &wanted, feeds)?;
     Ok(Universe::from_whole(interfaces))
 }

@@ -1,32 +1,20 @@
 //! What feeds offer for an interface, and what of it is admitted.
-ghost use Rattle.std.specs.Prelude.{◌≡◌, ◌∷◌, [], ◌++◌, ◌&&◌, Bool, map, filter, length, is_some, is_none, bytes_eq, IfOk, OnOk, find, option_map, option_copied};
-ghost use Rattle.std.specs.List.{list_any, list_all, flat_map, enumerate_from};
+ghost use Rattle.std.specs.Prelude.{◌≡◌, ◌∷◌, [], ◌++◌, map, filter, length, is_some, is_none, IfOk, OnOk};
+ghost use Rattle.std.specs.List.{flat_map, enumerate_from};
 ghost use Rattle.zi_policy.specs.Platform.{is_run, holds_where_asked};
-ghost use Rattle.zi_digest.specs.Name.{spelling};
-ghost use Rattle.zi_universe.specs.Candidates.{suits, is_followed, stability_of, is_stored, has_items, standing_of, candidate_of, within_limits, is_admitted, offered_by, admitted_by, admitted};
+ghost use Rattle.zi_universe.specs.Candidates.{suits, is_followed, has_items, standing_of, candidate_of, is_admitted, offered_by, admitted_by, admitted};
 ghost use Rattle.zi_universe.specs.Naming.{in_set};
 ghost use Rattle.zi_universe.specs.Tables.{feeds_at};
 
 use crate::copies::{active_copy, copy_arch, copy_texts};
 use crate::table::FeedTable;
-use crate::types::{Candidate, Limit, Requirement};
-use indexmap::IndexSet;
+use crate::types::Candidate;
+use crate::wanted::Wanted;
 use std::alloc::Global;
-use zi_digest::DigestName;
 use zi_feed::{Feed, Impl, Import};
-use zi_policy::{Arch, Override, Policy, Stability, machine_rank, os_rank};
+use zi_policy::{Arch, Policy, machine_rank, os_rank};
 use zi_rank::{Standing, place_among, usable};
 use zi_text::{Memory, Text};
-use zi_version::Version;
-
-/// What a loading is for: what is wanted, by which policy, and which trees are stored.
-#[derive(Drop)]
-pub struct Wanted<'a> {
-    pub req: &'a Requirement,
-    pub policy: &'a Policy,
-    /// The names of the digests of the trees that are stored.
-    pub stored: IndexSet<Text>,
-}
 
 // Whether languages suit the user: there are none, or one is spoken.
 #[tactic(auto, unfolding(crate::specs::Candidates::suits))]
@@ -54,44 +42,8 @@ pub fn is_followed(import: &Import, policy: &Policy) -> bool
     is_run(&import.arch, policy) && suits(policy.langs.as_slice(), import.langs.as_slice())
 }
 
-// The override for an interface and an id, where there is one.
-fn find_override<'a>(overrides: &'a [Override], interface: &Text, id: &Text) -> Option<&'a Override>
-    ensures { option_copied result ≡ find (λ o. bytes_eq o.interface interface.now && bytes_eq o.id id.now) overrides.now }
-{
-    for o in overrides {
-        if o.interface == *interface && o.id == *id {
-            return Some(o);
-        }
-    }
-    None
-}
-
-// The stability that counts for an implementation of an interface.
-#[tactic(auto, unfolding(crate::specs::Candidates::stability_of))]
-fn stability(policy: &Policy, interface: &Text, imp: &Impl) -> Stability
-    ensures { result ≡ stability_of policy.now interface.now imp.now }
-{
-    match find_override(policy.overrides.as_slice(), interface, &imp.id) {
-        None => imp.stability,
-        Some(o) => o.stability,
-    }
-}
-
-// Whether one of the digests has a name that is stored.
-fn is_stored(alloc: Global, stored: &IndexSet<Text>, digests: &[DigestName]) -> Result<bool, Memory>
-    ensures { IfOk result (λ b. b ≡ list_any (λ d. in_set stored.now.keys (spelling d)) digests.now) }
-{
-    for digest in digests {
-        let name = digest.text(alloc)?;
-        if stored.contains(&name) {
-            return Ok(true);
-        }
-    }
-    Ok(false)
-}
-
 // An implementation's standing for an interface.
-#[tactic(auto, unfolding(crate::specs::Candidates::standing_of, crate::specs::Candidates::is_stored))]
+#[tactic(auto, unfolding(crate::specs::Candidates::standing_of))]
 fn standing(
     alloc: Global,
     wanted: &Wanted,
@@ -100,14 +52,14 @@ fn standing(
     place: u64,
     imp: &Impl,
 ) -> Result<Standing, Memory>
-    ensures { IfOk result (λ s. s ≡ standing_of wanted.now.policy.now (in_set wanted.now.stored.keys) interface.now feed.now place imp.now) }
+    ensures { IfOk result (λ s. s ≡ standing_of wanted.now.policy (in_set wanted.now.stored) interface.now feed.now place imp.now) }
 {
     let version = imp.version.copy(alloc)?;
     let id = imp.id.copy(alloc)?;
     let feed = feed.copy(alloc)?;
     let arch = copy_arch(alloc, &imp.arch)?;
     let langs = copy_texts(alloc, &imp.langs)?;
-    let stored = is_stored(alloc, &wanted.stored, imp.digests.as_slice())?;
+    let stored = wanted.is_stored(alloc, imp)?;
     Ok(Standing {
         version,
         id,
@@ -115,24 +67,11 @@ fn standing(
         place,
         arch,
         langs,
-        stability: stability(wanted.policy, interface, imp),
+        stability: wanted.stability(interface, imp),
         local: imp.local.is_some(),
         stored,
         retrievable: !imp.digests.is_empty() && !imp.methods.is_empty(),
     })
-}
-
-// Whether every limit for the interface admits the version.
-#[tactic(auto, unfolding(crate::specs::Candidates::within_limits))]
-fn is_within_limits(limits: &[Limit], interface: &Text, version: &Version) -> bool
-    ensures { result ≡ within_limits limits.now interface.now version.now }
-{
-    for limit in limits {
-        if limit.interface == *interface && !limit.range.admits(version) {
-            return false;
-        }
-    }
-    true
 }
 
 // Adds an implementation of a feed, if it is admitted.
@@ -145,17 +84,16 @@ fn offer_one(
     imp: &Impl,
     candidates: &mut Vec<Candidate>,
 ) -> Result<(), Memory>
-    ensures { OnOk result (candidates.new.items ≡ candidates.old.items ++ filter (is_admitted wanted.now.req.now wanted.now.policy.now interface.now)
-        (candidate_of wanted.now.policy.now (in_set wanted.now.stored.keys) interface.now feed.now place imp.now ∷ [])) }
+    ensures { OnOk result (candidates.new.items ≡ candidates.old.items ++ filter (is_admitted wanted.now.req wanted.now.policy interface.now)
+        (candidate_of wanted.now.policy (in_set wanted.now.stored) interface.now feed.now place imp.now ∷ [])) }
 {
     let standing = standing(alloc, wanted, interface, feed, place, imp)?;
-    let limits = wanted.req.limits.as_slice();
-    if usable(&standing, wanted.policy).is_some()
-        || !is_within_limits(limits, interface, &standing.version)
+    if usable(&standing, wanted.policy()).is_some()
+        || !wanted.is_within_limits(interface, &standing.version)
     {
         return Ok(());
     }
-    let imp = active_copy(alloc, wanted.policy, imp)?;
+    let imp = active_copy(alloc, wanted.policy(), imp)?;
     candidates.push(Candidate { standing, imp })?;
     Ok(())
 }
@@ -168,7 +106,7 @@ fn offer(
     feed: &Feed,
     candidates: &mut Vec<Candidate>,
 ) -> Result<(), Memory>
-    ensures { OnOk result (candidates.new.items ≡ candidates.old.items ++ admitted_by wanted.now.req.now wanted.now.policy.now (in_set wanted.now.stored.keys) interface.now feed.now) }
+    ensures { OnOk result (candidates.new.items ≡ candidates.old.items ++ admitted_by wanted.now.req wanted.now.policy (in_set wanted.now.stored) interface.now feed.now) }
 {
     for (place, imp) in feed.impls.as_slice().iter().enumerate() {
         offer_one(
@@ -192,7 +130,7 @@ pub fn gather(
     table: &FeedTable,
     here: &[Text],
 ) -> Result<Vec<Candidate>, Memory>
-    ensures { IfOk result (λ cs. cs.items ≡ admitted wanted.now.req.now wanted.now.policy.now (in_set wanted.now.stored.keys) interface.now (feeds_at table.now here.now)) }
+    ensures { IfOk result (λ cs. cs.items ≡ admitted wanted.now.req wanted.now.policy (in_set wanted.now.stored) interface.now (feeds_at table.now here.now)) }
 {
     let mut candidates = Vec::new(alloc);
     for uri in here {

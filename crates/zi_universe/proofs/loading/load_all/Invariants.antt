@@ -8,7 +8,7 @@ use Rattle.zi_universe.proofs.loading.load_all.Given as goal
 
 abbrev pub invariant-loop-alloc : goal.invariant-loop-alloc
 invariant-loop-alloc g l = record {
-  at : IsAt (holding (g.F.Feeds.seen l.initial.feeds)) l.wanted.req.now l.wanted.policy.now (in_set l.wanted.stored.keys) l.state;
+  at : IsAt (holding (g.F.Feeds.seen l.initial.feeds)) l.wanted.req l.wanted.policy (in_set l.wanted.stored) l.state;
   got : GetsMore [] (addresses l.state.table) (g.F.Feeds.seen l.initial.feeds) (g.F.Feeds.seen l.feeds);
 }
 

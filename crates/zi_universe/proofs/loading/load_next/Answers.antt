@@ -11,11 +11,11 @@ returns-in_err-uri-clause-next g c =
     let seen = g.F.Feeds.seen c.args.feeds.now in
     let q = err_from_is_err_and c.from_residual.result c.from_residual.ensures.1 in
     rw (q.1, q.2)
-    (stops_before (holding seen) c.args.wanted.now.req.now c.args.wanted.now.policy.now (in_set c.args.wanted.now.stored.keys) c.args.state.now seen c.requires.at c.requires.more)
+    (stops_before (holding seen) c.args.wanted.now.req c.args.wanted.now.policy (in_set c.args.wanted.now.stored) c.args.state.now seen c.requires.at c.requires.more)
 
 pub finish-requires : goal.finish-requires
 finish-requires g c =
-    few_counted (holding (g.F.Feeds.seen c.args.feeds.now)) c.args.wanted.now.req.now c.args.wanted.now.policy.now (in_set c.args.wanted.now.stored.keys) c.args.state.now c.requires.at
+    few_counted (holding (g.F.Feeds.seen c.args.feeds.now)) c.args.wanted.now.req c.args.wanted.now.policy (in_set c.args.wanted.now.stored) c.args.state.now c.requires.at
 
 pub returns-in_err-candidates-clause-next : goal.returns-in_err-candidates-clause-next
 returns-in_err-candidates-clause-next g c =
@@ -25,7 +25,7 @@ returns-in_err-candidates-clause-next g c =
     let next : slice_get s.names.keys (length s.done) ≡ Some c.in_ok-uri.uri = subst P c.len.ensures c.in_ok-uri.ensures in
     let q = err_from_is_err_and c.from_residual-in_err-candidates.result c.from_residual-in_err-candidates.ensures.1 in
     rw (q.1, q.2)
-    (stops_listing (holding seen) c.args.wanted.now.req.now c.args.wanted.now.policy.now (in_set c.args.wanted.now.stored.keys) s.done s.names.keys s.table c.in_ok-uri.uri
+    (stops_listing (holding seen) c.args.wanted.now.req c.args.wanted.now.policy (in_set c.args.wanted.now.stored) s.done s.names.keys s.table c.in_ok-uri.uri
     c.requires.at.loaded next seen (g.F.Feeds.seen c.look_for.new.feeds) c.in_err-candidates.field-0.0 c.in_err-candidates.ensures.gathers)
 
 pub returns-clause-next : goal.returns-clause-next
@@ -33,7 +33,7 @@ returns-clause-next g c =
     let s = c.args.state.now in
     let seen = g.F.Feeds.seen c.args.feeds.now in
     let P : ℕ → Type 0 = λ n. slice_get s.names.keys n ≡ Some c.in_ok-uri.uri in
-    next_done (holding seen) c.args.wanted.now.req.now c.args.wanted.now.policy.now (in_set c.args.wanted.now.stored.keys) s c.in_ok-uri.uri c.requires.at
+    next_done (holding seen) c.args.wanted.now.req c.args.wanted.now.policy (in_set c.args.wanted.now.stored) s c.in_ok-uri.uri c.requires.at
     (subst P c.len.ensures c.in_ok-uri.ensures) c.in_ok-candidates.candidates.items c.look_for.new.table c.in_ok-candidates.ensures.gathers c.finish.result c.finish.new.state
     seen (g.F.Feeds.seen c.look_for.new.feeds) c.in_ok-candidates.ensures.asks c.finish.ensures
 
@@ -42,6 +42,6 @@ returns-clause-asks g c =
     let s = c.args.state.now in
     let seen = g.F.Feeds.seen c.args.feeds.now in
     let P : ℕ → Type 0 = λ n. slice_get s.names.keys n ≡ Some c.in_ok-uri.uri in
-    next_gets (holding seen) c.args.wanted.now.req.now c.args.wanted.now.policy.now (in_set c.args.wanted.now.stored.keys) s c.in_ok-uri.uri c.requires.at
+    next_gets (holding seen) c.args.wanted.now.req c.args.wanted.now.policy (in_set c.args.wanted.now.stored) s c.in_ok-uri.uri c.requires.at
     (subst P c.len.ensures c.in_ok-uri.ensures) c.in_ok-candidates.candidates.items c.look_for.new.table c.in_ok-candidates.ensures.gathers c.finish.result c.finish.new.state
     seen (g.F.Feeds.seen c.look_for.new.feeds) c.in_ok-candidates.ensures.asks c.finish.ensures

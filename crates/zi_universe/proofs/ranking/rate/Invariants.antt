@@ -1,0 +1,6 @@
+use Rattle.std.proofs.Common.{◌≡◌, map}
+use Rattle.zi_universe.specs.Stages.{rated_one}
+use Rattle.zi_universe.proofs.ranking.rate.Given as goal
+
+abbrev pub invariant-loop-candidate : goal.invariant-loop-candidate
+invariant-loop-candidate l = l.rated.items ≡ map (rated_one l.policy) l.yielded
