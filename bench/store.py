@@ -1,12 +1,13 @@
 #!/usr/bin/env python3
 """The time to verify and to add trees in a store, as ratios to `0install store` on the same trees, in the same run.
 
-Run it after `rt ci`, which builds the program. The trees: one file of 256 MB, 20,000 files of 1,000 bytes in 200 folders, and
-1,500 chains of 63 folders one in another, for `verify`; 1,000 files of 1,000 bytes for `add`. The goals of `verify`: one file in
-1.1 times the time of `sha256sum` and 20 MB; many files in 0.8 times that of 0install, chains in 1.5 times. `add` may take
-twice the time of 0install, which doesn't make what it stored last through a crash: what that costs is shown by the time of
-`sync -f` alone. Each figure is the best of some runs. Where 0install isn't installed, `sha256sum` and `cp -r` over the same
-files stand for it.
+Run it after `rt ci`, which builds the program; the variable ZI_PROGRAM names another. The trees: one file of 256 MB, 20,000 files
+of 1,000 bytes in 200 folders, one folder of 100,000 files, and 396, 793 and 1,587 chains of 63 folders one in another (25,000, 50,000
+and 100,000 nodes), for `verify`; 1,000 files of 1,000 bytes for `add`. The goals of `verify`: one file in 1.1 times the time of
+`sha256sum` and 20 MB; many files in 0.8 times that of 0install, chains in 1.5 times, and each node in the same time however many
+there are; a folder is listed once. How often is counted by strace, where that is installed. `add` may take twice the time of
+0install, which doesn't make what it stored last through a crash: what that costs is shown by the time of `sync -f` alone. Each
+figure is the best of some runs. Where 0install isn't installed, `sha256sum` and `cp -r` over the same files stand for it.
 """
 import base64
 import hashlib
@@ -22,8 +23,10 @@ from measure import fill, put
 
 RUNS = 5
 TOP = pathlib.Path(__file__).resolve().parent.parent
-PROGRAM = TOP / "crates/zi/out/zi"
-SHAPES = {"one file of 256 MB": (1, 1, 256_000_000), "20,000 files": (200, 100, 1_000), "1,500 chains of 63 folders": None}
+PROGRAM = pathlib.Path(os.environ.get("ZI_PROGRAM") or TOP / "crates/zi/out/zi").absolute()
+ONE_FILE = "one file of 256 MB"
+WIDE = "one folder of 100,000 files"
+DEEP = 63
 
 
 def timed(words, env=None, between=None):
@@ -55,21 +58,36 @@ def name_of(program, store, tree):
     return done.stdout.split(b"\n")[-2].decode(), done.stdout[: done.stdout[:-1].rfind(b"\n") + 1]
 
 
-def chain(tree):
+def chains(tree, count):
     """Makes chains of folders, each in the one before it."""
-    for number in range(1_500):
-        os.makedirs(tree / f"c{number}" / "/".join(["d"] * 62))
+    for number in range(count):
+        os.makedirs(tree / f"c{number}" / "/".join(["d"] * (DEEP - 1)))
 
 
-def verify(shape, sizes, work):
+def shapes():
+    """The trees to verify, each with how it is made and how many nodes it has."""
+    yield ONE_FILE, lambda tree: fill(tree, 1, 1, 256_000_000), 2
+    yield "20,000 files", lambda tree: fill(tree, 200, 100, 1_000), 20_200
+    yield WIDE, lambda tree: fill(tree, 1, 99_999, 10), 100_000
+    for count in (396, 793, 1_587):
+        yield f"{count:,} chains of {DEEP} folders", lambda tree: chains(tree, count), count * DEEP
+
+
+def endings(words, env):
+    """How often a run came to the end of a folder's listing, where strace is there and may be used."""
+    if not shutil.which("strace"):
+        return None
+    with tempfile.NamedTemporaryFile("r") as record:
+        done = subprocess.run(["strace", "-f", "-e", "trace=getdents64", "-o", record.name] + words, env=env, capture_output=True)
+        return None if done.returncode else sum(line.rstrip().endswith(" = 0") for line in record)
+
+
+def verify(shape, make, nodes, work):
     store = work / "store"
     store.mkdir()
     tree = store / "t"
     tree.mkdir()
-    if sizes:
-        fill(tree, *sizes)
-    else:
-        chain(tree)
+    make(tree)
     name, manifest = name_of(PROGRAM, store, "t")
     (tree / ".manifest").write_bytes(manifest)
     os.utime(tree / ".manifest", (0, 0))
@@ -77,11 +95,13 @@ def verify(shape, sizes, work):
     env = dict(os.environ, ZI_STORE=str(store))
     words = [str(PROGRAM), "store", "verify", name]
     ours = timed(words, env)
-    if shutil.which("0install") and sizes != (1, 1, 256_000_000):
+    if shutil.which("0install") and shape != ONE_FILE:
         other, theirs = "0install store verify", timed(["0install", "store", "verify", str(store / name)])
     else:
         other, theirs = "sha256sum", timed(["sh", "-c", f"find '{store}' -type f -exec sha256sum {{}} +"])
-    print(f"verify, {shape}: {ours:.3f} s, {peak(words, env)} KiB; {other} {theirs:.3f} s; ratio {ours / theirs:.2f}")
+    print(f"verify, {shape}: {ours:.3f} s, {peak(words, env)} KiB; {other} {theirs:.3f} s; ratio {ours / theirs:.2f}", end="")
+    print("" if shape == ONE_FILE else f"; {ours / nodes * 1e6:.1f} us a node, the other {theirs / nodes * 1e6:.1f}", end="")
+    print(f"; {endings(words, env)} listings of 2 folders" if shape == WIDE else "", flush=True)
 
 
 def add(work):
@@ -119,9 +139,9 @@ def add(work):
 def main():
     if not PROGRAM.exists():
         sys.exit(f"{PROGRAM} isn't built: run `rt ci` first")
-    for shape, sizes in SHAPES.items():
+    for shape, make, nodes in shapes():
         with tempfile.TemporaryDirectory() as work:
-            verify(shape, sizes, pathlib.Path(work))
+            verify(shape, make, nodes, pathlib.Path(work))
     with tempfile.TemporaryDirectory() as work:
         add(pathlib.Path(work))
 

@@ -5,7 +5,7 @@ use std::io::{self, ErrorKind, Write};
 use std::os::unix::fs::{MetadataExt, OpenOptionsExt, PermissionsExt, symlink};
 use std::process::{Command, Stdio};
 use std::time::{Duration, SystemTime};
-use zi_shelf::{Entry, EntryKind, Moved, TopMade};
+use zi_shelf::{EntryKind, Moved, TopMade};
 use zi_text::{List, Text};
 
 // The modes of a file that is being written, and of finished ones, which nobody is to write.
@@ -87,16 +87,9 @@ fn kind_of(metadata: &fs::Metadata) -> Result<EntryKind, Trouble> {
     }
 }
 
-/// The entries of the folder at a path, or of that behind a link there.
-pub fn list_entries(rt: &HostRuntime, path: &str) -> Result<List<Entry>, Trouble> {
-    let mut entries = List::new(rt.alloc());
-    for entry in fs::read_dir(rt, path)? {
-        let entry = entry?;
-        let kind = kind_of(&entry.metadata()?)?;
-        let name = Text::from_str(rt.alloc(), entry.file_name())?;
-        entries.push(Entry { name, kind })?;
-    }
-    Ok(entries)
+/// What stands under a path, as an entry of its folder.
+pub fn kind_at(rt: &HostRuntime, path: &str) -> Result<EntryKind, Trouble> {
+    kind_of(&fs::symlink_metadata(rt, path)?)
 }
 
 /// The text of a link.

@@ -4,8 +4,8 @@ ghost use Rattle.zi_shelf.specs.Told.{HasCause, plain_reply};
 ghost use Rattle.zi_shelf.specs.declared.shelf.ShelfFault.TheVariants.{Failed as HasFailed, Memory as NoMemory};
 
 use crate::folder_calls::{
-    append, finish_file, is_folder, is_there, link_target, list_entries, list_names, make_folder,
-    make_link, make_top, remove, rename, settle, sync_folder,
+    append, finish_file, is_folder, is_there, link_target, list_names, make_folder, make_link,
+    make_top, remove, rename, settle, sync_folder,
 };
 use crate::log::Log;
 use crate::open_folders::OpenFolders;
@@ -84,8 +84,16 @@ impl FolderShelf {
         ensures faults { self.new.faults ≡ self.old.faults }
         ensures root { self.new.root ≡ self.old.root }
     {
-        let path = self.top_path(top)?;
-        self.held.enter(&self.rt, path.as_str(), top, parts)
+        if !self.held.is_in(top) {
+            let path = self.top_path(top)?;
+            self.held.open_top(&self.rt, path, top)?;
+        }
+        self.held.enter(&self.rt, parts)
+    }
+
+    // Whether a top entry is there.
+    fn has_top(&self, top: &str) -> Result<bool, Trouble> {
+        is_there(&self.rt, self.top_path(top)?.as_str())
     }
 
     // The entries of a folder in a top entry; the top entry itself is looked up anew.
@@ -93,14 +101,13 @@ impl FolderShelf {
         ensures faults { self.new.faults ≡ self.old.faults }
         ensures root { self.new.root ≡ self.old.root }
     {
-        self.held.renew(inside.parts().as_slice());
-        let path = self.top_path(top)?;
-        if !self.held.is_in(top) && !is_there(&self.rt, path.as_str())? {
+        let parts = inside.parts().as_slice();
+        self.held.keep(parts.len());
+        if !self.held.is_in(top) && !self.has_top(top)? {
             return Ok(Listed::Absent);
         }
-        self.enter(top, inside.parts().as_slice())?;
-        let path = self.held.path_of(&self.rt, "")?;
-        Ok(Listed::Entries(list_entries(&self.rt, path.as_str())?))
+        self.enter(top, parts)?;
+        Ok(Listed::Entries(self.held.list(&self.rt)?))
     }
 
     // Reads bytes of a file in a top entry; how many came.

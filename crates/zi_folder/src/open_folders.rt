@@ -2,22 +2,28 @@
 //! top again for each entry, and no link is followed on the way.
 ghost use Rattle.std.specs.Prelude.{◌≤◌, IfOk, length};
 
+use crate::folder_calls::kind_at;
 use crate::trouble::{Reason, Trouble};
+use os::FromRawFd;
 use std::alloc::Global;
 use std::fs::{self, File, Metadata};
-use std::os::fd::AsRawFd;
+use std::io::{self, ErrorKind};
+use std::os::fd::{AsRawFd, OwnedFd, RawFd};
 use std::os::unix::fs::{FileExt, MetadataExt};
-use zi_text::Text;
+use zi_shelf::{Entry, EntryKind};
+use zi_text::{List, Text};
 
 // The most bytes that are read at once.
 const PIECE: usize = 65_536;
 
-/// A folder that is held open, its name in the folder that it stands in, and the path by which it is reached.
+// Nothing is open.
+const NO_TREE: Trouble = Trouble::Failed(Reason::IsNot("inside a tree"));
+
+/// A folder that is held open, and its name in the folder that it stands in.
 #[derive(Drop)]
 struct OpenFolder {
     name: Text,
-    file: File,
-    path: String,
+    folder: OwnedFd,
 }
 
 /// A file that is held open, and its name in the folder that it stands in.
@@ -27,17 +33,19 @@ struct OpenFile {
     file: File,
 }
 
-/// The folders on the way to what was read last, each in the one before it, the top entry first; the file that was read last; and
-/// room for a piece of one.
+/// The folders on the way to what was read last, each in the one before it, the top entry first, and its path; one that stands in
+/// the last of them and was opened when that was listed; the file that was read last; and room for a piece of one or of a listing.
 ///
-/// A folder is reached by its number in `/proc/self/fd`. Where the system doesn't show there what is open, it is reached by its
-/// whole path.
+/// A folder is opened from the one before it. A file or a link is reached by the number of its folder in `/proc/self/fd`. Where the
+/// system doesn't show there what is open, it is reached by its whole path.
 #[derive(Drop)]
 pub struct OpenFolders {
+    path: String,
     folders: Vec<OpenFolder>,
+    next: Option<OpenFolder>,
     file: Option<OpenFile>,
     numbered: bool,
-    piece: Vec<u8>,
+    room: Vec<u8>,
 }
 
 // Whether both are of one file or folder.
@@ -45,7 +53,7 @@ fn is_same(a: &Metadata, b: &Metadata) -> bool {
     a.dev() == b.dev() && a.ino() == b.ino()
 }
 
-// Opens what was seen under a path; another file or folder than that one, as one behind a link, is refused.
+// Opens what was seen under a path; another file than that one, as one behind a link, is refused.
 fn open_seen(rt: &HostRuntime, path: &str, seen: &Metadata) -> Result<File, Trouble> {
     let file = fs::open(rt, path)?;
     if is_same(&file.metadata()?, seen) {
@@ -55,15 +63,6 @@ fn open_seen(rt: &HostRuntime, path: &str, seen: &Metadata) -> Result<File, Trou
     }
 }
 
-// Opens the folder at a path.
-fn open_folder(rt: &HostRuntime, path: &str) -> Result<File, Trouble> {
-    let seen = fs::symlink_metadata(rt, path)?;
-    if !seen.is_dir() {
-        return Err(Trouble::Failed(Reason::IsNot("a folder")));
-    }
-    open_seen(rt, path, &seen)
-}
-
 // Opens the file at a path.
 fn open_file(rt: &HostRuntime, path: &str) -> Result<File, Trouble> {
     let seen = fs::symlink_metadata(rt, path)?;
@@ -71,6 +70,81 @@ fn open_file(rt: &HostRuntime, path: &str) -> Result<File, Trouble> {
         return Err(Trouble::Failed(Reason::IsNot("a file")));
     }
     open_seen(rt, path, &seen)
+}
+
+// Why a folder isn't opened.
+fn refusal(error: io::Error) -> Trouble {
+    match error.kind() {
+        ErrorKind::NotADirectory | ErrorKind::FilesystemLoop => {
+            Trouble::Failed(Reason::IsNot("a folder"))
+        }
+        _ => Trouble::from(error),
+    }
+}
+
+// Opens what a name reaches from the folder of this number, where it is a folder and no link to one.
+fn open_folder(above: RawFd, name: &str) -> Result<OwnedFd, Trouble> {
+    let number = os::open_dir_at(above, name.as_bytes());
+    if number < 0 {
+        return Err(refusal(io::Error::from_raw_os_error(os::errno())));
+    }
+    Ok(unsafe { OwnedFd::from_raw_fd(number) })
+}
+
+// The next names that the folder of this number lists, each with a zero behind it; none at the end.
+fn next_names(folder: RawFd, room: &mut [u8]) -> Result<&[u8], Trouble> {
+    let count = os::read_dir(folder, room);
+    match os::errno() {
+        // a folder that was removed has no more names
+        0 | libc::ENOENT => Ok(&room[..count]),
+        error => Err(Trouble::from(io::Error::from_raw_os_error(error))),
+    }
+}
+
+// Whether a listed name is that of an entry.
+fn is_entry(name: &str) -> bool {
+    name != "" && name != "." && name != ".."
+}
+
+// What stands under a name in the folder of this number, which is at a path that ends with a slash. A folder is opened as the next.
+fn kind_in(
+    rt: &HostRuntime,
+    above: RawFd,
+    path: &str,
+    name: &Text,
+    next: &mut Option<OpenFolder>,
+) -> Result<EntryKind, Trouble> {
+    if let Ok(folder) = open_folder(above, name.as_str()) {
+        let name = name.copy(rt.alloc())?;
+        *next = Some(OpenFolder { name, folder });
+        return Ok(EntryKind::Folder);
+    }
+    let mut path = String::from_str(rt.alloc(), path)?;
+    path.push_str(name.as_str())?;
+    kind_at(rt, path.as_str())
+}
+
+// Adds the entries of these names, each with a zero behind it, in the folder of this number, which is at a path that ends with a
+// slash. One folder among them is opened as the next.
+fn add_entries(
+    rt: &HostRuntime,
+    above: RawFd,
+    path: &str,
+    names: &[u8],
+    entries: &mut List<Entry>,
+    next: &mut Option<OpenFolder>,
+) -> Result<(), Trouble> {
+    let Ok(names) = str::from_utf8(names) else {
+        return Err(Trouble::from(io::Error::from(ErrorKind::InvalidFilename)));
+    };
+    for name in names.split('\0') {
+        if is_entry(name) {
+            let name = Text::from_str(rt.alloc(), name)?;
+            let kind = kind_in(rt, above, path, &name, next)?;
+            entries.push(Entry { name, kind })?;
+        }
+    }
+    Ok(())
 }
 
 // Reads bytes of an open file from an offset on, at most so many, and no more than the piece has room for; how many came.
@@ -86,25 +160,28 @@ fn read_piece(file: &File, offset: u64, max: u32, piece: &mut [u8]) -> Result<us
 }
 
 // The path of what is open, by its number.
-fn numbered_path(rt: &HostRuntime, file: &File) -> Result<String, Trouble> {
-    let number = file.as_raw_fd();
+fn numbered_path(rt: &HostRuntime, folder: &OwnedFd) -> Result<String, Trouble> {
+    let number = folder.as_raw_fd();
     Ok(format!(in rt.alloc(); "/proc/self/fd/{number}")?)
 }
 
-// Whether the system shows, under its number, what is open.
-fn is_shown(rt: &HostRuntime, file: &File) -> Result<bool, Trouble> {
-    let path = numbered_path(rt, file)?;
-    let opened = file.metadata()?;
-    match fs::metadata(rt, path.as_str()) {
-        Ok(shown) => Ok(is_same(&shown, &opened)),
-        Err(_) => Ok(false),
+// Whether the system shows, under its number, the folder that was opened at a path; one that stands there no more is refused.
+fn is_shown(rt: &HostRuntime, folder: &OwnedFd, path: &str) -> Result<bool, Trouble> {
+    let number = numbered_path(rt, folder)?;
+    let Ok(shown) = fs::metadata(rt, number.as_str()) else {
+        return Ok(false);
+    };
+    if is_same(&shown, &fs::symlink_metadata(rt, path)?) {
+        Ok(true)
+    } else {
+        Err(Trouble::Failed(Reason::IsNot("what it was")))
     }
 }
 
-// Whether the folder of this number on the way from a top entry, which has the number 0, has this name.
-fn is_at(number: usize, top: &str, parts: &[Text], name: &str) -> bool {
+// Whether the folder of this number on the way, on which the top entry has the number 0, has this name.
+fn is_at(number: usize, parts: &[Text], name: &str) -> bool {
     if number == 0 {
-        return name == top;
+        return true;
     }
     match parts.get(number - 1) {
         Some(part) => part.as_str() == name,
@@ -116,23 +193,26 @@ impl OpenFolders {
     /// Nothing is open.
     pub fn new(alloc: Global) -> OpenFolders {
         OpenFolders {
+            path: String::new(alloc),
             folders: Vec::new(alloc),
+            next: None,
             file: None,
             numbered: false,
-            piece: Vec::new(alloc),
+            room: Vec::new(alloc),
         }
     }
 
     /// Closes all that is open: what follows may change what stands there.
     pub fn close(&mut self) {
-        self.file = None;
-        self.folders.clear();
+        self.keep(0);
     }
 
-    /// Closes all that is open where these parts lead to a top entry itself, which is looked up anew.
-    pub fn renew(&mut self, parts: &[Text]) {
-        if parts.is_empty() {
-            self.close();
+    /// Keeps the first so many folders open, and nothing else. One that is to be listed is none of them: it is opened anew.
+    pub fn keep(&mut self, count: usize) {
+        self.file = None;
+        if count < self.folders.len() {
+            self.next = None;
+            self.folders.truncate(count);
         }
     }
 
@@ -144,73 +224,103 @@ impl OpenFolders {
         }
     }
 
-    // How many of the open folders lead this way, from the first on.
-    fn on_the_way(&self, top: &str, parts: &[Text]) -> usize {
+    // How many of the open folders lead this way, from the top entry on.
+    fn on_the_way(&self, parts: &[Text]) -> usize {
         for (number, folder) in self.folders.iter().enumerate() {
-            if !is_at(number, top, parts, folder.name.as_str()) {
+            if !is_at(number, parts, folder.name.as_str()) {
                 return number;
             }
         }
         self.folders.len()
     }
 
-    /// The path of a name in the folder that was opened last; with no name, the folder's own.
+    // The whole path of the folder that was opened last.
+    fn whole_path(&self, rt: &HostRuntime) -> Result<String, Trouble> {
+        let mut path = String::from_str(rt.alloc(), self.path.as_str())?;
+        for folder in self.folders.iter().skip(1) {
+            path.push('/')?;
+            path.push_str(folder.name.as_str())?;
+        }
+        Ok(path)
+    }
+
+    // The folder that was opened last.
+    fn last(&self) -> Result<&OwnedFd, Trouble> {
+        match self.folders.last() {
+            Some(last) => Ok(&last.folder),
+            None => Err(NO_TREE),
+        }
+    }
+
+    /// The path of a name in the folder that was opened last; with no name, the folder's own, which ends with a slash.
     pub fn path_of(&self, rt: &HostRuntime, name: &str) -> Result<String, Trouble> {
-        let Some(last) = self.folders.last() else {
-            return Err(Trouble::Failed(Reason::IsNot("inside a tree")));
+        let mut path = if self.numbered {
+            numbered_path(rt, self.last()?)?
+        } else {
+            self.whole_path(rt)?
         };
-        let mut path = String::from_str(rt.alloc(), last.path.as_str())?;
         path.push('/')?;
         path.push_str(name)?;
         Ok(path)
     }
 
-    // Adds the folder at a path, which is open and has this name.
-    fn add(&mut self, rt: &HostRuntime, name: &str, path: &str, file: File) -> Result<(), Trouble> {
-        let path = if self.numbered {
-            numbered_path(rt, &file)?
-        } else {
-            String::from_str(rt.alloc(), path)?
-        };
-        let name = Text::from_str(rt.alloc(), name)?;
-        self.folders.push(OpenFolder { name, file, path })?;
+    /// Opens a top entry, which stands at this path, and nothing else.
+    pub fn open_top(&mut self, rt: &HostRuntime, path: String, top: &str) -> Result<(), Trouble> {
+        self.close();
+        let folder = open_folder(libc::AT_FDCWD, path.as_str())?;
+        self.numbered = is_shown(rt, &folder, path.as_str())?;
+        self.path = path;
+        let name = Text::from_str(rt.alloc(), top)?;
+        self.folders.push(OpenFolder { name, folder })?;
         Ok(())
-    }
-
-    // Opens a top entry, which stands at this path.
-    fn open_top(&mut self, rt: &HostRuntime, path: &str, top: &str) -> Result<(), Trouble> {
-        let file = open_folder(rt, path)?;
-        self.numbered = is_shown(rt, &file)?;
-        self.add(rt, top, path, file)
     }
 
     // Opens the folder of this name in the folder that was opened last.
-    fn open_inner(&mut self, rt: &HostRuntime, name: &str) -> Result<(), Trouble> {
-        let path = self.path_of(rt, name)?;
-        let file = open_folder(rt, path.as_str())?;
-        self.add(rt, name, path.as_str(), file)
+    fn open_inner(&mut self, rt: &HostRuntime, name: &Text) -> Result<(), Trouble> {
+        let opened = match self.next.take() {
+            Some(next) if next.name.as_str() == name.as_str() => next,
+            _ => OpenFolder {
+                folder: open_folder(self.last()?.as_raw_fd(), name.as_str())?,
+                name: name.copy(rt.alloc())?,
+            },
+        };
+        self.folders.push(opened)?;
+        Ok(())
     }
 
-    /// Opens the folders on the way that these parts lead from a top entry, which stands at this path, and none but those.
-    pub fn enter(
-        &mut self,
-        rt: &HostRuntime,
-        path: &str,
-        top: &str,
-        parts: &[Text],
-    ) -> Result<(), Trouble> {
-        let common = self.on_the_way(top, parts);
+    /// Opens the folders on the way that these parts lead from the top entry that is open, and none but those.
+    pub fn enter(&mut self, rt: &HostRuntime, parts: &[Text]) -> Result<(), Trouble> {
+        let common = self.on_the_way(parts);
         if common != self.folders.len() || common != parts.len() + 1 {
-            self.file = None;
-        }
-        self.folders.truncate(common);
-        if self.folders.is_empty() {
-            self.open_top(rt, path, top)?;
+            self.keep(common);
         }
         for part in parts.iter().skip(common.saturating_sub(1)) {
-            self.open_inner(rt, part.as_str())?;
+            self.open_inner(rt, part)?;
         }
         Ok(())
+    }
+
+    /// The entries of the folder that was opened last, which wasn't listed since.
+    pub fn list(&mut self, rt: &HostRuntime) -> Result<List<Entry>, Trouble> {
+        self.make_room(rt)?;
+        let folder = self.last()?.as_raw_fd();
+        let path = self.path_of(rt, "")?;
+        let mut entries = List::new(rt.alloc());
+        for _ in 0..u64::MAX {
+            let names = next_names(folder, self.room.as_mut_slice())?;
+            if names.is_empty() {
+                break;
+            }
+            add_entries(
+                rt,
+                folder,
+                path.as_str(),
+                names,
+                &mut entries,
+                &mut self.next,
+            )?;
+        }
+        Ok(entries)
     }
 
     // Whether the file of this name is the one that is open.
@@ -234,10 +344,10 @@ impl OpenFolders {
         Ok(())
     }
 
-    // Makes room for a piece, once.
+    // Makes room, once.
     fn make_room(&mut self, rt: &HostRuntime) -> Result<(), Trouble> {
-        if self.piece.is_empty() {
-            self.piece = vec![in rt.alloc(); 0u8; PIECE]?;
+        if self.room.is_empty() {
+            self.room = vec![in rt.alloc(); 0u8; PIECE]?;
         }
         Ok(())
     }
@@ -255,7 +365,7 @@ impl OpenFolders {
         self.open_file(rt, name)?;
         self.make_room(rt)?;
         match &self.file {
-            Some(opened) => read_piece(&opened.file, offset, max, self.piece.as_mut_slice()),
+            Some(opened) => read_piece(&opened.file, offset, max, self.room.as_mut_slice()),
             None => Ok(0),
         }
     }
@@ -264,6 +374,6 @@ impl OpenFolders {
     pub fn read_last(&self, count: usize) -> &[u8]
         ensures { length result.now ≤ count }
     {
-        &self.piece[..count.min(self.piece.len())]
+        &self.room[..count.min(self.room.len())]
     }
 }
