@@ -102,7 +102,7 @@ def languages(folder, size):
 
 def admitted(folder, size):
     """An expression of 30,000 ranges, in which each version is looked up."""
-    row = lambda n: f'<implementation id="{n:011d}" version="{n % 997 + 10}" local-path="."/>'
+    row = lambda n: f'<implementation id="{n:011d}" version="{n % 997 + 1000}" local-path="."/>'
     return ["--version", "|".join(f"{n % 10}" for n in range(30000)) + "|10..", write(folder, "root.xml", rows(size, row))]
 
 
