@@ -1,10 +1,9 @@
-use Rattle.std.proofs.Common.{◌≡◌, ◌≤◌, ◌<◌, ◌+◌, ℕ, List, length, refl, sym, ◌∙◌, ap, subst, arith, rules}
+use Rattle.std.proofs.Common.{◌≡◌, List, length, refl, ◌∙◌, ap, subst, arith, rules}
 use Rattle.std.proofs.lemmas.List.Sorted.{length_permutation}
 use Rattle.zi_policy.specs.declared.types.Policy.{Policy}
 use Rattle.zi_universe.specs.declared.types.Candidate.{Candidate}
 use Rattle.zi_universe.specs.Naming.{Uri, joined}
 use Rattle.zi_universe.specs.Candidates.{asked_by_all}
-use Rattle.zi_universe.specs.Whole.{most_candidates, most_interfaces}
 use Rattle.zi_universe.specs.Stages.{IsSorting}
 use Rattle.zi_universe.proofs.loading.finish.Goals as goal
 
