@@ -122,8 +122,8 @@ fn put_command(out: &mut Sheet, command: &Command) {
 fn put_impl(out: &mut Sheet, imp: &Impl) {
     put_count(out, imp.deps.len(), " dependencies, ");
     put_count(out, imp.bindings.len(), " bindings");
-    for command in imp.commands.as_slice() {
-        put_command(out, command);
+    for n in 0..imp.commands.len() {
+        put_command(out, imp.commands.at(n).as_ref());
     }
 }
 

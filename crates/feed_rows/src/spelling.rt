@@ -193,13 +193,6 @@ pub(crate) fn put_command(out: &mut Sheet, command: &Command) {
     out.put("\nend");
 }
 
-/// Adds commands.
-fn put_commands(out: &mut Sheet, commands: &List<Command>) {
-    for command in commands.as_slice() {
-        put_command(out, command);
-    }
-}
-
 /// Adds a path.
 fn put_path(out: &mut Sheet, path: &RelPath) {
     for part in path.parts().as_slice() {
@@ -268,7 +261,7 @@ fn put_facts(out: &mut Sheet, one: &Impl) {
     out.put(" at=");
     out.number(one.place);
     put_arch(out, &one.arch);
-    put_fields(out, "lang", &one.langs);
+    put_fields(out, "lang", one.langs.as_ref());
     put_field(out, "released", &one.released);
     put_field(out, "local", &one.local);
 }
@@ -278,9 +271,15 @@ fn put_impl(alloc: Global, out: &mut Sheet, one: &Impl) {
     put_facts(out, one);
     put_digests(alloc, out, &one.digests);
     put_methods(out, &one.methods);
-    put_deps(out, &one.deps);
-    put_commands(out, &one.commands);
-    put_bindings(out, &one.bindings);
+    for n in 0..one.deps.len() {
+        put_dep(out, one.deps.at(n));
+    }
+    for n in 0..one.commands.len() {
+        put_command(out, one.commands.at(n).as_ref());
+    }
+    for n in 0..one.bindings.len() {
+        put_binding(out, one.bindings.at(n));
+    }
 }
 
 /// Adds the imports.

@@ -4,6 +4,7 @@
 use crate::policies::{no_policy, stability};
 use std::alloc::Global;
 use std::cmp::Ordering;
+use zi_inherited::Shared;
 use zi_lines::{Sheet, halves};
 use zi_policy::{Arch, Network, Policy};
 use zi_rank::{Standing, before, compare, usable};
@@ -36,15 +37,22 @@ fn take_linux(alloc: Global, policy: &mut Policy, langs: &str) -> Result<(), Mem
     take_languages(alloc, &mut policy.langs, langs)
 }
 
-/// An implementation of this version, of which nothing else is said.
-fn no_standing(alloc: Global, version: Version) -> Standing {
+/// The languages of a row, to be shared.
+fn languages(alloc: Global, text: &str) -> Result<Shared<List<Text>>, Memory> {
+    let mut langs = List::new(alloc);
+    take_languages(alloc, &mut langs, text)?;
+    Shared::new(alloc, langs)
+}
+
+/// An implementation of this version in these languages, of which nothing else is said.
+fn no_standing(alloc: Global, version: Version, langs: Shared<List<Text>>) -> Standing {
     Standing {
         version,
         id: Text::new(alloc),
         feed: Text::new(alloc),
         place: 0,
         arch: None,
-        langs: List::new(alloc),
+        langs,
         stability: stability(""),
         local: false,
         stored: false,
@@ -71,21 +79,40 @@ fn take_rest(alloc: Global, one: &mut Standing, row: &str) -> Result<(), Memory>
     Ok(())
 }
 
-/// An implementation of this version, of which the words before the version and those behind it say the rest.
+/// An implementation of this version in these languages, of which the words before the version and those behind it say the rest.
 fn said(
+    alloc: Global,
+    out: &mut Sheet,
+    version: Version,
+    langs: Shared<List<Text>>,
+    front: [&str; 2],
+    rest: &str,
+) -> Standing {
+    let [tried, there] = front;
+    let mut one = no_standing(alloc, version, langs);
+    one.stability = stability(tried);
+    take_place(&mut one, there);
+    out.needs(take_rest(alloc, &mut one, rest));
+    one
+}
+
+/// An implementation of this version, of which the words before the version and those behind it say the rest; none where
+/// memory is refused.
+fn spoken(
     alloc: Global,
     out: &mut Sheet,
     version: Version,
     front: [&str; 3],
     rest: &str,
-) -> Standing {
+) -> Option<Standing> {
     let [langs, tried, there] = front;
-    let mut one = no_standing(alloc, version);
-    one.stability = stability(tried);
-    take_place(&mut one, there);
-    out.needs(take_languages(alloc, &mut one.langs, langs));
-    out.needs(take_rest(alloc, &mut one, rest));
-    one
+    match languages(alloc, langs) {
+        Ok(langs) => Some(said(alloc, out, version, langs, [tried, there], rest)),
+        Err(Memory) => {
+            out.lose();
+            None
+        }
+    }
 }
 
 /// The implementation of a row; none where its version isn't one.
@@ -95,7 +122,7 @@ fn standing(alloc: Global, out: &mut Sheet, row: &str) -> Option<Standing> {
     let (there, row) = halves(row);
     let (version, rest) = halves(row);
     match Version::parse(alloc, version) {
-        Ok(version) => Some(said(alloc, out, version, [langs, tried, there], rest)),
+        Ok(version) => spoken(alloc, out, version, [langs, tried, there], rest),
         Err(VersionFault::Bad { .. }) => None,
         Err(VersionFault::Memory) => {
             out.lose();

@@ -1,5 +1,5 @@
 -- What is written, one constraint after another.
-use Rattle.std.proofs.Common.{◌≡◌, ℕ, zero, suc, ◌+◌, ◌-◌, ◌<◌, ◌≤◌, ◌^◌, Bool, true, false, not, cond, ◌&&◌, List, [], ◌∷◌, ◌++◌, length, map, take, get_or, refl, sym, ap, ◌∙◌, subst, arith, Option, Some, None, append_assoc, inl, inr}
+use Rattle.std.proofs.Common.{◌≡◌, ℕ, zero, suc, ◌+◌, ◌-◌, ◌<◌, ◌≤◌, ◌^◌, Bool, true, false, not, cond, ◌&&◌, List, [], ◌∷◌, ◌++◌, length, map, take, get_or, refl, sym, ap, ◌∙◌, subst, arith, Option, Some, None, Bor, append_assoc, inl, inr}
 use Rattle.std.specs.Prelude.{slice_get, option_and_then, nat_lt}
 use Rattle.std.proofs.lemmas.Bool.{false≢true, cases_lt, lt-ltb}
 use Rattle.std.proofs.lemmas.Option.{slice_get-get_or}
@@ -9,7 +9,9 @@ use Rattle.zi_choice.specs.Choice.{number, command_place, candidate_at}
 use Rattle.zi_formula.specs.declared.formula.Lit.{Lit}
 use Rattle.zi_choice.proofs.Base.{found_of, candidate_is, candidates_at, interface_at}
 use Rattle.zi_choice.proofs.SumLaws.{total_few}
-use Rattle.std.proofs.lemmas.List.{map-append, append-nil}
+use Rattle.std.specs.List.{flat_map}
+use Rattle.std.proofs.lemmas.List.{map-append, append-nil, take_all, take_more}
+use Rattle.std.proofs.lemmas.Grind.{flat_map-append}
 use Rattle.zi_universe.specs.declared.types.Candidate.{Candidate}
 use Rattle.zi_universe.specs.declared.types.Interface.{Interface}
 use Rattle.zi_formula.specs.declared.formula.Constraint.{Constraint}
@@ -218,6 +220,26 @@ pub needs_more : (b : Bool) (u : List Interface) (y : Var) (ds : List Dep) (i : 
 needs_more b u y ds i d v w x l e g h =
     let s : suc i ≡ i + 1 = omega arith in
     adds_as b u v x (needs u y (take i ds) ++ need u y d) (needs u y (take (i + 1) ds)) (sym (needs_next u y ds i d l e) ∙ ap (λ n. needs u y (take n ds)) s) (adds_both b u v w x (needs u y (take i ds)) (need u y d) g h)
+
+-- pieces of dependencies
+needs_join : (u : List Interface) (y : Var) (ds es : List Dep) → needs u y (ds ++ es) ≡ needs u y ds ++ needs u y es
+needs_join u y [] es = refl
+needs_join u y (d ∷ ds) es = ap (λ rs. need u y d ++ rs) (needs_join u y ds es) ∙ sym (append_assoc (need u y d) (needs u y ds) (needs u y es))
+
+pub needs_piece : (b : Bool) (u : List Interface) (y : Var) (ps : List (Bor (List Dep))) (i : ℕ) (p : Bor (List Dep)) (v w x : Writer) → i < length ps → p ≡ get_or ps i p
+    → Adds b u v (needs u y (flat_map (λ q. q.now) (take i ps))) w → Adds b u w (needs u y p.now) x → Adds b u v (needs u y (flat_map (λ q. q.now) (take (i + 1) ps))) x
+needs_piece b u y ps i p v w x l e g h =
+    let one : take (i + 1) ps ≡ take i ps ++ p ∷ [] = take_more ps i p l ∙ ap (λ z. take i ps ++ z ∷ []) (sym e) in
+    let more : flat_map (λ q. q.now) (take (i + 1) ps) ≡ flat_map (λ q. q.now) (take i ps) ++ p.now =
+    ap (flat_map (λ q. q.now)) one ∙ flat_map-append (λ q. q.now) (take i ps) (p ∷ []) ∙ ap (λ z. flat_map (λ q. q.now) (take i ps) ++ z) (append-nil p.now) in
+    adds_as b u v x (needs u y (flat_map (λ q. q.now) (take i ps)) ++ needs u y p.now) (needs u y (flat_map (λ q. q.now) (take (i + 1) ps)))
+    (sym (needs_join u y (flat_map (λ q. q.now) (take i ps)) p.now) ∙ ap (needs u y) (sym more))
+    (adds_both b u v w x (needs u y (flat_map (λ q. q.now) (take i ps))) (needs u y p.now) g h)
+
+pub needs_whole : (b : Bool) (u : List Interface) (y : Var) (ps : List (Bor (List Dep))) (i : ℕ) (ds : List Dep) (v w : Writer) → length ps ≤ i → flat_map (λ q. q.now) ps ≡ ds
+    → Adds b u v (needs u y (flat_map (λ q. q.now) (take i ps))) w → Adds b u v (needs u y ds) w
+needs_whole b u y ps i ds v w l e g =
+    adds_as b u v w (needs u y (flat_map (λ q. q.now) (take i ps))) (needs u y ds) (ap (λ z. needs u y (flat_map (λ q. q.now) z)) (take_all i ps l) ∙ ap (needs u y) e) g
 
 pub against_is : (u : List Interface) (y : Var) (j e : ℕ) (o : Option ℕ) (l m n p : List Lit) (a : Lit) → l ≡ [] → a ≡ lit_of u (no y) → m ≡ l ++ a ∷ [] → n ≡ m ++ map (lit_of u) (without (no y) (no (Cand j e) ∷ [])) → p ≡ n ++ map (lit_of u) (having j e o) → Clause p ≡ constraint_of u (clause (no y ∷ no (Cand j e) ∷ having j e o))
 against_is u y j e o l m n p a f g h k q =

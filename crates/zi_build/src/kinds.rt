@@ -13,6 +13,7 @@ use crate::variables::Variable;
 use crate::writing::{Plan, Writer, is_full, lit, number, put, put_two};
 use zi_feed::{Command, Dep, DepKind};
 use zi_formula::{Constraint, Lit};
+use zi_inherited::Inherited;
 use zi_policy::Width;
 use zi_text::{List, Memory, Text};
 use zi_universe::{Candidate, Interface, Requirement};
@@ -418,8 +419,27 @@ fn add_commands(plan: &Plan, i: u32, c: u32, k: &Candidate, w: &mut Writer) -> R
     requires there { slice_get (candidates_of (plan_of plan.now) i) c ≡ Some k.now }
     ensures { OnOk result (Adds plan.now.keeps (plan_of plan.now) w.old (each 0 (of_command (plan_of plan.now) i c) k.now.imp.commands) w.new) }
 {
-    for (n, m) in k.imp.commands.as_slice().iter().enumerate() {
-        add_command(plan, i, c, n as u32, m, w)?;
+    for n in 0..k.imp.commands.len() {
+        let m = k.imp.commands.at(n);
+        add_command(plan, i, c, n as u32, m.as_ref(), w)?;
+    }
+    Ok(())
+}
+
+// What a variable needs of dependencies that are inherited.
+fn add_inherited(
+    plan: &Plan,
+    y: Variable,
+    deps: &Inherited<Dep>,
+    w: &mut Writer,
+) -> Result<(), Memory>
+    requires plan { IsPlan plan.now }
+    requires needing { Listed (plan_of plan.now) (as_var y) }
+    ensures { OnOk result (Adds plan.now.keeps (plan_of plan.now) w.old (needs (plan_of plan.now) (as_var y) deps.now) w.new) }
+{
+    let pieces = deps.segments(plan.alloc)?;
+    for piece in pieces.as_slice() {
+        add_needs(plan, y, piece, w)?;
     }
     Ok(())
 }
@@ -431,7 +451,7 @@ fn add_candidate(plan: &Plan, i: u32, c: u32, k: &Candidate, w: &mut Writer) -> 
     ensures { OnOk result (Adds plan.now.keeps (plan_of plan.now) w.old (of_candidate (plan_of plan.now) i c k.now) w.new) }
 {
     add_width(plan, i, c, group(k), w)?;
-    add_needs(plan, Variable::Choosing(i, c), k.imp.deps.as_slice(), w)?;
+    add_inherited(plan, Variable::Choosing(i, c), &k.imp.deps, w)?;
     add_commands(plan, i, c, k, w)?;
     Ok(())
 }

@@ -1,13 +1,15 @@
 -- When a dependency is met, by what is chosen for its interface.
-use Rattle.std.proofs.Common.{◌≡◌, ℕ, ◌<◌, Bool, true, false, not, List, [], ◌∷◌, ◌++◌, length, refl, sym, ap, ◌∙◌, subst, arith, rules, Option, Some, None, Decides, MatchBool}
-use Rattle.std.specs.Prelude.{IsSome, IfSome, IsSomeAnd, All, option_and_then, option_copied, is_some}
+use Rattle.std.proofs.Common.{◌≡◌, ℕ, ◌+◌, ◌<◌, ◌≤◌, take, Bool, true, false, not, List, [], ◌∷◌, ◌++◌, length, refl, sym, ap, ◌∙◌, subst, arith, rules, Option, Some, None, Decides, MatchBool}
+use Rattle.std.specs.Prelude.{IsSome, IfSome, IsSomeAnd, All, option_and_then, option_copied, is_some, slice_get}
 use Rattle.std.specs.List.{AllWithin, HoldsAt}
 use denote.Ref.{Bor}
 use denote.Enum.Bare.{sameb, same_true, true_same}
 use Rattle.zi_policy.specs.contracts.types.Width.{the_type}
 use Rattle.std.specs.List.{list_all}
 use Rattle.std.proofs.lemmas.Bool.{false≢true}
-use Rattle.std.proofs.lemmas.List.Elements.{All-head, All-tail, All-nil, All-cons}
+use Rattle.std.proofs.lemmas.List.{take_all, take_more}
+use Rattle.std.proofs.lemmas.Option.{slice_get_within, get_or_from_slice_get}
+use Rattle.std.proofs.lemmas.List.Elements.{All-head, All-tail, All-nil, All-cons, All-push}
 use Rattle.zi_version.specs.Range.{admits}
 use Rattle.zi_policy.specs.declared.types.Width.{Width}
 use Rattle.zi_feed.specs.declared.feed.Dep.{Dep}
@@ -37,6 +39,19 @@ tells_all P false xs h = (λ t. absurd (false≢true t), λ a. absurd (one_fails
 
 pub tells_items : {A : Type 0} (P : A → Type 0) (b : Bool) (xs ys : List A) → xs ≡ ys → Decides b (All P xs) → Decides b (All P ys)
 tells_items P b xs ys e h = subst (λ zs. Decides b (All P zs)) e h
+
+-- one after the other
+pub tells_not_all : {A : Type 0} (P : A → Type 0) (xs : List A) (n : ℕ) (x : A) (b : Bool) → slice_get xs n ≡ Some x → Decides b (P x) → b ≡ false → Decides false (All P xs)
+tells_not_all P xs n x b there d f =
+    (λ e. absurd (false≢true e), λ all. absurd (false≢true (sym f ∙ d.1 (subst P (get_or_from_slice_get xs n x x there) (all n x (slice_get_within xs n x there))))))
+
+pub all_taken_more : {A : Type 0} (P : A → Type 0) (xs : List A) (n : ℕ) (x : A) (b : Bool) → slice_get xs n ≡ Some x → Decides b (P x) → b ≡ true → All P (take n xs) → All P (take (n + 1) xs)
+all_taken_more P xs n x b there d t h =
+    let one : take (n + 1) xs ≡ take n xs ++ x ∷ [] = take_more xs n x (slice_get_within xs n x there) ∙ ap (λ y. take n xs ++ y ∷ []) (get_or_from_slice_get xs n x x there) in
+    subst (All P) (sym one) (All-push P (take n xs) x h (d.0 t))
+
+pub tells_taken : {A : Type 0} (P : A → Type 0) (xs : List A) (n : ℕ) → length xs ≤ n → All P (take n xs) → Decides true (All P xs)
+tells_taken P xs n le h = (λ _. subst (All P) (take_all n xs le) h, λ _. refl)
 
 pub tells_some : {A : Type 0} (o : Option (Bor A)) (p : Option A) (b : Bool) → option_copied o ≡ p → b ≡ is_some o → Decides b (IsSome p)
 tells_some None p b e f = (λ t. absurd (false≢true (sym f ∙ t)), λ h. absurd (none_is p (sym e) h))

@@ -10,6 +10,7 @@ ghost use Rattle.zi_check.specs.Parts.{universe_of, picks_of, IsEssential, IsUse
 
 use zi_choice::{Names, Used};
 use zi_feed::{Command, Dep, DepKind};
+use zi_inherited::Inherited;
 use zi_policy::Width;
 use zi_text::Text;
 use zi_universe::{Candidate, Requirement};
@@ -47,7 +48,8 @@ fn command_of<'u>(on: &Setting<'u>, i: u32, k: &'u Candidate, name: &Text) -> Op
 {
     let candidate = picked(on, i)?;
     let place = on.names.command_place(i, candidate, name)?;
-    k.imp.commands.as_slice().get(place)
+    let command = k.imp.commands.get(place)?;
+    Some(command.as_ref())
 }
 
 // The command of a name at an interface.
@@ -148,6 +150,18 @@ fn are_met(on: &Setting, deps: &[Dep]) -> bool
     deps.iter().all(|dep| is_met(on, dep))
 }
 
+// Whether dependencies are met that are inherited or a candidate's own.
+fn are_all_met(on: &Setting, deps: &Inherited<Dep>) -> bool
+    ensures { IsTrue result ↔ AreMet (universe_of on.now) (picks_of on.now) deps.now }
+{
+    for n in 0..deps.len() {
+        if !is_met(on, deps.at(n)) {
+            return false;
+        }
+    }
+    true
+}
+
 // Whether what a command needs is met.
 fn is_command_met(on: &Setting, m: &Command) -> bool
     ensures { IsTrue result ↔ AreMet (universe_of on.now) (picks_of on.now) (needs_of m.now) }
@@ -184,7 +198,7 @@ pub(crate) fn is_candidate_met(on: &Setting, i: u32) -> bool
 {
     match chosen(on, i) {
         None => true,
-        Some(k) => are_met(on, k.imp.deps.as_slice()),
+        Some(k) => are_all_met(on, &k.imp.deps),
     }
 }
 

@@ -2,14 +2,15 @@
 use Rattle.std.proofs.Common.{◌≡◌, ℕ, zero, suc, ◌==◌, ◌+◌, ◌-◌, take, drop, get_or, ◌<◌, ◌≤◌, Bool, true, false, not, cond, ◌||◌, ◌&&◌, List, [], ◌∷◌, ◌++◌, length, map, refl, sym, ap, ◌∙◌, subst, arith, Option, Some, None, Bor, if◌then◌else◌, eq-eqb, eqb-true}
 use Rattle.std.specs.Prelude.{option_and_then, option_copied, bytes_eq, slice_get, IfSome, MatchOption}
 use Rattle.std.proofs.lemmas.Option.{slice_get-get_or}
-use Rattle.std.specs.List.{list_any, position_from}
+use Rattle.std.specs.List.{list_any, position_from, flat_map}
+use Rattle.std.proofs.Math.Seq.{drop-cons}
 use Rattle.std.specs.Cmp.Lexicographic.{bytes_decides}
 use Rattle.zi_feed.specs.declared.feed.Dep.{Dep}
 use Rattle.zi_feed.specs.declared.feed.Runner.{Runner}
 use Rattle.zi_feed.specs.declared.feed.Command.{Command}
 use Rattle.zi_universe.specs.declared.types.Candidate.{Candidate}
 use Rattle.zi_universe.specs.declared.types.Interface.{Interface}
-use Rattle.std.proofs.lemmas.List.{map-append, length-map}
+use Rattle.std.proofs.lemmas.List.{map-append, length-map, drop_all}
 use Rattle.zi_policy.specs.Platform.{place}
 use Rattle.std.proofs.lemmas.List.{get_or-map}
 use Rattle.std.proofs.lemmas.Bool.{not-true, not-false}
@@ -87,10 +88,9 @@ visit_none u s i ts a b l e n w r =
     let stays : Follows u s [] b b = ends in
     (b, comes l (subst (λ o. Follows u s (deps_of o) (with_place s i a) b) (sym n) (subst (λ x. Follows u s [] x b) e stays)), r)
 
-pub visit_some : (u : List Interface) (s : Choice) (i : ℕ) (k : Candidate) (ts us : List Task) (ds : Bor (List Dep)) (a b : Walk) → is_listed a i ≡ false → b ≡ with_place s i a → chosen u s i ≡ Some k → ds.now ≡ k.imp.deps → us ≡ ts ++ Follow ds ∷ [] → (w : Walk) → Runs u s us b w → Then u s (Visits u s i) ts a w
-visit_some u s i k ts us ds a b l e n d t w r =
-    let f : Then u s (Does u s (Follow ds)) ts b w = run_last u s ts (Follow ds) b w (subst (λ x. Runs u s x b w) t r) in
-    let g : Follows u s k.imp.deps (with_place s i a) f.0 = subst (λ x. Follows u s x (with_place s i a) f.0) d (subst (λ x. Follows u s ds.now x f.0) e f.1) in
+pub visit_some : (u : List Interface) (s : Choice) (i : ℕ) (k : Candidate) (ts : List Task) (a b : Walk) → is_listed a i ≡ false → b ≡ with_place s i a → chosen u s i ≡ Some k → (w : Walk) → Then u s (Follows u s k.imp.deps) ts b w → Then u s (Visits u s i) ts a w
+visit_some u s i k ts a b l e n w f =
+    let g : Follows u s k.imp.deps (with_place s i a) f.0 = subst (λ x. Follows u s k.imp.deps x f.0) e f.1 in
     (f.0, comes l (subst (λ o. Follows u s (deps_of o) (with_place s i a) f.0) (sym n) g), f.2)
 
 -- needing a command
@@ -130,6 +130,23 @@ pub follow_join : {u : List Interface} {s : Choice} {ds es : List Dep} {a b c : 
 follow_join ends g = g
 follow_join (passes e f) g = passes e (follow_join f g)
 follow_join (goes i e v n f) g = goes i e v n (follow_join f g)
+
+-- pieces of dependencies, the last of which is added first
+pub pieces_none : (u : List Interface) (s : Choice) (ps : List (Bor (List Dep))) (n : ℕ) (ts : List Task) → length ps ≤ n
+    → (a w : Walk) → Runs u s ts a w → Then u s (Follows u s (flat_map (λ q. q.now) (drop n ps))) ts a w
+pieces_none u s ps n ts le a w r =
+    let stays : Follows u s [] a a = ends in
+    (a, subst (λ x. Follows u s (flat_map (λ q. q.now) x) a a) (sym (drop_all n ps le)) stays, r)
+
+pub pieces_more : (u : List Interface) (s : Choice) (ts us vs : List Task) (ps : List (Bor (List Dep))) (i n : ℕ) (p : Bor (List Dep)) → n ≡ i + 1 → i < length ps → p ≡ get_or ps i p → vs ≡ us ++ Follow p ∷ []
+    → ((a w : Walk) → Runs u s us a w → Then u s (Follows u s (flat_map (λ q. q.now) (drop n ps))) ts a w)
+    → (a w : Walk) → Runs u s vs a w → Then u s (Follows u s (flat_map (λ q. q.now) (drop i ps))) ts a w
+pieces_more u s ts us vs ps i n p e lt is more later a w r =
+    let m : suc i ≡ n = omega (arith, e) in
+    let split : p ∷ drop n ps ≡ drop i ps = sym (drop-cons ps i p lt ∙ ap (λ y. y ∷ drop (suc i) ps) (sym is) ∙ ap (λ j. p ∷ drop j ps) m) in
+    let f : Then u s (Does u s (Follow p)) us a w = run_last u s us (Follow p) a w (subst (λ x. Runs u s x a w) more r) in
+    let g : Then u s (Follows u s (flat_map (λ q. q.now) (drop n ps))) ts f.0 w = later f.0 w f.2 in
+    (g.0, subst (λ x. Follows u s (flat_map (λ q. q.now) x) a g.0) split (follow_join f.1 g.1), g.2)
 
 pub needs_alone : (u : List Interface) (s : Choice) (m : Command) (ts us : List Task) (ds : Bor (List Dep)) (a : Walk) → m.runner ≡ None → ds.now ≡ m.deps → us ≡ ts ++ Follow ds ∷ [] → (w : Walk) → Runs u s us a w → Then u s (Follows u s (needs_of m)) ts a w
 needs_alone u s m ts us ds a n d t w r =

@@ -50,7 +50,7 @@ fn tables_of(alloc: Global, candidates: &[Candidate]) -> Result<List<CommandTabl
 {
     let mut tables = List::new(alloc);
     for k in candidates {
-        let table = table_of(alloc, k.imp.commands.as_slice())?;
+        let table = table_of(alloc, &k.imp.commands)?;
         tables.push(table)?;
     }
     Ok(tables)

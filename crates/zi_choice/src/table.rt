@@ -6,6 +6,7 @@ ghost use Rattle.zi_choice.specs.Tables.{IsAdded, AreTheirPlaces};
 use indexmap::IndexMap;
 use std::alloc::Global;
 use zi_feed::Command;
+use zi_inherited::{Inherited, Shared};
 use zi_text::{Memory, Text};
 
 /// The places of a candidate's commands by their names; of commands that share a name the first one's.
@@ -32,11 +33,15 @@ fn add(
 }
 
 /// The table of some commands, in time linear in their names.
-pub(crate) fn table_of(alloc: Global, commands: &[Command]) -> Result<CommandTable, Memory>
+pub(crate) fn table_of(
+    alloc: Global,
+    commands: &Inherited<Shared<Command>>,
+) -> Result<CommandTable, Memory>
     ensures { IfOk result (λ t. AreTheirPlaces commands.now t.places.entries) }
 {
     let mut places = IndexMap::new(alloc);
-    for (place, command) in commands.iter().enumerate() {
+    for place in 0..commands.len() {
+        let command = commands.at(place);
         add(alloc, &mut places, &command.name, place)?;
     }
     Ok(CommandTable { places })

@@ -4,12 +4,14 @@ ghost use Rattle.zi_universe.specs.Candidates.{asks};
 ghost use Rattle.zi_choice.specs.Choice.{chosen, command_of, needs_of};
 ghost use Rattle.zi_choice.specs.Walk.{Visits, Needs, NeedsEach, Follows, leads_to};
 ghost use Rattle.zi_choice.specs.Tasks.{universe_of, picks_of, walk_of, Does, Runs, Steps, Moves, WalksOn, size, sizes, dep_size, deps_size, IsFurther, IsSame};
+ghost use Rattle.zi_choice.specs.declared.walking.Way.{Way as AWay};
 
 use crate::names::Names;
 use crate::traced::{Used, picked};
 use indexmap::IndexSet;
 use std::alloc::Global;
 use zi_feed::{Command, Dep, DepKind};
+use zi_inherited::Inherited;
 use zi_text::{Memory, Text};
 use zi_universe::{Candidate, Universe};
 
@@ -57,7 +59,8 @@ fn command_of<'u>(on: &Setting<'u>, i: u32, k: &'u Candidate, name: &Text) -> Op
 {
     let candidate = picked(on.picks, i)?;
     let place = on.names.command_place(i, candidate, name)?;
-    k.imp.commands.as_slice().get(place)
+    let command = k.imp.commands.get(place)?;
+    Some(command.as_ref())
 }
 
 // Whether a dependency asks for its interface.
@@ -83,6 +86,24 @@ fn leads_to(on: &Setting, dep: &Dep) -> Option<u32>
     on.names.number(&dep.interface)
 }
 
+// Inherited dependencies are to be followed, the outer ones first.
+fn add_follows<'u>(
+    on: &Setting<'u>,
+    deps: &'u Inherited<Dep>,
+    tasks: &mut Vec<Task<'u>>,
+) -> Result<(), Memory>
+    ensures { OnOk result ((way : AWay) → Steps on.now (Follows (universe_of on.now) (picks_of on.now) deps.now) tasks.old.items way tasks.new.items way) }
+{
+    let segments = deps.segments(on.alloc)?;
+    let pieces = segments.as_slice();
+    let mut left = pieces.len();
+    while left > 0 {
+        left -= 1;
+        tasks.push(Task::Follow(pieces[left]))?;
+    }
+    Ok(())
+}
+
 // An interface is visited. Says whether it was new.
 fn visit<'u>(
     on: &Setting<'u>,
@@ -101,7 +122,7 @@ fn visit<'u>(
     let Some(k) = chosen(on, i) else {
         return Ok(true);
     };
-    tasks.push(Task::Follow(k.imp.deps.as_slice()))?;
+    add_follows(on, &k.imp.deps, tasks)?;
     Ok(true)
 }
 

@@ -9,6 +9,10 @@ use Rattle.zi_forest.specs.Forest.{Forest, Elem, element_view}
 use Rattle.zi_feed.specs.declared.fault.Fault.{Fault}
 use Rattle.zi_feed.specs.declared.walk.Seen.{Seen}
 use Rattle.zi_feed.specs.declared.feed.Import.{Import}
+use Rattle.zi_feed.specs.declared.feed.Impl.{Impl}
+use Rattle.zi_feed.specs.declared.feed.Feed.{Feed}
+use Rattle.zi_policy.specs.declared.types.Policy.{Policy}
+use Rattle.zi_feed.specs.Active.{kept_feed}
 use Rattle.zi_feed.specs.Sites.{Ways, Site, sites, Said, here, is, is_unclear}
 use Rattle.zi_feed.specs.Impls.{import_of}
 use Rattle.zi_feed.specs.Faults.{least, lesser_of, faults_with, faults_at, root_faults, same_ids}
@@ -121,3 +125,13 @@ imports_left uri ss = map (import_of (Some uri)) (filter (is (codes "feed")) (ma
 
 pub imports_end : (uri : List ℕ) (ss : List Seen) (i : ℕ) (found total : List Import) → length ss ≤ i → found ++ imports_left uri (drop i ss) ≡ total → found ≡ total
 imports_end uri ss i found total h kept = sym (append-nil found) ∙ (ap (λ v. found ++ imports_left uri v) (sym (drop_all i ss h)) ∙ kept)
+
+-- a feed of which three fields are what is kept of another
+pub kept_whole : (policy : Option Policy) (f : Feed) (uri : List ℕ) (imports : List Import) (impls : List Impl) → uri ≡ f.uri → imports ≡ f.imports → impls ≡ (kept_feed policy f).impls
+    → ◌≡◌ {A = Feed} (record { uri = uri; imports = imports; impls = impls }) (kept_feed policy f)
+kept_whole None f uri imports impls u m i =
+    ap (λ v. record { uri = v; imports = imports; impls = impls }) u
+    ∙ (ap (λ v. record { uri = f.uri; imports = v; impls = impls }) m ∙ ap (λ v. record { uri = f.uri; imports = f.imports; impls = v }) i)
+kept_whole (Some p) f uri imports impls u m i =
+    ap (λ v. record { uri = v; imports = imports; impls = impls }) u
+    ∙ (ap (λ v. record { uri = f.uri; imports = v; impls = impls }) m ∙ ap (λ v. record { uri = f.uri; imports = f.imports; impls = v }) i)

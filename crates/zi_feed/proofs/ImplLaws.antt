@@ -3,21 +3,26 @@ use Rattle.std.proofs.Common.{◌≡◌, ℕ, Bool, true, false, ◌&&◌, ◌||
 use Rattle.std.specs.Prelude.{if◌then◌else◌, not}
 use Rattle.std.specs.List.{flat_map, filter_map, cons_option, fold, list_any}
 use Rattle.std.proofs.lemmas.Bool.{false≢true}
-use Rattle.std.proofs.lemmas.List.Folds.{flat_map-map}
+use Rattle.std.proofs.lemmas.List.{map-append}
 use Rattle.zi_elements.specs.declared.element.Node.{Node}
 use Rattle.zi_forest.specs.Forest.{Forest, none, words, child, Elem, elements, node_view, nodes_view}
 use Rattle.zi_feed.specs.declared.feed.Impl.{Impl}
+use Rattle.zi_policy.specs.declared.types.Policy.{Policy}
 use Rattle.zi_feed.specs.declared.along.Own.{Own}
+use Rattle.zi_feed.specs.declared.along.Added.{Added}
 use Rattle.zi_feed.specs.Texts.{same}
 use Rattle.zi_feed.specs.Words.{is_among, optional}
 use Rattle.zi_feed.specs.Sites.{Ways, Site, sites, stands, is_closed, is_unclear, is_unbuilt, is_other_step, is_ours, is, read_in, path, Said, said}
 use Rattle.zi_feed.specs.Values.{deps_of, commands_of, bindings_of}
 use Rattle.zi_feed.specs.Impls.{impl_of, impl_from}
+use Rattle.zi_feed.specs.Active.{active_part, kept_own, kept_feed}
 use Rattle.zi_feed.specs.Faults.{is_impl, counts, implementations}
 use Rattle.zi_feed.specs.Feeds.{feed_of}
-use Rattle.zi_feed.specs.Views.{taken, unsaid, State, entered, impls_at, impl_at, own_of, carried_impls, carried_impls_in}
+use Rattle.zi_feed.specs.Views.{taken, unsaid, State, entered, impls_at, impl_at, own_of, added_nothing, added_with, carried_impls, carried_impls_in}
 use Rattle.zi_feed.proofs.TableLaws.{same_text}
 use Rattle.zi_feed.proofs.CarryLaws.{carried, given, said_path, carry_next, carry_end}
+use Rattle.zi_feed.proofs.KeptLaws.{filter_map_each}
+use Rattle.zi_feed.proofs.AddedLaws.{kept_impl, kept_at, at_path}
 
 -- The table: what stands in none, and what stands in the root and in groups alone.
 nine_free : (name : List ℕ) (r s t u v w x y z : List (List ℕ)) (a b c d e f g h i : Bool)
@@ -96,8 +101,8 @@ false_and a b h = ap (λ v. v && b) h
 counts_not : (e : Elem) → same e.name (codes "implementation") ≡ false → counts e ≡ false
 counts_not e h = false_and (is_impl e) (not (is_unclear e)) (and_false (is_ours e) (same e.name (codes "implementation")) h)
 
-nothing_at : (ways : Ways) (s : State) (e : Elem) → counts e ≡ false → impls_at ways s e ≡ []
-nothing_at ways s e h = ap (λ b. if b then optional (impl_at ways (taken s.0 e) (s.1 ++ own_of ways e ∷ []) e) else []) h
+nothing_at : (ways : Ways) (policy : Option Policy) (s : State) (e : Elem) → counts e ≡ false → impls_at ways policy s e ≡ []
+nothing_at ways policy s e h = ap (λ b. if b then optional (impl_at ways (taken s.0 e) (added_with s.1 (kept_at ways policy e)) e) else []) h
 
 empty_step : (st cl : Bool) (own inner later : List Impl) → later ≡ [] → (st ≡ true → own ≡ []) → (st ≡ true → inner ≡ [])
     → (if not st then later else if cl then own ++ later else own ++ (inner ++ later)) ≡ []
@@ -106,16 +111,16 @@ empty_step true true own inner later p q r = ap (λ v. v ++ later) (q refl) ∙ 
 empty_step true false own inner later p q r = ap (λ v. v ++ (inner ++ later)) (q refl) ∙ (ap (λ v. v ++ later) (r refl) ∙ p)
 
 -- no implementation stands in another element than the root and groups
-pub no_impls : (ways : Ways) (s : State) (parent : List ℕ) (f : Forest) → same parent (codes "interface") ≡ false → same parent (codes "group") ≡ false
-    → carried_impls ways s parent f ≡ []
+pub no_impls : (ways : Ways) (policy : Option Policy) (s : State) (parent : List ℕ) (f : Forest) → same parent (codes "interface") ≡ false → same parent (codes "group") ≡ false
+    → carried_impls ways policy s parent f ≡ []
 unfolding carried_impls
-no_impls ways s parent none p q = refl
-no_impls ways s parent (words t k) p q = no_impls ways s parent k p q
-no_impls ways s parent (child sp n attrs f at k) p q =
+no_impls ways policy s parent none p q = refl
+no_impls ways policy s parent (words t k) p q = no_impls ways policy s parent k p q
+no_impls ways policy s parent (child sp n attrs f at k) p q =
     let e : Elem = record { space = sp; name = n; attrs = attrs; inside = f; place = at } in
-    empty_step (stands ways parent e) (is_closed e) _ _ _ (no_impls ways s parent k p q)
-    (λ h. nothing_at ways s e (counts_not e (other_name (read_in parent) n (codes "implementation") (stands_named ways parent e h) (no_implementation parent p q))))
-    (λ h. no_impls ways (entered ways s e) n f (other_name (read_in parent) n (codes "interface") (stands_named ways parent e h) (no_root parent))
+    empty_step (stands ways parent e) (is_closed e) _ _ _ (no_impls ways policy s parent k p q)
+    (λ h. nothing_at ways policy s e (counts_not e (other_name (read_in parent) n (codes "implementation") (stands_named ways parent e h) (no_implementation parent p q))))
+    (λ h. no_impls ways policy (entered ways policy s e) n f (other_name (read_in parent) n (codes "interface") (stands_named ways parent e h) (no_root parent))
     (other_name (read_in parent) n (codes "group") (stands_named ways parent e h) (no_group parent p q)))
 
 -- What one element gives.
@@ -124,14 +129,14 @@ none_behind false cl own inner = refl
 none_behind true true own inner = append-nil own
 none_behind true false own inner = ap (λ v. own ++ v) (append-nil inner)
 
-at_element : (ways : Ways) (s : State) (parent : List ℕ) (e : Elem)
-    → carried_impls_in ways s parent e ≡ (if not (stands ways parent e) then [] else if is_closed e then impls_at ways s e else impls_at ways s e ++ carried_impls ways (entered ways s e) e.name e.inside)
+at_element : (ways : Ways) (policy : Option Policy) (s : State) (parent : List ℕ) (e : Elem)
+    → carried_impls_in ways policy s parent e ≡ (if not (stands ways parent e) then [] else if is_closed e then impls_at ways policy s e else impls_at ways policy s e ++ carried_impls ways policy (entered ways policy s e) e.name e.inside)
 unfolding carried_impls
-at_element ways s parent e = none_behind (stands ways parent e) (is_closed e) _ _
+at_element ways policy s parent e = none_behind (stands ways parent e) (is_closed e) _ _
 
 -- one that isn't read
-pub gathers_none : (ways : Ways) (s : State) (parent : List ℕ) (e : Elem) → stands ways parent e ≡ false → carried_impls_in ways s parent e ≡ []
-gathers_none ways s parent e h = at_element ways s parent e ∙ rw h refl
+pub gathers_none : (ways : Ways) (policy : Option Policy) (s : State) (parent : List ℕ) (e : Elem) → stands ways parent e ≡ false → carried_impls_in ways policy s parent e ≡ []
+gathers_none ways policy s parent e h = at_element ways policy s parent e ∙ rw h refl
 
 or_parts : (a b : Bool) → (a || b) ≡ false → (a ≡ false) × (b ≡ false)
 or_parts false false h = (refl, refl)
@@ -143,12 +148,12 @@ not_named true b h k = k
 not_named false b h k = absurd (false≢true h)
 
 -- one that is neither a group nor an implementation
-pub gathers_other : (ways : Ways) (s : State) (parent : List ℕ) (e : Elem) → is (codes "group") e ≡ false → is_impl e ≡ false → carried_impls_in ways s parent e ≡ []
+pub gathers_other : (ways : Ways) (policy : Option Policy) (s : State) (parent : List ℕ) (e : Elem) → is (codes "group") e ≡ false → is_impl e ≡ false → carried_impls_in ways policy s parent e ≡ []
 unfolding carried_impls
-gathers_other ways s parent e g i =
+gathers_other ways policy s parent e g i =
     empty_step (stands ways parent e) (is_closed e) _ _ [] refl
-    (λ h. nothing_at ways s e (false_and (is_impl e) (not (is_unclear e)) i))
-    (λ h. no_impls ways (entered ways s e) e.name e.inside (other_name (read_in parent) e.name (codes "interface") (stands_named ways parent e h) (no_root parent))
+    (λ h. nothing_at ways policy s e (false_and (is_impl e) (not (is_unclear e)) i))
+    (λ h. no_impls ways policy (entered ways policy s e) e.name e.inside (other_name (read_in parent) e.name (codes "interface") (stands_named ways parent e h) (no_root parent))
     (not_named (is_ours e) (same e.name (codes "group")) (stands_ours ways parent e h) g))
 
 not_both : (u r o : Bool) → (r ≡ true → o ≡ false) → (u || (r && true)) ≡ true → (o && not u) ≡ false
@@ -187,9 +192,9 @@ nothing_either true xs h = h
 nothing_either false xs h = refl
 
 -- one that nothing is read in
-pub gathers_closed : (ways : Ways) (s : State) (parent : List ℕ) (e : Elem) → is_closed e ≡ true → carried_impls_in ways s parent e ≡ []
-gathers_closed ways s parent e h =
-    at_element ways s parent e ∙ rw h (nothing_either (stands ways parent e) (impls_at ways s e) (nothing_at ways s e (closed_counts_not e h)))
+pub gathers_closed : (ways : Ways) (policy : Option Policy) (s : State) (parent : List ℕ) (e : Elem) → is_closed e ≡ true → carried_impls_in ways policy s parent e ≡ []
+gathers_closed ways policy s parent e h =
+    at_element ways policy s parent e ∙ rw h (nothing_either (stands ways parent e) (impls_at ways policy s e) (nothing_at ways policy s e (closed_counts_not e h)))
 
 two_groups : same (codes "group") (codes "implementation") ≡ false
 unfolding same
@@ -199,10 +204,10 @@ group_is_none : (e : Elem) → is (codes "group") e ≡ true → counts e ≡ fa
 group_is_none e h = counts_not e (ap (λ n. same n (codes "implementation")) (same_text e.name (codes "group") (second (is_ours e) (same e.name (codes "group")) h)) ∙ two_groups)
 
 -- a group
-pub gathers_group : (ways : Ways) (s : State) (parent : List ℕ) (e : Elem) → stands ways parent e ≡ true → is_closed e ≡ false → is (codes "group") e ≡ true
-    → carried_impls_in ways s parent e ≡ carried_impls ways (entered ways s e) e.name e.inside
-gathers_group ways s parent e p q g =
-    at_element ways s parent e ∙ rw p (rw q (ap (λ v. v ++ carried_impls ways (entered ways s e) e.name e.inside) (nothing_at ways s e (group_is_none e g))))
+pub gathers_group : (ways : Ways) (policy : Option Policy) (s : State) (parent : List ℕ) (e : Elem) → stands ways parent e ≡ true → is_closed e ≡ false → is (codes "group") e ≡ true
+    → carried_impls_in ways policy s parent e ≡ carried_impls ways policy (entered ways policy s e) e.name e.inside
+gathers_group ways policy s parent e p q g =
+    at_element ways policy s parent e ∙ rw p (rw q (ap (λ v. v ++ carried_impls ways policy (entered ways policy s e) e.name e.inside) (nothing_at ways policy s e (group_is_none e g))))
 
 impl_apart : (word : List ℕ) (e : Elem) → same (codes "implementation") word ≡ false → is_impl e ≡ true → same e.name word ≡ false
 impl_apart word e h k = ap (λ n. same n word) (same_text e.name (codes "implementation") (second (is_ours e) (same e.name (codes "implementation")) k)) ∙ h
@@ -223,104 +228,111 @@ both_true : (a b : Bool) → a ≡ true → b ≡ false → (a && not b) ≡ tru
 both_true a b p q = rw p (rw q refl)
 
 -- an implementation
-pub gathers_impl : (ways : Ways) (s : State) (parent : List ℕ) (e : Elem) → stands ways parent e ≡ true → is_closed e ≡ false → is_impl e ≡ true
-    → carried_impls_in ways s parent e ≡ optional (impl_at ways (taken s.0 e) (s.1 ++ own_of ways e ∷ []) e)
-gathers_impl ways s parent e p q i =
-    let it : List Impl = optional (impl_at ways (taken s.0 e) (s.1 ++ own_of ways e ∷ []) e) in
-    at_element ways s parent e
-    ∙ rw p (rw q (ap (λ v. impls_at ways s e ++ v) (no_impls ways (entered ways s e) e.name e.inside (impl_apart (codes "interface") e not_root i) (impl_apart (codes "group") e not_group i))
-    ∙ (append-nil (impls_at ways s e) ∙ ap (λ b. if b then it else []) (both_true (is_impl e) (is_unclear e) i (or_first (is_unclear e) (is_unbuilt e) q)))))
+pub gathers_impl : (ways : Ways) (policy : Option Policy) (s : State) (parent : List ℕ) (e : Elem) → stands ways parent e ≡ true → is_closed e ≡ false → is_impl e ≡ true
+    → carried_impls_in ways policy s parent e ≡ optional (impl_at ways (taken s.0 e) (added_with s.1 (kept_at ways policy e)) e)
+gathers_impl ways policy s parent e p q i =
+    let it : List Impl = optional (impl_at ways (taken s.0 e) (added_with s.1 (kept_at ways policy e)) e) in
+    at_element ways policy s parent e
+    ∙ rw p (rw q (ap (λ v. impls_at ways policy s e ++ v) (no_impls ways policy (entered ways policy s e) e.name e.inside (impl_apart (codes "interface") e not_root i) (impl_apart (codes "group") e not_group i))
+    ∙ (append-nil (impls_at ways policy s e) ∙ ap (λ b. if b then it else []) (both_true (is_impl e) (is_unclear e) i (or_first (is_unclear e) (is_unbuilt e) q)))))
 
 -- The loop over what an element holds.
-pub impls_next : (ways : Ways) (s : State) (p q : List ℕ) (ns : List Node) (i : ℕ) (x : Node) (found new total : List Impl)
-    → i < length ns → x ≡ get_or ns i x → q ≡ p → new ≡ found ++ carried_impls ways s q (node_view x)
-    → found ++ carried_impls ways s p (nodes_view (drop i ns)) ≡ total → new ++ carried_impls ways s p (nodes_view (drop (i + 1) ns)) ≡ total
+pub impls_next : (ways : Ways) (policy : Option Policy) (s : State) (p q : List ℕ) (ns : List Node) (i : ℕ) (x : Node) (found new total : List Impl)
+    → i < length ns → x ≡ get_or ns i x → q ≡ p → new ≡ found ++ carried_impls ways policy s q (node_view x)
+    → found ++ carried_impls ways policy s p (nodes_view (drop i ns)) ≡ total → new ++ carried_impls ways policy s p (nodes_view (drop (i + 1) ns)) ≡ total
 unfolding carried_impls
-impls_next ways s p q ns i x found new total h is one made kept = carry_next (entered ways) (impls_at ways) ways s p q ns i x found new total h is one made kept
+impls_next ways policy s p q ns i x found new total h is one made kept = carry_next (entered ways policy) (impls_at ways policy) ways s p q ns i x found new total h is one made kept
 
-pub impls_end : (ways : Ways) (s : State) (p : List ℕ) (ns : List Node) (i : ℕ) (found total : List Impl)
-    → length ns ≤ i → found ++ carried_impls ways s p (nodes_view (drop i ns)) ≡ total → found ≡ total
+pub impls_end : (ways : Ways) (policy : Option Policy) (s : State) (p : List ℕ) (ns : List Node) (i : ℕ) (found total : List Impl)
+    → length ns ≤ i → found ++ carried_impls ways policy s p (nodes_view (drop i ns)) ≡ total → found ≡ total
 unfolding carried_impls
-impls_end ways s p ns i found total h kept = carry_end (entered ways) (impls_at ways) ways s p ns i found total h kept
+impls_end ways policy s p ns i found total h kept = carry_end (entered ways policy) (impls_at ways policy) ways s p ns i found total h kept
 
 -- What goes inward along a path.
-fold_entered : (ways : Ways) (s : State) (es : List Elem) → fold (entered ways) s es ≡ (fold taken s.0 es, s.1 ++ map (own_of ways) es)
-fold_entered ways s [] = ap (λ v. (s.0, v)) (sym (append-nil s.1))
-fold_entered ways s (e ∷ es) = fold_entered ways (entered ways s e) es ∙ ap (λ v. (fold taken (taken s.0 e) es, v)) (append_assoc s.1 (own_of ways e ∷ []) (map (own_of ways) es))
+fold_entered : (ways : Ways) (policy : Option Policy) (s : State) (es : List Elem)
+    → fold (entered ways policy) s es ≡ (fold taken s.0 es, fold added_with s.1 (map (kept_at ways policy) es))
+fold_entered ways policy s [] = refl
+fold_entered ways policy s (e ∷ es) = fold_entered ways policy (entered ways policy s e) es
 
-owns_path : (ways : Ways) (es : List Elem) (e : Elem) → map (own_of ways) es ++ own_of ways e ∷ [] ≡ map (own_of ways) (es ++ e ∷ [])
-owns_path ways [] e = refl
-owns_path ways (x ∷ es) e = ap (λ v. own_of ways x ∷ v) (owns_path ways es e)
+fold_more : (a : Added) (os : List Own) (o : Own) → added_with (fold added_with a os) o ≡ fold added_with a (os ++ o ∷ [])
+fold_more a [] o = refl
+fold_more a (x ∷ os) o = fold_more (added_with a x) os o
 
-at_path : (ways : Ways) (s : Said) (es : List Elem) (e : Elem)
-    → impl_at ways s (map (own_of ways) es) e ≡ impl_from ways s (flat_map (deps_of ways) es) (flat_map (commands_of ways) es) (flat_map (bindings_of ways) es) e
-unfolding impl_at
-at_path ways s es e =
-    ap (λ v. impl_from ways s v (flat_map (λ o. o.commands) (map (own_of ways) es)) (flat_map (λ o. o.bindings) (map (own_of ways) es)) e) (flat_map-map (λ (o : Own). o.deps) (own_of ways) es)
-    ∙ (ap (λ v. impl_from ways s (flat_map (deps_of ways) es) v (flat_map (λ o. o.bindings) (map (own_of ways) es)) e) (flat_map-map (λ (o : Own). o.commands) (own_of ways) es)
-    ∙ ap (λ v. impl_from ways s (flat_map (deps_of ways) es) (flat_map (commands_of ways) es) v e) (flat_map-map (λ (o : Own). o.bindings) (own_of ways) es))
+adds_path : (ways : Ways) (policy : Option Policy) (a : Added) (es : List Elem) (e : Elem)
+    → added_with (fold added_with a (map (kept_at ways policy) es)) (kept_at ways policy e) ≡ fold added_with a (map (kept_at ways policy) (es ++ e ∷ []))
+adds_path ways policy a es e =
+    fold_more a (map (kept_at ways policy) es) (kept_at ways policy e) ∙ ap (fold added_with a) (sym (map-append (kept_at ways policy) es (e ∷ [])))
 
-at_site : (ways : Ways) (t : Site) → given (entered ways) (impls_at ways) (unsaid, []) t ≡ (if counts t.element then optional (impl_of ways t) else [])
+at_site : (ways : Ways) (policy : Option Policy) (t : Site)
+    → given (entered ways policy) (impls_at ways policy) (unsaid, added_nothing) t ≡ (if counts t.element then optional (kept_impl policy (impl_of ways t)) else [])
 unfolding impl_of
-at_site ways t =
-    ap (λ v. impls_at ways v t.element) (fold_entered ways (unsaid, []) t.around)
+at_site ways policy t =
+    ap (λ v. impls_at ways policy v t.element) (fold_entered ways policy (unsaid, added_nothing) t.around)
     ∙ ap (λ v. if counts t.element then optional v else [])
-    (ap (λ v. impl_at ways (taken (fold taken unsaid t.around) t.element) v t.element) (owns_path ways t.around t.element)
-    ∙ (ap (λ v. impl_at ways v (map (own_of ways) (path t)) t.element) (sym (said_path t))
-    ∙ at_path ways (said (path t)) (path t) t.element))
+    (ap (λ v. impl_at ways (taken (fold taken unsaid t.around) t.element) v t.element) (adds_path ways policy added_nothing t.around t.element)
+    ∙ (ap (λ v. impl_at ways v (fold added_with added_nothing (map (kept_at ways policy) (path t))) t.element) (sym (said_path t))
+    ∙ at_path ways policy (said (path t)) added_nothing (path t) t.element refl refl refl))
 
 cons_of : (o : Option Impl) (xs : List Impl) → optional o ++ xs ≡ cons_option o xs
 cons_of None xs = refl
 cons_of (Some x) xs = refl
 
-kept_map : (b : Bool) (ways : Ways) (t : Site) (ts : List Site) (rest : List Impl) → rest ≡ filter_map (impl_of ways) (implementations ts)
-    → (if b then optional (impl_of ways t) else []) ++ rest ≡ filter_map (impl_of ways) (if b then t ∷ implementations ts else implementations ts)
-kept_map false ways t ts rest q = q
-kept_map true ways t ts rest q = cons_of (impl_of ways t) rest ∙ ap (cons_option (impl_of ways t)) q
+kept_map : (b : Bool) (h : Site → Option Impl) (t : Site) (ts : List Site) (rest : List Impl) → rest ≡ filter_map h (implementations ts)
+    → (if b then optional (h t) else []) ++ rest ≡ filter_map h (if b then t ∷ implementations ts else implementations ts)
+kept_map false h t ts rest q = q
+kept_map true h t ts rest q = cons_of (h t) rest ∙ ap (cons_option (h t)) q
 
-sites_impls : (ways : Ways) (ts : List Site) → flat_map (λ t. if counts t.element then optional (impl_of ways t) else []) ts ≡ filter_map (impl_of ways) (implementations ts)
-sites_impls ways [] = refl
-sites_impls ways (t ∷ ts) = kept_map (counts t.element) ways t ts _ (sites_impls ways ts)
+sites_impls : (h : Site → Option Impl) (ts : List Site) → flat_map (λ t. if counts t.element then optional (h t) else []) ts ≡ filter_map h (implementations ts)
+sites_impls h [] = refl
+sites_impls h (t ∷ ts) = kept_map (counts t.element) h t ts _ (sites_impls h ts)
 
 flat_map_same : {A B : Type 0} (g h : A → List B) (xs : List A) → ((x : A) → g x ≡ h x) → flat_map g xs ≡ flat_map h xs
 flat_map_same g h [] p = refl
 flat_map_same g h (x ∷ xs) p = ap (λ v. v ++ flat_map g xs) (p x) ∙ ap (λ v. h x ++ v) (flat_map_same g h xs p)
 
--- what is found inward is what the sites say
-pub impls_sites : (ways : Ways) (parent : List ℕ) (f : Forest) → carried_impls ways (unsaid, []) parent f ≡ filter_map (impl_of ways) (implementations (sites ways parent f))
+-- what is found inward is what the sites say, as far as it is kept
+impls_sites : (ways : Ways) (policy : Option Policy) (parent : List ℕ) (f : Forest)
+    → carried_impls ways policy (unsaid, added_nothing) parent f ≡ filter_map (λ t. kept_impl policy (impl_of ways t)) (implementations (sites ways parent f))
 unfolding carried_impls
-impls_sites ways parent f =
-    carried (entered ways) (impls_at ways) ways (unsaid, []) parent f
-    ∙ (flat_map_same (given (entered ways) (impls_at ways) (unsaid, [])) (λ t. if counts t.element then optional (impl_of ways t) else []) (sites ways parent f) (at_site ways)
-    ∙ sites_impls ways (sites ways parent f))
+impls_sites ways policy parent f =
+    carried (entered ways policy) (impls_at ways policy) ways (unsaid, added_nothing) parent f
+    ∙ (flat_map_same (given (entered ways policy) (impls_at ways policy) (unsaid, added_nothing)) (λ t. if counts t.element then optional (kept_impl policy (impl_of ways t)) else [])
+    (sites ways parent f) (at_site ways policy)
+    ∙ sites_impls (λ t. kept_impl policy (impl_of ways t)) (sites ways parent f))
+
+kept_all : (root : Elem) (uri : List ℕ) (policy : Option Policy)
+    → filter_map (λ t. kept_impl policy (impl_of (Some uri) t)) (implementations (sites (Some uri) root.name root.inside)) ≡ (kept_feed policy (feed_of root uri)).impls
+unfolding feed_of
+kept_all root uri None = refl
+kept_all root uri (Some p) = filter_map_each (active_part p) (impl_of (Some uri)) (implementations (sites (Some uri) root.name root.inside))
 
 -- What the code adds.
 pub nothing_added : (xs found : List Impl) → xs ≡ [] → found ≡ found ++ xs
 nothing_added xs found h = sym (append-nil found) ∙ ap (λ v. found ++ v) (sym h)
 
-pub group_added : (ways : Ways) (s : State) (parent : List ℕ) (e : Elem) (found new : List Impl) (inner : Said) (owns : List Own) (own : Own)
+pub group_added : (ways : Ways) (policy : Option Policy) (s : State) (parent : List ℕ) (e : Elem) (found new : List Impl) (inner : Said) (added : Added)
     → stands ways parent e ≡ true → is_closed e ≡ false → is (codes "group") e ≡ true
-    → inner ≡ taken s.0 e → owns ≡ s.1 ++ own ∷ [] → own ≡ own_of ways e
-    → new ≡ found ++ carried_impls ways (inner, owns) e.name e.inside → new ≡ found ++ carried_impls_in ways s parent e
-group_added ways s parent e found new inner owns own p q g i o w h =
-    h ∙ (ap (λ v. found ++ carried_impls ways (v, owns) e.name e.inside) i
-    ∙ (ap (λ v. found ++ carried_impls ways (taken s.0 e, v) e.name e.inside) (o ∙ ap (λ v. s.1 ++ v ∷ []) w)
-    ∙ ap (λ v. found ++ v) (sym (gathers_group ways s parent e p q g))))
+    → inner ≡ taken s.0 e → added ≡ added_with s.1 (kept_at ways policy e)
+    → new ≡ found ++ carried_impls ways policy (inner, added) e.name e.inside → new ≡ found ++ carried_impls_in ways policy s parent e
+group_added ways policy s parent e found new inner added p q g i a h =
+    h ∙ (ap (λ v. found ++ carried_impls ways policy (v, added) e.name e.inside) i
+    ∙ (ap (λ v. found ++ carried_impls ways policy (taken s.0 e, v) e.name e.inside) a
+    ∙ ap (λ v. found ++ v) (sym (gathers_group ways policy s parent e p q g))))
 
-pub impl_added : (ways : Ways) (s : State) (parent : List ℕ) (e : Elem) (found new : List Impl) (inner : Said) (owns : List Own) (own : Own)
+pub impl_added : (ways : Ways) (policy : Option Policy) (s : State) (parent : List ℕ) (e : Elem) (found new : List Impl) (inner : Said) (added : Added)
     → stands ways parent e ≡ true → is_closed e ≡ false → is_impl e ≡ true
-    → inner ≡ taken s.0 e → owns ≡ s.1 ++ own ∷ [] → own ≡ own_of ways e
-    → new ≡ found ++ optional (impl_at ways inner owns e) → new ≡ found ++ carried_impls_in ways s parent e
-impl_added ways s parent e found new inner owns own p q g i o w h =
-    h ∙ (ap (λ v. found ++ optional (impl_at ways v owns e)) i
-    ∙ (ap (λ v. found ++ optional (impl_at ways (taken s.0 e) v e)) (o ∙ ap (λ v. s.1 ++ v ∷ []) w)
-    ∙ ap (λ v. found ++ v) (sym (gathers_impl ways s parent e p q g))))
+    → inner ≡ taken s.0 e → added ≡ added_with s.1 (kept_at ways policy e)
+    → new ≡ found ++ optional (impl_at ways inner added e) → new ≡ found ++ carried_impls_in ways policy s parent e
+impl_added ways policy s parent e found new inner added p q g i a h =
+    h ∙ (ap (λ v. found ++ optional (impl_at ways v added e)) i
+    ∙ (ap (λ v. found ++ optional (impl_at ways (taken s.0 e) v e)) a
+    ∙ ap (λ v. found ++ v) (sym (gathers_impl ways policy s parent e p q g))))
 
-pub impls_are : (root : Elem) (uri : List ℕ) (before found : List Impl) (inner : Said) (owns : List Own) → before ≡ [] → inner ≡ unsaid → owns ≡ []
-    → found ≡ before ++ carried_impls (Some uri) (inner, owns) root.name root.inside → found ≡ (feed_of root uri).impls
-unfolding feed_of
-impls_are root uri before found inner owns b i o h =
-    h ∙ (ap (λ v. v ++ carried_impls (Some uri) (inner, owns) root.name root.inside) b
-    ∙ (ap (λ v. carried_impls (Some uri) (v, owns) root.name root.inside) i
-    ∙ (ap (λ v. carried_impls (Some uri) (unsaid, v) root.name root.inside) o
-    ∙ impls_sites (Some uri) root.name root.inside)))
+pub impls_are : (root : Elem) (uri : List ℕ) (policy : Option Policy) (before found : List Impl) (inner : Said) (added : Added)
+    → before ≡ [] → inner ≡ unsaid → added ≡ added_nothing
+    → found ≡ before ++ carried_impls (Some uri) policy (inner, added) root.name root.inside → found ≡ (kept_feed policy (feed_of root uri)).impls
+impls_are root uri policy before found inner added b i a h =
+    h ∙ (ap (λ v. v ++ carried_impls (Some uri) policy (inner, added) root.name root.inside) b
+    ∙ (ap (λ v. carried_impls (Some uri) policy (v, added) root.name root.inside) i
+    ∙ (ap (λ v. carried_impls (Some uri) policy (unsaid, v) root.name root.inside) a
+    ∙ (impls_sites (Some uri) policy root.name root.inside ∙ kept_all root uri policy))))

@@ -1,9 +1,11 @@
+pub mod AddedLaws
 pub mod AddressLemmas
 pub mod BlankLaws
 pub mod CarryLaws
 pub mod DigestLaws
 pub mod FindingLaws
 pub mod ImplLaws
+pub mod KeptLaws
 pub mod KindLaws
 pub mod LatestLaws
 pub mod LeastLaws
@@ -13,6 +15,7 @@ pub mod NumeralLaws
 pub mod PartLaws
 pub mod PlaceLaws
 pub mod RepeatLaws
+pub mod SaidLaws
 pub mod SeenLaws
 pub mod SettledLaws
 pub mod TableLaws

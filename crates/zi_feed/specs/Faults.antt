@@ -89,6 +89,11 @@ has_bad_address ways name e = is_wrong (λ t. is_some (meaning ways t)) (attribu
 abbrev pub has_bad_local_in : List ℕ → Said → Elem → Bool
 has_bad_local_in uri s e = is_local uri && is_wrong (λ t. is_some (placed uri t)) (local_text s e)
 
+-- there is a local path that leads nowhere, in a feed that is local
+abbrev pub is_wrong_local : Ways → Option (List ℕ) → Bool
+is_wrong_local None text = false
+is_wrong_local (Some uri) text = is_local uri && is_wrong (λ t. is_some (placed uri t)) text
+
 abbrev pub has_bad_local : Ways → Said → Elem → Bool
 has_bad_local None s e = false
 has_bad_local (Some uri) s e = has_bad_local_in uri s e

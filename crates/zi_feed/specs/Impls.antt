@@ -83,9 +83,13 @@ version_text s = option_map (λ v. v ++ unwrap_or s.modifier []) s.version
 abbrev pub begins_path : List ℕ → Bool
 begins_path text = starts_with nat_eq text (codes ".") || starts_with nat_eq text (codes "/")
 
+-- the path that the id of an implementation is, where it is one
+abbrev pub own_path : Elem → Option (List ℕ)
+own_path e = if begins_path (value (codes "id") e) then attribute (codes "id") e else None
+
 -- the text that says where a local implementation lies
 abbrev pub local_text : Said → Elem → Option (List ℕ)
-local_text s e = option_or s.local_path (if begins_path (value (codes "id") e) then attribute (codes "id") e else None)
+local_text s e = option_or s.local_path (own_path e)
 
 -- where it lies, in a feed that is local
 abbrev pub local_in : List ℕ → Said → Elem → Option (List ℕ)

@@ -1,4 +1,5 @@
 pub mod Texts
+pub mod Active
 pub mod Address
 pub mod Words
 pub mod Digests

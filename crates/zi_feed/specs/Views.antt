@@ -1,20 +1,29 @@
 -- What lent elements and carried attributes mean, and the recursion that carries them.
-use Rattle.std.specs.Prelude.{ℕ, not, List, [], ◌∷◌, ◌++◌, map, codes, Option, None, option_copied, if◌then◌else◌}
+use Rattle.std.specs.Prelude.{ℕ, ◌≡◌, All, not, false, ◌||◌, List, [], ◌∷◌, ◌++◌, map, codes, Option, Some, None, is_some, option_copied, option_and_then, if◌then◌else◌}
 use Rattle.std.specs.Option.{option_or}
-use Rattle.std.specs.List.{flat_map}
+use Rattle.std.specs.List.{list_any}
 use Rattle.std.proofs.Common.{Bor}
 use Rattle.zi_elements.specs.declared.element.Element.{Element}
 use Rattle.zi_elements.specs.declared.element.Node.{Node}
 use Rattle.zi_forest.specs.Forest.{Forest, none, words, child, Elem, element_view, node_view, attribute}
-use Rattle.zi_feed.specs.Words.{optional}
+use Rattle.zi_version.specs.Range.{a_version}
+use Rattle.zi_policy.specs.Platform.{arch_of}
+use Rattle.zi_policy.specs.declared.types.Policy.{Policy}
+use Rattle.zi_feed.specs.Words.{optional, is_wrong, is_amiss, latest}
+use Rattle.zi_feed.specs.Address.{is_local, placed}
+use Rattle.zi_feed.specs.Forms.{is_version}
 use Rattle.zi_feed.specs.Sites.{Ways, Said, stands, is_closed}
 use Rattle.zi_feed.specs.Values.{deps_of, commands_of, bindings_of}
-use Rattle.zi_feed.specs.Impls.{impl_from}
-use Rattle.zi_feed.specs.Faults.{counts, faults_with}
+use Rattle.zi_feed.specs.Impls.{version_text, langs_of, are_alike, is_run, impl_from}
+use Rattle.zi_feed.specs.Active.{kept_own}
+use Rattle.zi_feed.specs.Faults.{counts, faults_with, is_wrong_local}
 use Rattle.zi_feed.specs.declared.feed.Impl.{Impl}
 use Rattle.zi_feed.specs.declared.fault.Fault.{Fault}
 use Rattle.zi_feed.specs.declared.along.Own.{Own}
-use Rattle.zi_feed.specs.declared.walk.Inherited.{Inherited}
+use Rattle.zi_feed.specs.declared.along.Added.{Added}
+use Rattle.zi_feed.specs.declared.made.Made.{Made}
+use Rattle.zi_feed.specs.declared.walk.Wrong.{Wrong}
+use Rattle.zi_feed.specs.declared.walk.Carried.{Carried}
 use Rattle.zi_feed.specs.declared.walk.Seen.{Seen}
 
 -- the elements that are lent
@@ -22,7 +31,7 @@ abbrev pub views : List (Bor Element) → List Elem
 views es = map (λ r. element_view r.now) es
 
 -- what is said along a path, by the carried attributes
-abbrev pub said_by : Inherited → Said
+abbrev pub said_by : Carried → Said
 said_by i = record {
   version = option_copied i.version;
   modifier = option_copied i.modifier;
@@ -80,30 +89,76 @@ seen_within ways e = carried_sites ways unsaid e.name e.inside
 abbrev pub carried_at : Ways → Said → List ℕ → Node → List (Elem × Said)
 carried_at ways s parent node = carried_sites ways s parent (node_view node)
 
+-- Where a local path lies, in a feed that is local.
+abbrev pub placed_in : Ways → Option (List ℕ) → Option (List ℕ)
+placed_in None text = None
+placed_in (Some uri) text = if is_local uri then option_and_then (placed uri) text else None
+
+-- what is made of what is said along a path
+abbrev pub made_of : Ways → Said → Made
+made_of ways s = record {
+  version = option_and_then a_version (version_text s);
+  arch = option_and_then arch_of s.arch;
+  langs = langs_of s.langs;
+  local = placed_in ways s.local_path;
+}
+
+-- what is wrong with what is said along a path
+abbrev pub wrong_of : Ways → Said → Wrong
+wrong_of ways s = record {
+  version = is_amiss is_version (version_text s);
+  arch = is_wrong (λ t. is_some (arch_of t)) s.arch;
+  local = is_wrong_local ways s.local_path;
+}
+
+-- it was looked at
+abbrev pub IsChecked : Ways → Carried → Type 0
+IsChecked ways c = c.wrong ≡ wrong_of ways (said_by c)
+
+abbrev pub AreChecked : Ways → List Seen → Type 0
+AreChecked ways seen = All (λ x. IsChecked ways x.said) seen
+
 -- What a group or an implementation adds.
 abbrev pub own_of : Ways → Elem → Own
 own_of ways e = record { deps = deps_of ways e; commands = commands_of ways e; bindings = bindings_of ways e }
 
--- the implementation at an element, where this is said there and these are the groups around it and itself
-unfoldable pub impl_at : Ways → Said → List Own → Elem → Option Impl
-impl_at ways s owns e = impl_from ways s (flat_map (λ o. o.deps) owns) (flat_map (λ o. o.commands) owns) (flat_map (λ o. o.bindings) owns) e
+-- what the elements along a path add: nothing, and with one element more
+abbrev pub added_nothing : Added
+added_nothing = record { deps = []; commands = []; has_run = false; bindings = [] }
 
--- what goes inward: what is said, and what the groups add
+abbrev pub added_with : Added → Own → Added
+added_with a o = record {
+  deps = a.deps ++ o.deps;
+  commands = latest are_alike (a.commands ++ o.commands);
+  has_run = a.has_run || list_any is_run o.commands;
+  bindings = a.bindings ++ o.bindings;
+}
+
+-- each command is the latest of its name, and it is known whether one is `run`
+pub record IsAdded (a : Added) : Type 0 where
+  pub latest_alone : latest are_alike a.commands ≡ a.commands
+  pub run : a.has_run ≡ list_any is_run a.commands
+
+-- the implementation at an element, where this is said there and this is added along its path, itself included
+unfoldable pub impl_at : Ways → Said → Added → Elem → Option Impl
+impl_at ways s a e = impl_from ways s a.deps a.commands a.bindings e
+
+-- what goes inward: what is said, and what is added
 abbrev pub State : Type 0
-State = Said × List Own
+State = Said × Added
 
-abbrev pub entered : Ways → State → Elem → State
-entered ways s e = (taken s.0 e, s.1 ++ own_of ways e ∷ [])
+abbrev pub entered : Ways → Option Policy → State → Elem → State
+entered ways p s e = (taken s.0 e, added_with s.1 (kept_own p (own_of ways e)))
 
-abbrev pub impls_at : Ways → State → Elem → List Impl
-impls_at ways s e = if counts e then optional (impl_at ways (taken s.0 e) (s.1 ++ own_of ways e ∷ []) e) else []
+abbrev pub impls_at : Ways → Option Policy → State → Elem → List Impl
+impls_at ways p s e = if counts e then optional (impl_at ways (taken s.0 e) (added_with s.1 (kept_own p (own_of ways e))) e) else []
 
 -- the implementations among nodes, where this goes inward
-unfoldable pub carried_impls : Ways → State → List ℕ → Forest → List Impl
-carried_impls ways s parent f = carry (entered ways) (impls_at ways) ways s parent f
+unfoldable pub carried_impls : Ways → Option Policy → State → List ℕ → Forest → List Impl
+carried_impls ways p s parent f = carry (entered ways p) (impls_at ways p) ways s parent f
 
-abbrev pub carried_impls_in : Ways → State → List ℕ → Elem → List Impl
-carried_impls_in ways s parent e = carried_impls ways s parent (child e.space e.name e.attrs e.inside e.place none)
+abbrev pub carried_impls_in : Ways → Option Policy → State → List ℕ → Elem → List Impl
+carried_impls_in ways p s parent e = carried_impls ways p s parent (child e.space e.name e.attrs e.inside e.place none)
 
 -- the faults at an element that was seen
 abbrev pub faults_seen : Ways → Elem × Said → List Fault

@@ -1,18 +1,22 @@
-//! What groups add to an implementation: dependencies, commands and bindings along a path.
-ghost use Rattle.std.specs.Prelude.{◌≡◌, ◌++◌, IfOk, map, reverse, option_copied};
-ghost use Rattle.std.specs.List.{list_any, flat_map};
+//! What groups add to an implementation: dependencies, commands and bindings along a path, each held once for the element that
+//! adds it.
+ghost use Rattle.std.specs.Prelude.{◌≡◌, ◌++◌, ◌||◌, IfOk, MatchOption, map, length, reverse, option_copied};
+ghost use Rattle.std.specs.List.{list_any};
 ghost use Rattle.zi_forest.specs.Forest.{element_view};
+ghost use Rattle.zi_policy.specs.Platform.{is_active};
 ghost use Rattle.zi_feed.specs.Words.{latest};
 ghost use Rattle.zi_feed.specs.Impls.{are_alike, main_command, is_run, with_main};
-ghost use Rattle.zi_feed.specs.Views.{own_of};
+ghost use Rattle.zi_feed.specs.Active.{active_deps, active_command, kept_own};
+ghost use Rattle.zi_feed.specs.Views.{own_of, added_nothing, added_with, IsAdded};
 
-use crate::copies::{add_bindings, add_deps};
 use crate::feed::{Binding, Command, Dep};
 use crate::parts::{bindings_of, commands_of, deps_of};
 use crate::reading::{is_text, parts};
 use std::alloc::Global;
 use std::collections::BTreeSet;
 use zi_elements::Element;
+use zi_inherited::{Inherited, Shared};
+use zi_policy::{Policy, active};
 use zi_text::{List, Memory, Text};
 
 /// What a group or an implementation adds to what it takes from the groups around it.
@@ -23,8 +27,84 @@ pub struct Own {
     pub bindings: List<Binding>,
 }
 
-/// What an element adds.
-pub fn own_of(alloc: Global, ways: Option<&str>, e: &Element) -> Result<Own, Memory>
+/// What the elements along a path add, outer ones first.
+#[derive(Drop)]
+pub struct Added {
+    pub deps: Inherited<Dep>,
+    /// Those that no later one of their name replaces.
+    pub commands: Inherited<Shared<Command>>,
+    /// Whether a command `run` is among them.
+    pub has_run: bool,
+    pub bindings: Inherited<Binding>,
+}
+
+// The dependencies that are active.
+fn active_deps(alloc: Global, policy: &Policy, deps: List<Dep>) -> Result<List<Dep>, Memory>
+    ensures { IfOk result (λ ds. ds ≡ active_deps policy.now deps) }
+{
+    let mut kept = List::new(alloc);
+    for dep in deps.into_vec() {
+        if active(&dep.condition, policy) {
+            kept.push(dep)?;
+        }
+    }
+    Ok(kept)
+}
+
+// The commands with their active dependencies alone.
+fn active_commands(
+    alloc: Global,
+    policy: &Policy,
+    commands: List<Command>,
+) -> Result<List<Command>, Memory>
+    ensures { IfOk result (λ cs. cs ≡ map (active_command policy.now) commands) }
+{
+    let mut kept = List::new(alloc);
+    for command in commands.into_vec() {
+        let Command {
+            name,
+            path,
+            words,
+            runner,
+            deps,
+            bindings,
+            unbuilt,
+        } = command;
+        let deps = active_deps(alloc, policy, deps)?;
+        kept.push(Command {
+            name,
+            path,
+            words,
+            runner,
+            deps,
+            bindings,
+            unbuilt,
+        })?;
+    }
+    Ok(kept)
+}
+
+// What of it is active under a policy; all of it where there is none.
+fn kept_own(alloc: Global, policy: Option<&Policy>, own: Own) -> Result<Own, Memory>
+    ensures { IfOk result (λ o. o ≡ kept_own (option_copied policy.entry) own) }
+{
+    let Some(policy) = policy else {
+        return Ok(own);
+    };
+    let Own {
+        deps,
+        commands,
+        bindings,
+    } = own;
+    Ok(Own {
+        deps: active_deps(alloc, policy, deps)?,
+        commands: active_commands(alloc, policy, commands)?,
+        bindings,
+    })
+}
+
+// What an element adds.
+fn all_of(alloc: Global, ways: Option<&str>, e: &Element) -> Result<Own, Memory>
     ensures { IfOk result (λ o. o ≡ own_of (option_copied ways.entry) (element_view e.now)) }
 {
     let parts = parts(alloc, ways, e)?;
@@ -38,58 +118,35 @@ pub fn own_of(alloc: Global, ways: Option<&str>, e: &Element) -> Result<Own, Mem
     })
 }
 
-// The dependencies of groups, outer ones first.
-fn deps_around(alloc: Global, owns: &[Own]) -> Result<List<Dep>, Memory>
-    ensures { IfOk result (λ ds. ds ≡ flat_map (λ o. o.deps) owns.now) }
-{
-    let mut deps = List::new(alloc);
-    for own in owns {
-        add_deps(alloc, own.deps.as_slice(), &mut deps)?;
-    }
-    Ok(deps)
-}
-
-/// The dependencies along a path, outer ones first: those of groups, and then the last ones, which are moved where there is no group.
-pub fn deps_along(alloc: Global, owns: &[Own], last: List<Dep>) -> Result<List<Dep>, Memory>
-    ensures { IfOk result (λ ds. ds ≡ flat_map (λ o. o.deps) owns.now ++ last) }
-{
-    if owns.is_empty() {
-        return Ok(last);
-    }
-    let mut deps = deps_around(alloc, owns)?;
-    add_deps(alloc, last.as_slice(), &mut deps)?;
-    Ok(deps)
-}
-
-// The bindings of groups, outer ones first.
-fn bindings_around(alloc: Global, owns: &[Own]) -> Result<List<Binding>, Memory>
-    ensures { IfOk result (λ bs. bs ≡ flat_map (λ o. o.bindings) owns.now) }
-{
-    let mut bindings = List::new(alloc);
-    for own in owns {
-        add_bindings(alloc, own.bindings.as_slice(), &mut bindings)?;
-    }
-    Ok(bindings)
-}
-
-/// The bindings along a path, outer ones first: those of groups, and then the last ones, which are moved where there is no group.
-pub fn bindings_along(
+/// What an element adds that is active under a policy; all of it where there is none.
+pub fn own_of(
     alloc: Global,
-    owns: &[Own],
-    last: List<Binding>,
-) -> Result<List<Binding>, Memory>
-    ensures { IfOk result (λ bs. bs ≡ flat_map (λ o. o.bindings) owns.now ++ last) }
+    ways: Option<&str>,
+    policy: Option<&Policy>,
+    e: &Element,
+) -> Result<Own, Memory>
+    ensures { IfOk result (λ o. o ≡ kept_own (option_copied policy.entry) (own_of (option_copied ways.entry) (element_view e.now))) }
 {
-    if owns.is_empty() {
-        return Ok(last);
+    let own = all_of(alloc, ways, e)?;
+    kept_own(alloc, policy, own)
+}
+
+// Each of some commands, to be shared.
+fn shared(alloc: Global, commands: List<Command>) -> Result<List<Shared<Command>>, Memory>
+    ensures { IfOk result (λ cs. cs ≡ commands) }
+{
+    let mut out = List::new(alloc);
+    for command in commands.into_vec() {
+        out.push(Shared::new(alloc, command)?)?;
     }
-    let mut bindings = bindings_around(alloc, owns)?;
-    add_bindings(alloc, last.as_slice(), &mut bindings)?;
-    Ok(bindings)
+    Ok(out)
 }
 
 // Adds commands, lent.
-fn add_lent<'a>(commands: &'a [Command], lent: &mut Vec<&'a Command>) -> Result<(), Memory>
+fn add_lent<'a>(
+    commands: &'a [Shared<Command>],
+    lent: &mut Vec<&'a Shared<Command>>,
+) -> Result<(), Memory>
     ensures { IfOk result (λ _. map (λ r. r.now) lent.new.items ≡ map (λ r. r.now) lent.old.items ++ commands.now) }
 {
     for command in commands {
@@ -98,19 +155,11 @@ fn add_lent<'a>(commands: &'a [Command], lent: &mut Vec<&'a Command>) -> Result<
     Ok(())
 }
 
-// The commands of groups, outer ones first, lent.
-fn lent_around<'a>(alloc: Global, owns: &'a [Own]) -> Result<Vec<&'a Command>, Memory>
-    ensures { IfOk result (λ v. map (λ r. r.now) v.items ≡ flat_map (λ o. o.commands) owns.now) }
-{
-    let mut lent = Vec::new(alloc);
-    for own in owns {
-        add_lent(own.commands.as_slice(), &mut lent)?;
-    }
-    Ok(lent)
-}
-
 // Those that no later one of their name replaces, the last first.
-fn latest_back<'a>(alloc: Global, commands: &[&'a Command]) -> Result<Vec<&'a Command>, Memory>
+fn latest_back<'a>(
+    alloc: Global,
+    commands: &[&'a Shared<Command>],
+) -> Result<Vec<&'a Shared<Command>>, Memory>
     ensures { IfOk result (λ v. reverse (map (λ r. r.now) v.items) ≡ latest are_alike (map (λ r. r.now) commands.now)) }
 {
     let mut names: BTreeSet<&str> = BTreeSet::new(alloc);
@@ -127,16 +176,60 @@ fn latest_back<'a>(alloc: Global, commands: &[&'a Command]) -> Result<Vec<&'a Co
 }
 
 // Commands once more, the last first.
-fn copied_back(alloc: Global, commands: &[&Command]) -> Result<List<Command>, Memory>
+fn shared_back(
+    alloc: Global,
+    commands: &[&Shared<Command>],
+) -> Result<List<Shared<Command>>, Memory>
     ensures { IfOk result (λ cs. cs ≡ reverse (map (λ r. r.now) commands.now)) }
 {
     let mut out = List::new(alloc);
     let mut left = commands.len();
     while left > 0 {
         left -= 1;
-        out.push(commands[left].copy(alloc)?)?;
+        out.push(commands[left].share()?)?;
     }
     Ok(out)
+}
+
+// Outer commands, and own ones behind them, where one of these replaces one before it: those that are left.
+fn replaced<'a>(
+    alloc: Global,
+    outer: &'a Inherited<Shared<Command>>,
+    own: &'a [Shared<Command>],
+) -> Result<Option<List<Shared<Command>>>, Memory>
+    ensures { IfOk result (λ r. MatchOption r (latest are_alike (outer.now ++ own.now) ≡ outer.now ++ own.now)
+        (λ cs. cs ≡ latest are_alike (outer.now ++ own.now))) }
+{
+    let mut lent = Vec::new(alloc);
+    let pieces = outer.segments(alloc)?;
+    for piece in pieces.as_slice() {
+        add_lent(piece, &mut lent)?;
+    }
+    add_lent(own, &mut lent)?;
+    let kept = latest_back(alloc, lent.as_slice())?;
+    if kept.len() == lent.len() {
+        return Ok(None);
+    }
+    Ok(Some(shared_back(alloc, kept.as_slice())?))
+}
+
+// The commands of a path with own ones at its end, which replace outer ones of their names.
+fn commands_with(
+    alloc: Global,
+    outer: &Inherited<Shared<Command>>,
+    own: List<Command>,
+) -> Result<Inherited<Shared<Command>>, Memory>
+    requires { latest are_alike outer.now ≡ outer.now }
+    ensures { IfOk result (λ cs. cs ≡ latest are_alike (outer.now ++ own)) }
+{
+    if own.is_empty() {
+        return outer.share();
+    }
+    let own = shared(alloc, own)?;
+    match replaced(alloc, outer, own.as_slice())? {
+        None => outer.within(alloc, own),
+        Some(left) => Inherited::new().within(alloc, left),
+    }
 }
 
 // Whether a command `run` is among these.
@@ -151,12 +244,53 @@ fn has_run(commands: &[Command]) -> bool
     false
 }
 
+// Whether a command `run` is among these or was before.
+fn has_run_with(before: bool, commands: &[Command]) -> bool
+    ensures { result ≡ (before || list_any is_run commands.now) }
+{
+    before || has_run(commands)
+}
+
+/// Nothing is added.
+pub fn added_nothing() -> Added
+    ensures { result ≡ added_nothing }
+{
+    Added {
+        deps: Inherited::new(),
+        commands: Inherited::new(),
+        has_run: false,
+        bindings: Inherited::new(),
+    }
+}
+
+/// What is added along a path with one element more, which adds this.
+pub fn added_with(alloc: Global, outer: &Added, own: Own) -> Result<Added, Memory>
+    requires { IsAdded outer.now }
+    ensures { IfOk result (λ a. (a ≡ added_with outer.now own) × IsAdded a) }
+{
+    let Own {
+        deps,
+        commands,
+        bindings,
+    } = own;
+    let has_run = has_run_with(outer.has_run, commands.as_slice());
+    let deps = outer.deps.within(alloc, deps)?;
+    let commands = commands_with(alloc, &outer.commands, commands)?;
+    let bindings = outer.bindings.within(alloc, bindings)?;
+    Ok(Added {
+        deps,
+        commands,
+        has_run,
+        bindings,
+    })
+}
+
 // The command that `main` means.
-fn main_command(alloc: Global, path: &str) -> Result<Command, Memory>
+fn main_command(alloc: Global, path: &Text) -> Result<Command, Memory>
     ensures { IfOk result (λ c. c ≡ main_command path.now) }
 {
     let name = Text::from_str(alloc, "run")?;
-    let path = Text::from_str(alloc, path)?;
+    let path = path.copy(alloc)?;
     Ok(Command {
         name,
         path: Some(path),
@@ -168,23 +302,34 @@ fn main_command(alloc: Global, path: &str) -> Result<Command, Memory>
     })
 }
 
-/// The commands along a path, those of groups and then the last ones, with what `main` means.
+// The commands that are added along a path, with what `main` means.
+fn commands_and_main(
+    alloc: Global,
+    main: Option<&Text>,
+    added: &Added,
+) -> Result<Inherited<Shared<Command>>, Memory>
+    requires { added.now.has_run ≡ list_any is_run added.now.commands }
+    ensures { IfOk result (λ cs. cs ≡ with_main (option_copied main.entry) added.now.commands) }
+{
+    let Some(path) = main else {
+        return added.commands.share();
+    };
+    if added.has_run {
+        return added.commands.share();
+    }
+    let mut own = List::new(alloc);
+    own.push(Shared::new(alloc, main_command(alloc, path)?)?)?;
+    added.commands.within(alloc, own)
+}
+
+/// The commands along a path, with what `main` means.
 pub fn commands_along(
     alloc: Global,
-    main: Option<&str>,
-    owns: &[Own],
-    last: &[Command],
-) -> Result<List<Command>, Memory>
-    ensures { IfOk result (λ cs. cs ≡ with_main (option_copied main.entry) (latest are_alike (flat_map (λ o. o.commands) owns.now ++ last.now))) }
+    main: Option<&Text>,
+    added: &Added,
+) -> Result<Inherited<Shared<Command>>, Memory>
+    requires { IsAdded added.now }
+    ensures { IfOk result (λ cs. cs ≡ with_main (option_copied main.entry) (latest are_alike added.now.commands)) }
 {
-    let mut lent = lent_around(alloc, owns)?;
-    add_lent(last, &mut lent)?;
-    let kept = latest_back(alloc, lent.as_slice())?;
-    let mut commands = copied_back(alloc, kept.as_slice())?;
-    if let Some(path) = main {
-        if !has_run(commands.as_slice()) {
-            commands.push(main_command(alloc, path)?)?;
-        }
-    }
-    Ok(commands)
+    commands_and_main(alloc, main, added)
 }

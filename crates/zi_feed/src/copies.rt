@@ -1,8 +1,10 @@
 //! Copies of dependencies, commands and bindings.
 ghost use Rattle.std.specs.Prelude.{◌≡◌, ◌++◌, IfOk};
 
-use crate::feed::{Binding, Command, Dep, Extra, Runner, Word};
+use crate::feed::{Binding, Command, Dep, Extra, Impl, Runner, Word};
+use crate::made::copied_arch;
 use std::alloc::Global;
+use zi_digest::DigestName;
 use zi_policy::Condition;
 use zi_text::{List, Memory, Text};
 use zi_version::Range;
@@ -65,9 +67,9 @@ impl Binding {
                 default,
             } => Ok(Binding::Env {
                 name: name.copy(alloc)?,
-                extra: extra.copy(alloc)?,
                 mode: *mode,
                 separator: separator.copy(alloc)?,
+                extra: extra.copy(alloc)?,
                 default: copy_text(alloc, default)?,
             }),
             Binding::Unbuilt { element } => Ok(Binding::Unbuilt {
@@ -109,12 +111,12 @@ impl Dep {
             interface: self.interface.copy(alloc)?,
             kind: self.kind,
             ranges: copy_ranges(alloc, &self.ranges)?,
+            commands: copy_texts(alloc, &self.commands)?,
+            bindings: copy_bindings(alloc, &self.bindings)?,
             condition: Condition {
                 os: copy_text(alloc, &self.condition.os)?,
                 wanted: copy_text(alloc, &self.condition.wanted)?,
             },
-            commands: copy_texts(alloc, &self.commands)?,
-            bindings: copy_bindings(alloc, &self.bindings)?,
         })
     }
 }
@@ -197,12 +199,53 @@ impl Command {
     {
         Ok(Command {
             name: self.name.copy(alloc)?,
-            path: copy_text(alloc, &self.path)?,
             words: copy_words(alloc, &self.words)?,
-            runner: copy_runner(alloc, &self.runner)?,
             deps: copy_deps(alloc, &self.deps)?,
             bindings: copy_bindings(alloc, &self.bindings)?,
+            path: copy_text(alloc, &self.path)?,
             unbuilt: copy_text(alloc, &self.unbuilt)?,
+            runner: copy_runner(alloc, &self.runner)?,
+        })
+    }
+}
+
+// The same digests once more, of which there is at most one by each algorithm.
+fn copy_digests(alloc: Global, digests: &List<DigestName>) -> Result<List<DigestName>, Memory>
+    ensures { IfOk result (λ ds. ds ≡ digests.now) }
+{
+    Ok(List::from_vec(Vec::from_slice(alloc, digests.as_slice())?))
+}
+
+impl Impl {
+    /// The same implementation once more, which costs none of what it says but its few digests: both share it. Memory is its one refusal.
+    pub fn copy(&self, alloc: Global) -> Result<Impl, Memory>
+        ensures { IfOk result (λ i. i ≡ self.now) }
+    {
+        let id = self.id.copy(alloc)?;
+        let version = self.version.copy(alloc)?;
+        let arch = copied_arch(alloc, &self.arch)?;
+        let langs = self.langs.share()?;
+        let released = copy_text(alloc, &self.released)?;
+        let local = copy_text(alloc, &self.local)?;
+        let digests = copy_digests(alloc, &self.digests)?;
+        let methods = self.methods.share()?;
+        let deps = self.deps.share()?;
+        let commands = self.commands.share()?;
+        let bindings = self.bindings.share()?;
+        Ok(Impl {
+            id,
+            version,
+            arch,
+            stability: self.stability,
+            langs,
+            released,
+            local,
+            digests,
+            methods,
+            deps,
+            commands,
+            bindings,
+            place: self.place,
         })
     }
 }

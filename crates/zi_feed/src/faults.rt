@@ -1,6 +1,6 @@
 //! The faults at one element, a function for each kind.
 ghost use Rattle.std.specs.Prelude.{◌≡◌, ◌&&◌, IfOk, codes, map, true, option_copied, is_some};
-ghost use Rattle.zi_forest.specs.Forest.{element_view, attribute, has, lacks, value};
+ghost use Rattle.zi_forest.specs.Forest.{element_view, attribute, lacks, value};
 ghost use Rattle.zi_policy.specs.Platform.{arch_of};
 ghost use Rattle.zi_text.specs.Numeral.{numeral};
 ghost use Rattle.zi_feed.specs.Texts.{is_none};
@@ -8,21 +8,20 @@ ghost use Rattle.zi_feed.specs.Words.{first, is_wrong, is_amiss, repeated};
 ghost use Rattle.zi_feed.specs.Digests.{digest_by, attribute_by};
 ghost use Rattle.zi_feed.specs.Forms.{is_version, is_expression, stability_of, mode_of, importance_of, is_path, is_dest};
 ghost use Rattle.zi_feed.specs.Sites.{meaning, is};
-ghost use Rattle.zi_feed.specs.Faults.{names_interface, is_impl, has_bad_digits, is_bad_environment, is_bad_for_each, is_bad_file, is_bad_rename, has_bad_address, has_bad_local, has_fault, share, is_bad_part, has_no_interface, repeats_in, late_kinds, kinds_among, kinds_at, faults_with, fault_at, number, is_first, least, lesser_of};
+ghost use Rattle.zi_feed.specs.Faults.{names_interface, is_impl, has_bad_digits, is_bad_environment, is_bad_for_each, is_bad_file, is_bad_rename, has_bad_address, is_wrong_local, has_bad_local, has_fault, share, is_bad_part, has_no_interface, repeats_in, late_kinds, kinds_among, kinds_at, faults_with, fault_at, number, is_first, least, lesser_of};
 ghost use Rattle.zi_feed.specs.Impls.{version_text};
-ghost use Rattle.zi_feed.specs.Views.{views, said_by};
+ghost use Rattle.zi_feed.specs.Views.{views, said_by, IsChecked};
 ghost use Rattle.zi_feed.specs.declared.fault.FeedKind.TheVariants as kind;
 
-use crate::address::{is_local, place};
 use crate::digests::{attribute_by, digest_by};
 use crate::fault::{Fault, FeedKind};
 use crate::forms::{
     importance_of, is_dest, is_expression, is_path, is_version, meaning, mode_of, numeral,
     stability_of,
 };
-use crate::impls::{local_text, version_text};
-use crate::reading::{attribute, is, is_one_of, is_unclear, parts, those, value};
-use crate::walk::Inherited;
+use crate::impls::own_path;
+use crate::reading::{attribute, has, is, is_one_of, is_unclear, lent, parts, those, value};
+use crate::walk::{Carried, is_wrong_local};
 use std::alloc::Global;
 use std::collections::BTreeSet;
 use zi_digest::Algorithm;
@@ -30,8 +29,8 @@ use zi_elements::Element;
 use zi_policy::Arch;
 use zi_text::Memory;
 
-// There is a text, and it is no version.
-fn is_wrong_version(alloc: Global, text: Option<&str>) -> Result<bool, Memory>
+/// There is a text, and it is no version.
+pub fn is_wrong_version(alloc: Global, text: Option<&str>) -> Result<bool, Memory>
     ensures { IfOk result (λ b. b ≡ is_wrong is_version (option_copied text.entry)) }
 {
     match text {
@@ -40,8 +39,8 @@ fn is_wrong_version(alloc: Global, text: Option<&str>) -> Result<bool, Memory>
     }
 }
 
-// There is a text, and it is no platform.
-fn is_wrong_arch(alloc: Global, text: Option<&str>) -> Result<bool, Memory>
+/// There is a text, and it is no platform.
+pub fn is_wrong_arch(alloc: Global, text: Option<&str>) -> Result<bool, Memory>
     ensures { IfOk result (λ b. b ≡ is_wrong (λ t. is_some (arch_of t)) (option_copied text.entry)) }
 {
     match text {
@@ -95,13 +94,6 @@ fn names_interface(e: &Element) -> bool
     is_one_of(names.as_slice(), e.name.as_str())
 }
 
-// It has an attribute.
-fn has(e: &Element, name: &str) -> bool
-    ensures { result ≡ has name.now (element_view e.now) }
-{
-    attribute(e, name).is_some()
-}
-
 // An implementation without an id.
 fn has_no_id(e: &Element) -> bool
     ensures { result ≡ (is_impl (element_view e.now) && is_none (value (codes "id") (element_view e.now))) }
@@ -109,26 +101,17 @@ fn has_no_id(e: &Element) -> bool
     is_impl(e) && value(e, "id").is_empty()
 }
 
-// The version of an implementation is lacking or none.
-fn has_no_version(alloc: Global, said: &Inherited) -> Result<bool, Memory>
-    ensures { IfOk result (λ b. b ≡ is_amiss is_version (version_text (said_by said.now))) }
-{
-    match version_text(alloc, said)? {
-        Some(text) => Ok(!is_version(alloc, text.as_str())?),
-        None => Ok(true),
-    }
-}
-
 // A version that is none.
 fn has_bad_version(
     alloc: Global,
     ways: Option<&str>,
-    said: &Inherited,
+    said: &Carried,
     e: &Element,
 ) -> Result<bool, Memory>
+    requires { said.now.wrong.version ≡ is_amiss is_version (version_text (said_by said.now)) }
     ensures { IfOk result (λ b. b ≡ has_fault (option_copied ways.entry) (said_by said.now) kind.BadVersion (element_view e.now)) }
 {
-    if is_impl(e) && has_no_version(alloc, said)? {
+    if is_impl(e) && said.wrong.version {
         return Ok(true);
     }
     Ok(
@@ -142,7 +125,7 @@ fn has_bad_version(
 fn has_bad_range(
     alloc: Global,
     ways: Option<&str>,
-    said: &Inherited,
+    said: &Carried,
     e: &Element,
 ) -> Result<bool, Memory>
     ensures { IfOk result (λ b. b ≡ has_fault (option_copied ways.entry) (said_by said.now) kind.BadRange (element_view e.now)) }
@@ -160,12 +143,13 @@ fn has_bad_range(
 fn has_bad_arch(
     alloc: Global,
     ways: Option<&str>,
-    said: &Inherited,
+    said: &Carried,
     e: &Element,
 ) -> Result<bool, Memory>
+    requires { said.now.wrong.arch ≡ is_wrong (λ t. is_some (arch_of t)) (said_by said.now).arch }
     ensures { IfOk result (λ b. b ≡ has_fault (option_copied ways.entry) (said_by said.now) kind.BadArch (element_view e.now)) }
 {
-    if is_impl(e) && is_wrong_arch(alloc, said.arch)? {
+    if is_impl(e) && said.wrong.arch {
         return Ok(true);
     }
     Ok(is(e, "feed") && is_wrong_arch(alloc, attribute(e, "arch"))?)
@@ -185,7 +169,7 @@ fn has_bad_digits_by(alloc: Global, algorithm: Algorithm, e: &Element) -> Result
 fn has_bad_digest(
     alloc: Global,
     ways: Option<&str>,
-    said: &Inherited,
+    said: &Carried,
     e: &Element,
 ) -> Result<bool, Memory>
     ensures { IfOk result (λ b. b ≡ has_fault (option_copied ways.entry) (said_by said.now) kind.BadDigest (element_view e.now)) }
@@ -311,7 +295,7 @@ fn has_bad_remove(alloc: Global, e: &Element) -> Result<bool, Memory>
 fn has_bad_step(
     alloc: Global,
     ways: Option<&str>,
-    said: &Inherited,
+    said: &Carried,
     e: &Element,
 ) -> Result<bool, Memory>
     ensures { IfOk result (λ b. b ≡ has_fault (option_copied ways.entry) (said_by said.now) kind.BadStep (element_view e.now)) }
@@ -327,13 +311,13 @@ fn has_no_interface(e: &Element) -> bool
 }
 
 // A stability that a feed may not say.
-fn has_bad_stability(said: &Inherited, e: &Element) -> bool
+fn has_bad_stability(said: &Carried, e: &Element) -> bool
     ensures { result ≡ (is_impl (element_view e.now) && is_wrong (λ t. is_some (stability_of t)) (said_by said.now).stability) }
 {
     if !is_impl(e) {
         return false;
     }
-    match said.stability {
+    match lent(said.stability) {
         Some(text) => stability_of(text).is_none(),
         None => false,
     }
@@ -358,20 +342,15 @@ fn has_bad_address(
 fn has_bad_local(
     alloc: Global,
     ways: Option<&str>,
-    said: &Inherited,
+    said: &Carried,
     e: &Element,
 ) -> Result<bool, Memory>
+    requires { said.now.wrong.local ≡ is_wrong_local (option_copied ways) (said_by said.now).local_path }
     ensures { IfOk result (λ b. b ≡ has_bad_local (option_copied ways.entry) (said_by said.now) (element_view e.now)) }
 {
-    let Some(uri) = ways else {
-        return Ok(false);
-    };
-    if !is_local(uri) {
-        return Ok(false);
-    }
-    match local_text(said, e) {
-        Some(text) => Ok(place(alloc, uri, text)?.is_none()),
-        None => Ok(false),
+    match said.local_path {
+        Some(_) => Ok(said.wrong.local),
+        None => is_wrong_local(alloc, ways, own_path(e)),
     }
 }
 
@@ -379,9 +358,10 @@ fn has_bad_local(
 fn is_badly_addressed(
     alloc: Global,
     ways: Option<&str>,
-    said: &Inherited,
+    said: &Carried,
     e: &Element,
 ) -> Result<bool, Memory>
+    requires { said.now.wrong.local ≡ is_wrong_local (option_copied ways) (said_by said.now).local_path }
     ensures { IfOk result (λ b. b ≡ has_fault (option_copied ways.entry) (said_by said.now) kind.BadAddress (element_view e.now)) }
 {
     if names_interface(e) && has_bad_address(alloc, ways, "interface", e)? {
@@ -400,9 +380,10 @@ fn is_badly_addressed(
 fn late_kind(
     alloc: Global,
     ways: Option<&str>,
-    said: &Inherited,
+    said: &Carried,
     e: &Element,
 ) -> Result<Option<FeedKind>, Memory>
+    requires { said.now.wrong.local ≡ is_wrong_local (option_copied ways) (said_by said.now).local_path }
     ensures { IfOk result (λ k. k ≡ first (kinds_among late_kinds (option_copied ways.entry) (said_by said.now) (element_view e.now))) }
 {
     if has_bad_step(alloc, ways, said, e)? {
@@ -425,9 +406,10 @@ fn late_kind(
 pub fn kind_at(
     alloc: Global,
     ways: Option<&str>,
-    said: &Inherited,
+    said: &Carried,
     e: &Element,
 ) -> Result<Option<FeedKind>, Memory>
+    requires { IsChecked (option_copied ways) said.now }
     ensures { IfOk result (λ k. k ≡ first (kinds_at (option_copied ways.entry) (said_by said.now) (element_view e.now))) }
 {
     if has_no_id(e) {
@@ -557,9 +539,10 @@ fn repeat_in(alloc: Global, ways: Option<&str>, e: &Element) -> Result<Option<Fa
 pub fn fault_with(
     alloc: Global,
     ways: Option<&str>,
-    said: &Inherited,
+    said: &Carried,
     e: &Element,
 ) -> Result<Option<Fault>, Memory>
+    requires { IsChecked (option_copied ways) said.now }
     ensures { IfOk result (λ f. f ≡ least (faults_with (option_copied ways.entry) (said_by said.now) (element_view e.now))) }
 {
     if is_unclear(alloc, e)? {

@@ -1,4 +1,5 @@
 use zi_digest::DigestName;
+use zi_inherited::{Inherited, Shared};
 use zi_policy::{Arch, Condition, Stability};
 use zi_text::{List, Text};
 use zi_tree::RelPath;
@@ -26,7 +27,7 @@ pub struct Import {
     pub langs: List<Text>,
 }
 
-/// An implementation, with what it takes from its groups.
+/// An implementation, with what it takes from its groups, which is held once for all of a group. Its copies share all of it.
 #[derive(Debug, Drop)]
 pub struct Impl {
     /// Its name, which isn't empty and stands once in the feed.
@@ -38,7 +39,7 @@ pub struct Impl {
     /// How well it has been tried; testing where nothing is said.
     pub stability: Stability,
     /// The languages that it speaks; any where there is none.
-    pub langs: List<Text>,
+    pub langs: Shared<List<Text>>,
     /// The day of its release, as it is written.
     pub released: Option<Text>,
     /// The path of its folder, where it is local.
@@ -46,13 +47,13 @@ pub struct Impl {
     /// Its digests, one by algorithm at most, in the order of use.
     pub digests: List<DigestName>,
     /// The ways to fetch it that are built, in the order of the document.
-    pub methods: List<Method>,
+    pub methods: Shared<List<Method>>,
     /// What it asks for and restricts, outer groups first.
-    pub deps: List<Dep>,
+    pub deps: Inherited<Dep>,
     /// Its commands by distinct names, outer groups first, and what `main` means at the end.
-    pub commands: List<Command>,
+    pub commands: Inherited<Shared<Command>>,
     /// Its bindings, outer groups first.
-    pub bindings: List<Binding>,
+    pub bindings: Inherited<Binding>,
     /// The offset of its `<` in the document, in bytes from 0.
     pub place: u64,
 }

@@ -1,5 +1,5 @@
 //! The fault of a whole feed, and its value.
-ghost use Rattle.std.specs.Prelude.{◌≡◌, ◌++◌, ◌∷◌, [], ◌&&◌, not, IfOk, Some, codes, map, option_copied};
+ghost use Rattle.std.specs.Prelude.{◌≡◌, ◌++◌, ◌&&◌, not, IfOk, Some, codes, map, option_copied};
 ghost use Rattle.std.specs.List.{filter, flat_map};
 ghost use Rattle.zi_forest.specs.Forest.{element_view, node_view, nodes_view, attribute};
 ghost use Rattle.zi_feed.specs.Texts.{same};
@@ -7,22 +7,25 @@ ghost use Rattle.zi_feed.specs.Words.{is_wrong, optional};
 ghost use Rattle.zi_feed.specs.Address.{is_local as is_local_text};
 ghost use Rattle.zi_feed.specs.Faults.{least, same_ids, root_faults, counts};
 ghost use Rattle.zi_feed.specs.Feeds.{feed_fault, feed_of, part_fault};
-ghost use Rattle.zi_feed.specs.Views.{views, seen_view, faults_seen, said_by, seen_within, impl_at, carried_impls, carried_impls_in};
+ghost use Rattle.zi_feed.specs.Active.{kept_feed};
+ghost use Rattle.zi_feed.specs.Views.{views, seen_view, faults_seen, said_by, made_of, IsAdded, AreChecked, impl_at, seen_within, carried_impls, carried_impls_in};
 
 use crate::address::is_local;
-use crate::along::{Own, own_of};
+use crate::around::{Around, around_nothing, around_with};
 use crate::fault::{Fault, FeedKind};
 use crate::faults::{fault_at, fault_with, least_shared, lesser_of};
 use crate::feed::{Feed, Impl, Import};
 use crate::impls::{impl_at, import_of};
 use crate::reading::{attribute, is, is_closed, is_text, is_unclear, stands};
-use crate::walk::{Inherited, Seen, nothing, taken, walk};
+use crate::walk::{Seen, checked, nothing, walk};
 use std::alloc::Global;
 use zi_elements::{Element, Node};
+use zi_policy::Policy;
 use zi_text::{List, Memory, Text};
 
 // The least fault at elements that were seen.
 fn least_seen(alloc: Global, ways: Option<&str>, seen: &[Seen]) -> Result<Option<Fault>, Memory>
+    requires { AreChecked (option_copied ways) seen.now }
     ensures { IfOk result (λ f. f ≡ least (flat_map (faults_seen (option_copied ways.entry)) (map seen_view seen.now))) }
 {
     let mut found = None;
@@ -99,7 +102,8 @@ pub fn seen_in<'a>(
     ways: Option<&str>,
     e: &'a Element,
 ) -> Result<Vec<Seen<'a>>, Memory>
-    ensures { IfOk result (λ v. map seen_view v.items ≡ seen_within (option_copied ways.entry) (element_view e.now)) }
+    ensures seen { IfOk result (λ v. map seen_view v.items ≡ seen_within (option_copied ways.entry) (element_view e.now)) }
+    ensures checked { IfOk result (λ v. AreChecked (option_copied ways.entry) v.items) }
 {
     let mut seen = Vec::new(alloc);
     walk(alloc, ways, e, nothing(), &mut seen)?;
@@ -114,7 +118,8 @@ pub fn feed_fault(
     uri: &str,
     seen: &[Seen],
 ) -> Result<Option<Fault>, Memory>
-    requires { map seen_view seen.now ≡ seen_within (Some uri.now) (element_view root.now) }
+    requires seen { map seen_view seen.now ≡ seen_within (Some uri.now) (element_view root.now) }
+    requires checked { AreChecked (Some uri.now) seen.now }
     ensures { IfOk result (λ f. f ≡ feed_fault (element_view root.now) uri.now) }
 {
     if !is(root, "interface") {
@@ -131,7 +136,7 @@ pub fn feed_fault(
 pub fn part_fault(alloc: Global, e: &Element) -> Result<Option<Fault>, Memory>
     ensures { IfOk result (λ f. f ≡ part_fault (element_view e.now)) }
 {
-    let said = taken(nothing(), e);
+    let said = checked(alloc, None, nothing(), e)?;
     let own = fault_with(alloc, None, &said, e)?;
     if is_unclear(alloc, e)? {
         return Ok(own);
@@ -141,22 +146,31 @@ pub fn part_fault(alloc: Global, e: &Element) -> Result<Option<Fault>, Memory>
     Ok(lesser_of(own, inner))
 }
 
-// Adds the implementations inside an element, where this is said around them and these are its groups.
+// Adds the implementations inside an element, where this stands along their groups.
 #[cycle(gathering)]
 fn gather<'a>(
     alloc: Global,
     ways: Option<&str>,
+    policy: Option<&Policy>,
     parent: &'a Element,
-    said: Inherited<'a>,
-    owns: &mut Vec<Own>,
+    around: &Around<'a>,
     impls: &mut List<Impl>,
 ) -> Result<(), Memory>
-    ensures owns { IfOk result (λ _. owns.new.items ≡ owns.old.items) }
-    ensures impls { IfOk result (λ _. impls.new
-        ≡ impls.old ++ carried_impls (option_copied ways.entry) (said_by said.entry, owns.old.items) parent.now.name (nodes_view parent.now.children)) }
+    requires added { IsAdded around.now.added }
+    requires made { around.now.made ≡ made_of (option_copied ways) (said_by around.now.said) }
+    ensures { IfOk result (λ _. impls.new
+        ≡ impls.old ++ carried_impls (option_copied ways.entry) (option_copied policy.entry) (said_by around.now.said, around.now.added) parent.now.name (nodes_view parent.now.children)) }
 {
     for node in parent.children.as_slice() {
-        gather_node(alloc, ways, parent.name.as_str(), node, said, owns, impls)?;
+        gather_node(
+            alloc,
+            ways,
+            policy,
+            parent.name.as_str(),
+            node,
+            around,
+            impls,
+        )?;
     }
     Ok(())
 }
@@ -167,17 +181,19 @@ fn gather<'a>(
 fn gather_node<'a>(
     alloc: Global,
     ways: Option<&str>,
+    policy: Option<&Policy>,
     parent: &str,
     node: &'a Node,
-    said: Inherited<'a>,
-    owns: &mut Vec<Own>,
+    around: &Around<'a>,
     impls: &mut List<Impl>,
 ) -> Result<(), Memory>
-    ensures owns { IfOk result (λ _. owns.new.items ≡ owns.old.items) }
-    ensures impls { IfOk result (λ _. impls.new ≡ impls.old ++ carried_impls (option_copied ways.entry) (said_by said.entry, owns.old.items) parent.now (node_view node.now)) }
+    requires added { IsAdded around.now.added }
+    requires made { around.now.made ≡ made_of (option_copied ways) (said_by around.now.said) }
+    ensures { IfOk result (λ _. impls.new
+        ≡ impls.old ++ carried_impls (option_copied ways.entry) (option_copied policy.entry) (said_by around.now.said, around.now.added) parent.now (node_view node.now)) }
 {
     match node {
-        Node::Child(e) => gather_at(alloc, ways, parent, e, said, owns, impls),
+        Node::Child(e) => gather_at(alloc, ways, policy, parent, e, around, impls),
         Node::Words(_) => Ok(()),
     }
 }
@@ -187,15 +203,16 @@ fn gather_node<'a>(
 fn gather_at<'a>(
     alloc: Global,
     ways: Option<&str>,
+    policy: Option<&Policy>,
     parent: &str,
     e: &'a Element,
-    said: Inherited<'a>,
-    owns: &mut Vec<Own>,
+    around: &Around<'a>,
     impls: &mut List<Impl>,
 ) -> Result<(), Memory>
-    ensures owns { IfOk result (λ _. owns.new.items ≡ owns.old.items) }
-    ensures impls { IfOk result (λ _. impls.new
-        ≡ impls.old ++ carried_impls_in (option_copied ways.entry) (said_by said.entry, owns.old.items) parent.now (element_view e.now)) }
+    requires added { IsAdded around.now.added }
+    requires made { around.now.made ≡ made_of (option_copied ways) (said_by around.now.said) }
+    ensures { IfOk result (λ _. impls.new
+        ≡ impls.old ++ carried_impls_in (option_copied ways.entry) (option_copied policy.entry) (said_by around.now.said, around.now.added) parent.now (element_view e.now)) }
 {
     if !stands(alloc, ways, parent, e)? {
         return Ok(());
@@ -204,44 +221,47 @@ fn gather_at<'a>(
         return Ok(());
     }
     if is(e, "group") {
-        owns.push(own_of(alloc, ways, e)?)?;
-        gather(alloc, ways, e, taken(said, e), owns, impls)?;
-        let _ = owns.pop();
+        let inner = around_with(alloc, ways, policy, around, e)?;
+        gather(alloc, ways, policy, e, &inner, impls)?;
         return Ok(());
     }
     if is(e, "implementation") {
-        let own = own_of(alloc, ways, e)?;
-        let said = taken(said, e);
-        add_impl(alloc, ways, &said, owns.as_slice(), own, e, impls)?;
+        let last = around_with(alloc, ways, policy, around, e)?;
+        add_impl(alloc, ways, &last, e, impls)?;
     }
     Ok(())
 }
 
-// Adds an implementation, where these are its groups, and this is what it adds itself.
+// Adds an implementation.
 fn add_impl(
     alloc: Global,
     ways: Option<&str>,
-    said: &Inherited,
-    owns: &[Own],
-    own: Own,
+    around: &Around,
     e: &Element,
     impls: &mut List<Impl>,
 ) -> Result<(), Memory>
-    ensures { IfOk result (λ _. impls.new ≡ impls.old ++ optional (impl_at (option_copied ways.entry) (said_by said.now) (owns.now ++ own ∷ []) (element_view e.now))) }
+    requires added { IsAdded around.now.added }
+    requires made { around.now.made ≡ made_of (option_copied ways) (said_by around.now.said) }
+    ensures { IfOk result (λ _. impls.new ≡ impls.old ++ optional (impl_at (option_copied ways.entry) (said_by around.now.said) around.now.added (element_view e.now))) }
 {
-    if let Some(found) = impl_at(alloc, ways, said, owns, own, e)? {
+    if let Some(found) = impl_at(alloc, ways, around, e)? {
         impls.push(found)?;
     }
     Ok(())
 }
 
-// The implementations of a feed.
-fn impls_of(alloc: Global, root: &Element, uri: &str) -> Result<List<Impl>, Memory>
-    ensures { IfOk result (λ is. is ≡ (feed_of (element_view root.now) uri.now).impls) }
+// The implementations of a feed, with what is active of them under a policy.
+fn impls_of(
+    alloc: Global,
+    root: &Element,
+    uri: &str,
+    policy: Option<&Policy>,
+) -> Result<List<Impl>, Memory>
+    ensures { IfOk result (λ is. is ≡ (kept_feed (option_copied policy.entry) (feed_of (element_view root.now) uri.now)).impls) }
 {
-    let mut owns = Vec::new(alloc);
+    let around = around_nothing(alloc, Some(uri))?;
     let mut impls = List::new(alloc);
-    gather(alloc, Some(uri), root, nothing(), &mut owns, &mut impls)?;
+    gather(alloc, Some(uri), policy, root, &around, &mut impls)?;
     Ok(impls)
 }
 
@@ -264,14 +284,20 @@ fn imports_of(
     Ok(imports)
 }
 
-/// What a feed of which these elements are read says, where it has no fault.
+/// What a feed of which these elements are read says, where it has no fault, with what is active of it under a policy; all of it where there is none.
 #[tactic(auto, unfolding(crate::specs::Feeds::feed_of))]
-pub fn feed_of(alloc: Global, root: &Element, uri: &str, seen: &[Seen]) -> Result<Feed, Memory>
+pub fn feed_of(
+    alloc: Global,
+    root: &Element,
+    uri: &str,
+    seen: &[Seen],
+    policy: Option<&Policy>,
+) -> Result<Feed, Memory>
     requires { map seen_view seen.now ≡ seen_within (Some uri.now) (element_view root.now) }
-    ensures { IfOk result (λ f. f ≡ feed_of (element_view root.now) uri.now) }
+    ensures { IfOk result (λ f. f ≡ kept_feed (option_copied policy.entry) (feed_of (element_view root.now) uri.now)) }
 {
     let imports = imports_of(alloc, root, uri, seen)?;
-    let impls = impls_of(alloc, root, uri)?;
+    let impls = impls_of(alloc, root, uri, policy)?;
     let uri = Text::from_str(alloc, uri)?;
     Ok(Feed {
         uri,

@@ -1,5 +1,6 @@
-ghost use Rattle.std.specs.Prelude.{◌≡◌, true, IfOk, Some, None, codes};
+ghost use Rattle.std.specs.Prelude.{◌≡◌, true, IfOk, Some, None, codes, option_copied};
 ghost use Rattle.zi_forest.specs.Forest.{element_view};
+ghost use Rattle.zi_feed.specs.Active.{active_feed, kept_feed};
 ghost use Rattle.zi_feed.specs.Feeds.{feed_fault, feed_of, part_fault};
 ghost use Rattle.zi_feed.specs.Impls.{said_digests};
 ghost use Rattle.zi_feed.specs.Means.{Reads, counts_as, counts_as_binding};
@@ -14,6 +15,7 @@ use std::alloc::Global;
 use zi_digest::DigestName;
 use zi_elements::Element;
 use zi_forest::Document;
+use zi_policy::Policy;
 use zi_text::{List, Memory};
 
 // The answer of a fault.
@@ -26,15 +28,20 @@ fn bad(fault: Fault) -> FeedFault
     }
 }
 
-// The feed that a document's root says.
-fn from_root(alloc: Global, root: &Element, uri: &str) -> Result<Feed, FeedFault>
-    ensures { Reads (feed_fault (element_view root.now) uri.now) (feed_of (element_view root.now) uri.now) result }
+// The feed that a document's root says, with what is active of it under a policy; all of it where there is none.
+fn from_root(
+    alloc: Global,
+    root: &Element,
+    uri: &str,
+    policy: Option<&Policy>,
+) -> Result<Feed, FeedFault>
+    ensures { Reads (feed_fault (element_view root.now) uri.now) (kept_feed (option_copied policy.entry) (feed_of (element_view root.now) uri.now)) result }
 {
     let seen = finding::seen_in(alloc, Some(uri), root)?;
     if let Some(fault) = finding::feed_fault(alloc, root, uri, seen.as_slice())? {
         return Err(bad(fault));
     }
-    Ok(finding::feed_of(alloc, root, uri, seen.as_slice())?)
+    Ok(finding::feed_of(alloc, root, uri, seen.as_slice(), policy)?)
 }
 
 impl Feed {
@@ -44,7 +51,19 @@ impl Feed {
     pub fn from_tree(alloc: Global, tree: &Document, uri: &str) -> Result<Feed, FeedFault>
         ensures { Reads (feed_fault (element_view tree.now) uri.now) (feed_of (element_view tree.now) uri.now) result }
     {
-        from_root(alloc, tree.root(), uri)
+        from_root(alloc, tree.root(), uri, None)
+    }
+
+    /// The same, with the dependencies alone that are active under a policy, in commands too.
+    pub fn active_from_tree(
+        alloc: Global,
+        tree: &Document,
+        uri: &str,
+        policy: &Policy,
+    ) -> Result<Feed, FeedFault>
+        ensures { Reads (feed_fault (element_view tree.now) uri.now) (active_feed policy.now (feed_of (element_view tree.now) uri.now)) result }
+    {
+        from_root(alloc, tree.root(), uri, Some(policy))
     }
 }
 

@@ -22,6 +22,7 @@
 
 mod address;
 mod along;
+mod around;
 mod copies;
 mod digests;
 mod fault;
@@ -32,6 +33,7 @@ mod forms;
 mod from_tree;
 mod impls;
 mod laws;
+mod made;
 mod methods;
 mod parts;
 mod reading;

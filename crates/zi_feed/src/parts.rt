@@ -11,7 +11,7 @@ ghost use Rattle.zi_feed.specs.Views.{views};
 
 use crate::feed::{Binding, Command, Dep, DepKind, Extra, Mode, Runner, Word};
 use crate::forms::{importance_of, meaning, mode_of, range_of, version_of};
-use crate::reading::{attribute, first_of, is, parts, text_in, those, value};
+use crate::reading::{attribute, attribute_text, first_of, is, parts, text_in, those};
 use std::alloc::Global;
 use zi_elements::Element;
 use zi_policy::Condition;
@@ -19,11 +19,11 @@ use zi_text::{List, Memory, Text};
 use zi_version::{Range, Version};
 
 /// The same text once more, where there is one.
-pub fn copied(alloc: Global, text: Option<&str>) -> Result<Option<Text>, Memory>
+pub fn copied(alloc: Global, text: Option<&Text>) -> Result<Option<Text>, Memory>
     ensures { IfOk result (λ t. t ≡ option_copied text.entry) }
 {
     match text {
-        Some(text) => Ok(Some(Text::from_str(alloc, text)?)),
+        Some(text) => Ok(Some(text.copy(alloc)?)),
         None => Ok(None),
     }
 }
@@ -32,9 +32,19 @@ pub fn copied(alloc: Global, text: Option<&str>) -> Result<Option<Text>, Memory>
 pub fn text_or(alloc: Global, e: &Element, name: &str, other: &str) -> Result<Text, Memory>
     ensures { IfOk result (λ t. t ≡ unwrap_or (attribute name.now (element_view e.now)) other.now) }
 {
-    match attribute(e, name) {
-        Some(text) => Text::from_str(alloc, text),
+    match attribute_text(e, name) {
+        Some(text) => text.copy(alloc),
         None => Text::from_str(alloc, other),
+    }
+}
+
+/// The text of an attribute, or the empty one where it lacks.
+pub fn value_text(alloc: Global, e: &Element, name: &str) -> Result<Text, Memory>
+    ensures { IfOk result (λ t. t ≡ value name.now (element_view e.now)) }
+{
+    match attribute_text(e, name) {
+        Some(text) => text.copy(alloc),
+        None => Ok(Text::new(alloc)),
     }
 }
 
@@ -60,9 +70,9 @@ pub fn address_in(
 fn extra_of(alloc: Global, e: &Element) -> Result<Extra, Memory>
     ensures { IfOk result (λ x. x ≡ extra_of (element_view e.now)) }
 {
-    match attribute(e, "insert") {
-        Some(path) => Ok(Extra::Insert(Text::from_str(alloc, path)?)),
-        None => Ok(Extra::Value(Text::from_str(alloc, value(e, "value"))?)),
+    match attribute_text(e, "insert") {
+        Some(path) => Ok(Extra::Insert(path.copy(alloc)?)),
+        None => Ok(Extra::Value(value_text(alloc, e, "value")?)),
     }
 }
 
@@ -85,10 +95,10 @@ pub fn binding_of(alloc: Global, e: &Element) -> Result<Binding, Memory>
         let element = e.name.copy(alloc)?;
         return Ok(Binding::Unbuilt { element });
     }
-    let name = Text::from_str(alloc, value(e, "name"))?;
-    let extra = extra_of(alloc, e)?;
+    let name = value_text(alloc, e, "name")?;
     let separator = text_or(alloc, e, "separator", ":")?;
-    let default = copied(alloc, attribute(e, "default"))?;
+    let extra = extra_of(alloc, e)?;
+    let default = copied(alloc, attribute_text(e, "default"))?;
     Ok(Binding::Env {
         name,
         extra,
@@ -198,7 +208,7 @@ fn limited(
     ensures { IfOk result (λ t. t ≡ limited (option_copied ways.entry) name.now (element_view e.now)) }
 {
     match ways {
-        Some(_) => copied(alloc, attribute(e, name)),
+        Some(_) => copied(alloc, attribute_text(e, name)),
         None => Ok(None),
     }
 }
@@ -224,9 +234,9 @@ pub fn dep_of(alloc: Global, ways: Option<&str>, e: &Element) -> Result<Dep, Mem
     let parts = parts(alloc, ways, e)?;
     let interface = address_in(alloc, ways, "interface", e)?;
     let ranges = ranges_of(alloc, ways, e, parts.as_slice())?;
+    let bindings = bindings_of(alloc, parts.as_slice())?;
     let os = limited(alloc, ways, "os", e)?;
     let wanted = limited(alloc, ways, "use", e)?;
-    let bindings = bindings_of(alloc, parts.as_slice())?;
     Ok(Dep {
         interface,
         kind: kind_of(e),
@@ -275,7 +285,7 @@ fn word_of(alloc: Global, ways: Option<&str>, e: &Element) -> Result<Word, Memor
     if is(e, "arg") {
         return Ok(Word::Arg(text_in(alloc, e)?));
     }
-    let item_from = Text::from_str(alloc, value(e, "item-from"))?;
+    let item_from = value_text(alloc, e, "item-from")?;
     let separator = text_or(alloc, e, "separator", ":")?;
     let parts = parts(alloc, ways, e)?;
     let args = all_texts(alloc, parts.as_slice())?;
@@ -375,13 +385,13 @@ pub fn command_of(alloc: Global, ways: Option<&str>, e: &Element) -> Result<Comm
     ensures { IfOk result (λ c. c ≡ command_of (option_copied ways.entry) (element_view e.now)) }
 {
     let parts = parts(alloc, ways, e)?;
-    let name = Text::from_str(alloc, value(e, "name"))?;
-    let path = copied(alloc, attribute(e, "path"))?;
+    let name = value_text(alloc, e, "name")?;
     let words = args_of(alloc, ways, parts.as_slice())?;
-    let runner = runner_in(alloc, ways, parts.as_slice())?;
     let deps = deps_of(alloc, ways, parts.as_slice())?;
     let bindings = bindings_of(alloc, parts.as_slice())?;
+    let path = copied(alloc, attribute_text(e, "path"))?;
     let unbuilt = unbuilt_in(alloc, parts.as_slice())?;
+    let runner = runner_in(alloc, ways, parts.as_slice())?;
     Ok(Command {
         name,
         path,

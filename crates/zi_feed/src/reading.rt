@@ -1,7 +1,7 @@
 //! Which elements are read, and what is read off one.
 ghost use Rattle.std.specs.Prelude.{◌≡◌, IfOk, List, [], ◌∷◌, codes, map, filter, not, false, Some, ◌&&◌, option_copied, option_map, unwrap_or};
 ghost use Rattle.std.specs.List.{list_any};
-ghost use Rattle.zi_forest.specs.Forest.{element_view, nodes_view, elements, attribute, value, is_attribute, text_in};
+ghost use Rattle.zi_forest.specs.Forest.{element_view, nodes_view, elements, attribute, has, value, is_attribute, text_in};
 ghost use Rattle.zi_feed.specs.Texts.{same};
 ghost use Rattle.zi_feed.specs.Words.{is_among, listed, first};
 ghost use Rattle.zi_feed.specs.Sites.{is_ours, is, step_names, binding_names, read_in, is_refused_by, is_left_out, is_unclear, is_other_step, is_unbuilt, is_closed, is_restriction, stands, is_part, parts};
@@ -25,16 +25,40 @@ fn is_named(a: &Attr, name: &str) -> bool
     is_text(a.name.as_str(), name) && a.space.as_str() == ""
 }
 
-/// The value of an attribute without a namespace.
-pub fn attribute<'a>(e: &'a Element, name: &str) -> Option<&'a str>
+/// The value of an attribute without a namespace, to be shared.
+pub fn attribute_text<'a>(e: &'a Element, name: &str) -> Option<&'a Text>
     ensures { option_copied result ≡ attribute name.now (element_view e.now) }
 {
     for a in e.attrs.as_slice() {
         if is_named(a, name) {
-            return Some(a.value.as_str());
+            return Some(&a.value);
         }
     }
     None
+}
+
+/// The characters of a text, where there is one.
+pub fn lent<'a>(text: Option<&'a Text>) -> Option<&'a str>
+    ensures { option_copied result ≡ option_copied text.entry }
+{
+    match text {
+        Some(text) => Some(text.as_str()),
+        None => None,
+    }
+}
+
+/// The value of an attribute without a namespace.
+pub fn attribute<'a>(e: &'a Element, name: &str) -> Option<&'a str>
+    ensures { option_copied result ≡ attribute name.now (element_view e.now) }
+{
+    lent(attribute_text(e, name))
+}
+
+/// Whether it has an attribute without a namespace.
+pub fn has(e: &Element, name: &str) -> bool
+    ensures { result ≡ has name.now (element_view e.now) }
+{
+    attribute_text(e, name).is_some()
 }
 
 /// The value of an attribute without a namespace, or the empty text.

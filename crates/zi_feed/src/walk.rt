@@ -1,39 +1,61 @@
 //! The walk over the elements that are read, which carries attributes inward.
-ghost use Rattle.std.specs.Prelude.{◌≡◌, ◌++◌, IfOk, Some, option_copied, map};
+ghost use Rattle.std.specs.Prelude.{◌≡◌, ℕ, List, Option, ◌++◌, IfOk, Some, option_copied, is_some, map};
 ghost use Rattle.std.specs.Option.{option_or};
 ghost use Rattle.zi_forest.specs.Forest.{element_view, nodes_view, attribute};
-ghost use Rattle.zi_feed.specs.Views.{said_by, unsaid, taken, seen_view, carried_sites, carried_at};
+ghost use Rattle.zi_policy.specs.Platform.{arch_of};
+ghost use Rattle.zi_feed.specs.Words.{is_amiss, is_wrong};
+ghost use Rattle.zi_feed.specs.Forms.{is_version};
+ghost use Rattle.zi_feed.specs.Faults.{is_wrong_local};
+ghost use Rattle.zi_feed.specs.Impls.{version_text};
+ghost use Rattle.zi_feed.specs.Views.{said_by, unsaid, taken, wrong_of, IsChecked, AreChecked, seen_view, carried_sites, carried_at};
 
-use crate::reading::{attribute, is_closed, stands};
+use crate::address::{is_local, place};
+use crate::faults::{is_wrong_arch, is_wrong_version};
+use crate::impls::{says_version, version_text};
+use crate::reading::{attribute_text, has, is_closed, lent, stands};
 use std::alloc::Global;
 use zi_elements::{Element, Node};
-use zi_text::Memory;
+use zi_text::{Memory, Text};
 
 /// The attributes that an implementation takes from the elements around it.
 #[derive(Clone, Copy)]
-pub struct Inherited<'a> {
-    pub version: Option<&'a str>,
-    pub modifier: Option<&'a str>,
-    pub released: Option<&'a str>,
-    pub stability: Option<&'a str>,
-    pub arch: Option<&'a str>,
-    pub langs: Option<&'a str>,
-    pub main: Option<&'a str>,
-    pub local_path: Option<&'a str>,
+pub struct Carried<'a> {
+    pub version: Option<&'a Text>,
+    pub modifier: Option<&'a Text>,
+    pub released: Option<&'a Text>,
+    pub stability: Option<&'a Text>,
+    pub arch: Option<&'a Text>,
+    pub langs: Option<&'a Text>,
+    pub main: Option<&'a Text>,
+    pub local_path: Option<&'a Text>,
+    /// What of it is a fault of each implementation that takes it.
+    pub wrong: Wrong,
+}
+
+/// What is wrong with what is said along a path. It is looked at once, at the element that says it.
+#[derive(Clone, Copy)]
+pub struct Wrong {
+    /// The version, with its modifier, is lacking or none.
+    pub version: bool,
+    /// The platform is none.
+    pub arch: bool,
+    /// The local path leads nowhere, in a feed that is local.
+    pub local: bool,
 }
 
 /// An element that is read, and what is said along its path, itself included.
 #[derive(Clone, Copy)]
 pub struct Seen<'a> {
     pub element: &'a Element,
-    pub said: Inherited<'a>,
+    pub said: Carried<'a>,
 }
 
 /// Nothing is said.
-pub fn nothing<'a>() -> Inherited<'a>
-    ensures { said_by result ≡ unsaid }
+pub fn nothing<'a>() -> Carried<'a>
+    ensures said { said_by result ≡ unsaid }
+    ensures checked { (ways : Option (List ℕ)) → IsChecked ways result }
 {
-    Inherited {
+    Carried {
         version: None,
         modifier: None,
         released: None,
@@ -42,24 +64,30 @@ pub fn nothing<'a>() -> Inherited<'a>
         langs: None,
         main: None,
         local_path: None,
+        wrong: Wrong {
+            version: true,
+            arch: false,
+            local: false,
+        },
     }
 }
 
 // The own attribute, or else the carried one.
-fn own_or<'a>(e: &'a Element, name: &str, carried: Option<&'a str>) -> Option<&'a str>
+fn own_or<'a>(e: &'a Element, name: &str, carried: Option<&'a Text>) -> Option<&'a Text>
     ensures { option_copied result ≡ option_or (attribute name.now (element_view e.now)) (option_copied carried.entry) }
 {
-    match attribute(e, name) {
+    match attribute_text(e, name) {
         Some(text) => Some(text),
         None => carried,
     }
 }
 
-/// What is said along a path with one element more.
-pub fn taken<'a>(carried: Inherited<'a>, e: &'a Element) -> Inherited<'a>
-    ensures { said_by result ≡ taken (said_by carried.entry) (element_view e.now) }
+/// What is said along a path with one element more. What is wrong is still that without it.
+pub fn taken<'a>(carried: Carried<'a>, e: &'a Element) -> Carried<'a>
+    ensures said { said_by result ≡ taken (said_by carried.entry) (element_view e.now) }
+    ensures wrong { result.wrong ≡ carried.entry.wrong }
 {
-    Inherited {
+    Carried {
         version: own_or(e, "version", carried.version),
         modifier: own_or(e, "version-modifier", carried.modifier),
         released: own_or(e, "released", carried.released),
@@ -68,7 +96,128 @@ pub fn taken<'a>(carried: Inherited<'a>, e: &'a Element) -> Inherited<'a>
         langs: own_or(e, "langs", carried.langs),
         main: own_or(e, "main", carried.main),
         local_path: own_or(e, "local-path", carried.local_path),
+        wrong: carried.wrong,
     }
+}
+
+// Whether the version that is said along a path is lacking or none.
+fn has_no_version(alloc: Global, said: &Carried) -> Result<bool, Memory>
+    ensures { IfOk result (λ b. b ≡ is_amiss is_version (version_text (said_by said.now))) }
+{
+    match version_text(alloc, said)? {
+        Some(text) => is_wrong_version(alloc, Some(text.as_str())),
+        None => Ok(true),
+    }
+}
+
+/// Whether there is a local path that leads nowhere, in a feed that is local.
+pub fn is_wrong_local(
+    alloc: Global,
+    ways: Option<&str>,
+    path: Option<&Text>,
+) -> Result<bool, Memory>
+    ensures { IfOk result (λ b. b ≡ is_wrong_local (option_copied ways.entry) (option_copied path.entry)) }
+{
+    let Some(uri) = ways else {
+        return Ok(false);
+    };
+    if !is_local(uri) {
+        return Ok(false);
+    }
+    match path {
+        Some(path) => Ok(place(alloc, uri, path.as_str())?.is_none()),
+        None => Ok(false),
+    }
+}
+
+// Whether the version at an element where this is said along its path is lacking or none.
+fn version_checked(
+    alloc: Global,
+    around: &Carried,
+    said: &Carried,
+    e: &Element,
+) -> Result<bool, Memory>
+    requires said { said_by said.now ≡ taken (said_by around.now) (element_view e.now) }
+    requires checked { around.now.wrong.version ≡ is_amiss is_version (version_text (said_by around.now)) }
+    ensures { IfOk result (λ b. b ≡ is_amiss is_version (version_text (said_by said.now))) }
+{
+    if says_version(e) {
+        return has_no_version(alloc, said);
+    }
+    Ok(around.wrong.version)
+}
+
+// Whether there is a platform at an element where this is said along its path, and it is none.
+fn arch_checked(
+    alloc: Global,
+    around: &Carried,
+    said: &Carried,
+    e: &Element,
+) -> Result<bool, Memory>
+    requires said { said_by said.now ≡ taken (said_by around.now) (element_view e.now) }
+    requires checked { around.now.wrong.arch ≡ is_wrong (λ t. is_some (arch_of t)) (said_by around.now).arch }
+    ensures { IfOk result (λ b. b ≡ is_wrong (λ t. is_some (arch_of t)) (said_by said.now).arch) }
+{
+    if has(e, "arch") {
+        return is_wrong_arch(alloc, lent(said.arch));
+    }
+    Ok(around.wrong.arch)
+}
+
+// Whether there is a local path at an element where this is said along its path, and it leads nowhere, in a feed that is local.
+fn local_checked(
+    alloc: Global,
+    ways: Option<&str>,
+    around: &Carried,
+    said: &Carried,
+    e: &Element,
+) -> Result<bool, Memory>
+    requires said { said_by said.now ≡ taken (said_by around.now) (element_view e.now) }
+    requires checked { around.now.wrong.local ≡ is_wrong_local (option_copied ways) (said_by around.now).local_path }
+    ensures { IfOk result (λ b. b ≡ is_wrong_local (option_copied ways.entry) (said_by said.now).local_path) }
+{
+    if has(e, "local-path") {
+        return is_wrong_local(alloc, ways, said.local_path);
+    }
+    Ok(around.wrong.local)
+}
+
+// What is wrong with what is said along a path: anew what its last element says itself.
+fn wrong_at(
+    alloc: Global,
+    ways: Option<&str>,
+    around: &Carried,
+    said: &Carried,
+    e: &Element,
+) -> Result<Wrong, Memory>
+    requires said { said_by said.now ≡ taken (said_by around.now) (element_view e.now) }
+    requires checked { IsChecked (option_copied ways) around.now }
+    ensures { IfOk result (λ w. w ≡ wrong_of (option_copied ways.entry) (said_by said.now)) }
+{
+    let version = version_checked(alloc, around, said, e)?;
+    let arch = arch_checked(alloc, around, said, e)?;
+    let local = local_checked(alloc, ways, around, said, e)?;
+    Ok(Wrong {
+        version,
+        arch,
+        local,
+    })
+}
+
+/// What is said along a path with one element more, and what this element says itself is looked at.
+pub fn checked<'a>(
+    alloc: Global,
+    ways: Option<&str>,
+    carried: Carried<'a>,
+    e: &'a Element,
+) -> Result<Carried<'a>, Memory>
+    requires { IsChecked (option_copied ways) carried }
+    ensures said { IfOk result (λ c. said_by c ≡ taken (said_by carried.entry) (element_view e.now)) }
+    ensures checked { IfOk result (λ c. IsChecked (option_copied ways.entry) c) }
+{
+    let said = taken(carried, e);
+    let wrong = wrong_at(alloc, ways, &carried, &said, e)?;
+    Ok(Carried { wrong, ..said })
 }
 
 /// Adds the elements that are read inside this one, in document order, where this is carried into it.
@@ -77,10 +226,12 @@ pub fn walk<'a>(
     alloc: Global,
     ways: Option<&str>,
     parent: &'a Element,
-    carried: Inherited<'a>,
+    carried: Carried<'a>,
     seen: &mut Vec<Seen<'a>>,
 ) -> Result<(), Memory>
-    ensures { IfOk result (λ _. map seen_view seen.new.items
+    requires { IsChecked (option_copied ways) carried }
+    ensures checked { IfOk result (λ _. AreChecked (option_copied ways.entry) seen.old.items → AreChecked (option_copied ways.entry) seen.new.items) }
+    ensures seen { IfOk result (λ _. map seen_view seen.new.items
         ≡ map seen_view seen.old.items ++ carried_sites (option_copied ways.entry) (said_by carried.entry) parent.now.name (nodes_view parent.now.children)) }
 {
     for node in parent.children.as_slice() {
@@ -97,10 +248,12 @@ fn visit<'a>(
     ways: Option<&str>,
     parent: &str,
     node: &'a Node,
-    carried: Inherited<'a>,
+    carried: Carried<'a>,
     seen: &mut Vec<Seen<'a>>,
 ) -> Result<(), Memory>
-    ensures { IfOk result (λ _. map seen_view seen.new.items
+    requires { IsChecked (option_copied ways) carried }
+    ensures checked { IfOk result (λ _. AreChecked (option_copied ways.entry) seen.old.items → AreChecked (option_copied ways.entry) seen.new.items) }
+    ensures seen { IfOk result (λ _. map seen_view seen.new.items
         ≡ map seen_view seen.old.items ++ carried_at (option_copied ways.entry) (said_by carried.entry) parent.now node.now) }
 {
     match node {
@@ -108,7 +261,7 @@ fn visit<'a>(
             if !stands(alloc, ways, parent, e)? {
                 return Ok(());
             }
-            let said = taken(carried, e);
+            let said = checked(alloc, ways, carried, e)?;
             seen.push(Seen { element: e, said })?;
             if is_closed(alloc, e)? {
                 return Ok(());

@@ -13,6 +13,7 @@ use Rattle.zi_rank.specs.declared.types.WhyNot.{WhyNot}
 use Rattle.zi_rank.specs.declared.types.WhyNot.TheVariants as why
 use Rattle.zi_rank.specs.Reasons.{why_not, first_reason, is_shunned, machine_of, runs_on, is_at_hand, is_off}
 use Rattle.zi_feed.specs.Words.{first}
+use Rattle.zi_feed.specs.Active.{active_part}
 use Rattle.zi_feed.specs.declared.feed.Feed.{Feed}
 use Rattle.zi_feed.specs.declared.feed.Impl.{Impl}
 use Rattle.zi_words.specs.declared.request.Ask.{Ask}
@@ -20,7 +21,7 @@ use Rattle.zi_universe.specs.declared.types.Requirement.{Requirement}
 use Rattle.zi_universe.specs.declared.types.Candidate.{Candidate}
 use Rattle.zi_universe.specs.declared.types.Interface.{Interface}
 use Rattle.zi_universe.specs.Naming.{Uri, Uris, AreApart}
-use Rattle.zi_universe.specs.Candidates.{Store, has_items, is_stored, standing_of, active_part, candidate_of, within_limits, is_admitted, admitted_by, admitted}
+use Rattle.zi_universe.specs.Candidates.{Store, has_items, is_stored, standing_of, candidate_of, within_limits, is_admitted, admitted_by, admitted}
 use Rattle.zi_universe.specs.Whole.{uris_of, IsWhole}
 use Rattle.zi_universe.specs.Loading.{names_of as stored_names, Reading, IsInterface}
 use Rattle.zi_universe.proofs.NamingLemmas.{listed-without_repeats}

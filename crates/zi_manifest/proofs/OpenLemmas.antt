@@ -1,17 +1,18 @@
--- Names that rise: the last of them, and a search by halves.
-use Rattle.std.proofs.Common.{◌≡◌, ◌⊎◌, inl, inr, ℕ, zero, suc, ◌+◌, ◌<◌, ◌≤◌, Bool, true, false, ◌&&◌, not, List, [], ◌∷◌, length, Some, None, refl, sym, ◌∙◌, ap, arith, get_or, bytes_eq, ◌++◌, reverse}
+-- Names that rise: the last of them, and a search.
+use Rattle.std.proofs.Common.{◌≡◌, ◌⊎◌, inl, inr, ℕ, zero, suc, ◌+◌, ◌<◌, ◌≤◌, Bool, true, false, ◌&&◌, not, List, [], ◌∷◌, length, Some, None, refl, sym, ◌∙◌, ap, arith, get_or, bytes_eq, ◌++◌, reverse, Result, Ok, Err, is_ok}
+use Rattle.std.specs.Prelude.{MatchResult}
 use Rattle.std.specs.List.{list_all, list_any}
-use Rattle.std.specs.declared.cmp.Ordering.TheVariants.{Less, Equal, Greater}
+use Rattle.std.specs.List.Sorted.{IsSearchInRange, IsBinarySearchResult}
 use Rattle.std.specs.Ordering.{is_lt, nat_cmp}
 use Rattle.std.specs.Cmp.Lexicographic.{slice_cmp}
 use Rattle.std.proofs.lemmas.Slice.Eq.{bytes_eq-Decides}
-use Rattle.std.specs.FinMap.{slice_cmp-IsAntisymmetric, nat_cmp-IsAntisymmetric}
 use Rattle.std.proofs.lemmas.List.{reverse-append}
 use Rattle.zi_manifest.specs.Sketch.{joined}
 use Rattle.zi_manifest.specs.declared.open.Open.{Open}
 use Rattle.std.proofs.lemmas.Bool.{cases_lt, and_parts, and_from, not_from_false, or_left, or_right, or_from}
 use Rattle.std.proofs.lemmas.Option.{same_Some}
-use Rattle.zi_tree.proofs.Order.{cmp, lt_trans, greater_flip, lt_apart}
+use Rattle.zi_text.proofs.Searched.{Rise, IsNamed, IsGap, searched}
+use Rattle.zi_tree.proofs.Order.{lt_trans, greater_flip, less_of, lt_apart}
 use Rattle.zi_manifest.specs.Reading.{all_before, rises, all_rise, is_free, is_above, fresh, back, enter, TakesFolder}
 use Rattle.zi_manifest.proofs.Accepted.{if_true, if_false, lt}
 
@@ -64,34 +65,6 @@ last_decides ns n m i r e is = by_test (lt m n) refl
         by_all false k = sym k
         by_all true k = absurd (cc (sym (ap (λ x. lt x n) is ∙ all_at ns n i m k (omega (arith, e))) ∙ h))
 
--- the names before this place stand before n
-abbrev pub AreBelow : List (List ℕ) → List ℕ → ℕ → Type 0
-AreBelow ns n low = (k : ℕ) (d : List ℕ) → k < low → is_lt (slice_cmp nat_cmp (get_or ns k d) n) ≡ true
-
--- the names from this place stand behind n
-abbrev pub AreAbove : List (List ℕ) → List ℕ → ℕ → Type 0
-AreAbove ns n high = (k : ℕ) (d : List ℕ) → high ≤ k → k < length ns → is_lt (slice_cmp nat_cmp n (get_or ns k d)) ≡ true
-
-pub below_middle : (ns : List (List ℕ)) (n : List ℕ) (m : ℕ) (x : List ℕ) → rises ns ≡ true → m < length ns → x ≡ get_or ns m x → cmp x n ≡ Less → AreBelow ns n (m + 1)
-below_middle ns n m x r l is e k d low = by_place (cases_lt k m)
-  where
-    here : lt (get_or ns m d) n ≡ true
-    here = ap (λ y. lt y n) (same_at ns m d x l ∙ sym is) ∙ ap is_lt e
-
-    by_place : (k < m) ⊎ (m ≤ k) → lt (get_or ns k d) n ≡ true
-    by_place (inl less) = lt_trans (get_or ns k d) (get_or ns m d) n (names_rise ns k m d r less l) here
-    by_place (inr ge) = let same : k ≡ m = omega arith in ap (λ j. lt (get_or ns j d) n) same ∙ here
-
-pub above_middle : (ns : List (List ℕ)) (n : List ℕ) (m : ℕ) (x : List ℕ) → rises ns ≡ true → m < length ns → x ≡ get_or ns m x → cmp x n ≡ Greater → AreAbove ns n m
-above_middle ns n m x r l is e k d ge less = by_place (cases_lt m k)
-  where
-    here : lt n (get_or ns m d) ≡ true
-    here = ap (λ y. lt n y) (same_at ns m d x l ∙ sym is) ∙ greater_flip x n e
-
-    by_place : (m < k) ⊎ (k ≤ m) → lt n (get_or ns k d) ≡ true
-    by_place (inl high) = lt_trans n (get_or ns m d) (get_or ns k d) here (names_rise ns m k d r high less)
-    by_place (inr le) = let same : k ≡ m = omega arith in ap (λ j. lt n (get_or ns j d)) same ∙ here
-
 any_at : (ns : List (List ℕ)) (n : List ℕ) (i : ℕ) (d : List ℕ) → i < length ns → bytes_eq (get_or ns i d) n ≡ true → list_any (λ m. bytes_eq m n) ns ≡ true
 any_at [] n i d l h = absurd (omega arith)
 any_at (m ∷ ns) n zero d l h = or_left (bytes_eq m n) (list_any (λ m. bytes_eq m n) ns) h
@@ -101,11 +74,6 @@ none_from : (ns : List (List ℕ)) (n : List ℕ) → ((k : ℕ) (d : List ℕ) 
 none_from [] n h = refl
 none_from (m ∷ ns) n h = or_from (bytes_eq m n) (list_any (λ m. bytes_eq m n) ns) (h 0 n (omega arith)) (none_from ns n (λ k d l. h (suc k) d (omega arith)))
 
--- found in the middle
-pub found_middle : (ns : List (List ℕ)) (n : List ℕ) (m : ℕ) (x : List ℕ) → m < length ns → x ≡ get_or ns m x → cmp x n ≡ Equal → list_any (λ k. bytes_eq k n) ns ≡ true
-found_middle ns n m x l is e =
-    any_at ns n m x l (ap (λ y. bytes_eq y n) (sym is) ∙ (bytes_eq-Decides x n).1 (slice_cmp-IsAntisymmetric nat_cmp-IsAntisymmetric x n e))
-
 apart_flip : (x y : List ℕ) → bytes_eq y x ≡ false → bytes_eq x y ≡ false
 apart_flip x y h = by_test (bytes_eq x y) refl
   where
@@ -113,13 +81,21 @@ apart_flip x y h = by_test (bytes_eq x y) refl
     by_test false e = e
     by_test true e = absurd (cc (sym ((bytes_eq-Decides y x).1 (sym ((bytes_eq-Decides x y).0 e))) ∙ h))
 
--- not found: none below and none from the place
-pub none_there : (ns : List (List ℕ)) (n : List ℕ) (low : ℕ) → AreBelow ns n low → AreAbove ns n low → list_any (λ m. bytes_eq m n) ns ≡ false
-none_there ns n low b a = none_from ns n (λ k d l. at k d l (cases_lt k low))
+-- a binary search ends at a place where the name is one of them
+pub name_found : (ns : List (List ℕ)) → rises ns ≡ true → (n : List ℕ) (r : Result ℕ ℕ) → IsSearchInRange r (length ns) → IsBinarySearchResult (λ (m : List ℕ). slice_cmp nat_cmp m n) ns r
+    → is_ok r ≡ list_any (λ m. bytes_eq m n) ns
+name_found ns ordered n r in_range answer = by_result r (searched (λ (m : List ℕ). m) ns rising n r in_range answer)
   where
-    at : (k : ℕ) (d : List ℕ) → k < length ns → (k < low) ⊎ (low ≤ k) → bytes_eq (get_or ns k d) n ≡ false
-    at k d l (inl less) = lt_apart (get_or ns k d) n (b k d less)
-    at k d l (inr ge) = apart_flip (get_or ns k d) n (lt_apart n (get_or ns k d) (a k d ge l))
+    rising : Rise (λ (m : List ℕ). m) ns
+    rising i j d less within = less_of _ (names_rise ns i j d ordered less within)
+
+    by_result : (r : Result ℕ ℕ) → MatchResult r (IsNamed (λ (m : List ℕ). m) ns n) (IsGap (λ (m : List ℕ). m) ns n) → is_ok r ≡ list_any (λ m. bytes_eq m n) ns
+    by_result (Ok i) named = sym (any_at ns n i n named.within ((bytes_eq-Decides _ n).1 (named.same n)))
+    by_result (Err i) gap = sym (none_from ns n (λ k d l. by_place k d l (cases_lt k i)))
+      where
+        by_place : (k : ℕ) (d : List ℕ) → k < length ns → (k < i) ⊎ (i ≤ k) → bytes_eq (get_or ns k d) n ≡ false
+        by_place k d l (inl less) = lt_apart (get_or ns k d) n (ap is_lt (gap.less k d less))
+        by_place k d l (inr ge) = apart_flip (get_or ns k d) n (lt_apart n (get_or ns k d) (greater_flip (get_or ns k d) n (gap.greater k d ge l)))
 
 -- the folder pushed last is the innermost
 last_first : (fs : List Open) (d : Open) → reverse (fs ++ d ∷ []) ≡ d ∷ reverse fs

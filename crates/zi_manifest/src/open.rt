@@ -9,7 +9,6 @@ ghost use Rattle.zi_manifest.specs.Reading.{Takes, TakesLeaf, TakesFolder, all_r
 use crate::entries::Entry;
 use crate::frames::joined;
 use std::alloc::Global;
-use std::cmp::Ordering;
 use zi_text::{List, Memory, Text};
 
 /// An open folder: its path, the names of its files and links, and that of its last subfolder.
@@ -158,17 +157,7 @@ fn has_name(names: &[Text], name: &str) -> bool
     requires { rises names.now ≡ true }
     ensures { result ≡ list_any (λ m. bytes_eq m name.now) names.now }
 {
-    let mut low = 0;
-    let mut high = names.len();
-    while low < high {
-        let middle = low + (high - low) / 2;
-        match names[middle].as_str().cmp(name) {
-            Ordering::Equal => return true,
-            Ordering::Less => low = middle + 1,
-            Ordering::Greater => high = middle,
-        }
-    }
-    false
+    names.binary_search_by(|one| one.as_str().cmp(name)).is_ok()
 }
 
 /// Opens a folder.

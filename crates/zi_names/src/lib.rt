@@ -10,6 +10,7 @@
 mod attributes;
 mod bound;
 mod entered;
+mod known;
 mod names;
 mod repeats;
 mod scope;

@@ -44,16 +44,17 @@ impl Scope {
             bounds: Vec::new(alloc),
             newest: BTreeMap::new(alloc),
         };
-        scope.push(alloc, "xml", "http://www.w3.org/XML/1998/namespace")?;
+        let address = Text::from_str(alloc, "http://www.w3.org/XML/1998/namespace")?;
+        scope.push(alloc, "xml", &address)?;
         Ok(scope)
     }
 
     // The address that a prefix is bound to.
-    pub fn address(&self, prefix: &str) -> Option<&str>
+    pub fn address(&self, prefix: &str) -> Option<&Text>
         ensures { option_copied result ≡ lookup self.now prefix.now }
     {
         match self.newest.get(prefix) {
-            Some(place) => Some(self.bounds[*place].binding.address.as_str()),
+            Some(place) => Some(&self.bounds[*place].binding.address),
             None => None,
         }
     }
@@ -64,19 +65,30 @@ impl Scope {
         ensures { result.now ≡ address_of self.now prefix.now }
     {
         match self.address(prefix) {
-            Some(address) => address,
+            Some(address) => address.as_str(),
             None => "",
         }
     }
 
+    // The address of a namespace, empty where the prefix has none. It shares the bytes of the declaration's.
+    #[tactic(auto, unfolding(crate::specs::Names::address_of))]
+    pub fn space(&self, alloc: Global, prefix: &str) -> Result<Text, Memory>
+        ensures { IfOk result (λ t. t ≡ address_of self.now prefix.now) }
+    {
+        match self.address(prefix) {
+            Some(address) => address.copy(alloc),
+            None => Ok(Text::new(alloc)),
+        }
+    }
+
     // One more binding, which hides an older one of its prefix. Where memory is refused it stays as it was.
-    fn push(&mut self, alloc: Global, prefix: &str, address: &str) -> Result<(), Memory>
+    fn push(&mut self, alloc: Global, prefix: &str, address: &Text) -> Result<(), Memory>
         ensures ok { OnOk result (self.new ≡ record { prefix = prefix.now; address = address.now } ∷ self.old) }
         ensures err { OnErr result (self.new ≡ self.old) }
     {
         let binding = Binding {
             prefix: Text::from_str(alloc, prefix)?,
-            address: Text::from_str(alloc, address)?,
+            address: address.copy(alloc)?,
         };
         let key = String::from_str(alloc, prefix)?;
         let hides = self.newest.get(prefix).copied();
@@ -117,7 +129,7 @@ impl Scope {
         let mut count = 0;
         for attribute in raw {
             if is_declaration(attribute) {
-                self.push(alloc, declared_prefix(attribute), attribute.value.as_str())?;
+                self.push(alloc, declared_prefix(attribute), &attribute.value)?;
                 count += 1;
             }
         }

@@ -4,6 +4,7 @@ ghost use Rattle.zi_names.specs.Scopes.{Enters};
 
 use crate::attributes::Raw;
 use crate::entered::{Entered, Started};
+use crate::known::Known;
 use crate::repeats::has_repeated;
 use crate::scope::Scope;
 use crate::tags::{has_bad_prefix, started};
@@ -18,6 +19,8 @@ pub struct Scopes {
     scope: Scope,
     // How many bindings each open element declares, the outermost first.
     counts: Vec<usize>,
+    // The local names so far, each held once.
+    known: Known,
 }
 
 impl Model for Scopes {
@@ -39,6 +42,7 @@ impl Scopes {
         Ok(Scopes {
             scope,
             counts: Vec::new(alloc),
+            known: Known::new(alloc),
         })
     }
 
@@ -55,7 +59,7 @@ impl Scopes {
         if has_repeated(alloc, raw.as_slice(), &self.scope)? {
             return Ok(Entered::Repeated);
         }
-        let tag = started(alloc, name.as_str(), raw, &self.scope)?;
+        let tag = started(alloc, name.as_str(), raw, &self.scope, &mut self.known)?;
         Ok(Entered::Started(tag))
     }
 

@@ -5,6 +5,7 @@ ghost use Rattle.zi_names.specs.Scopes.{Resolves};
 
 use crate::attributes::Raw;
 use crate::entered::Started;
+use crate::known::Known;
 use crate::names::{has_colon, is_bad_binding, is_declaration, is_qualified, split};
 use crate::scope::Scope;
 use std::alloc::Global;
@@ -48,20 +49,20 @@ pub fn has_bad_prefix(name: &str, raw: &[Raw], scope: &Scope) -> bool
 
 // An attribute of the tree. Where it has no prefix, its name is its local name.
 #[tactic(auto, unfolding(crate::specs::Names::resolved, crate::specs::Names::local))]
-fn resolved(alloc: Global, attribute: Raw, scope: &Scope) -> Result<Attr, Memory>
+fn resolved(alloc: Global, attribute: Raw, scope: &Scope, known: &mut Known) -> Result<Attr, Memory>
     ensures { IfOk result (λ a. a ≡ resolved scope.now attribute) }
 {
     let Raw { name, value } = attribute;
     if !has_colon(name.as_str()) {
         return Ok(Attr {
             space: Text::new(alloc),
-            name,
+            name: known.text(alloc, name.as_str())?,
             value,
         });
     }
     let (before, behind) = split(name.as_str());
-    let space = Text::from_str(alloc, scope.address_or_empty(before))?;
-    let local = Text::from_str(alloc, behind)?;
+    let space = scope.space(alloc, before)?;
+    let local = known.text(alloc, behind)?;
     Ok(Attr {
         space,
         name: local,
@@ -71,26 +72,37 @@ fn resolved(alloc: Global, attribute: Raw, scope: &Scope) -> Result<Attr, Memory
 
 /// The attributes of the tree, in order, without the declarations.
 #[tactic(auto, unfolding(crate::specs::Names::attributes_of))]
-fn attributes(alloc: Global, raw: List<Raw>, scope: &Scope) -> Result<List<Attr>, Memory>
+fn attributes(
+    alloc: Global,
+    raw: List<Raw>,
+    scope: &Scope,
+    known: &mut Known,
+) -> Result<List<Attr>, Memory>
     ensures { IfOk result (λ a. a ≡ attributes_of raw scope.now) }
 {
     let mut attributes = List::new(alloc);
     for attribute in raw.into_vec() {
         if !is_declaration(&attribute) {
-            attributes.push(resolved(alloc, attribute, scope)?)?;
+            attributes.push(resolved(alloc, attribute, scope, known)?)?;
         }
     }
     Ok(attributes)
 }
 
 /// A start tag with its names resolved, inside its own scope.
-pub fn started(alloc: Global, name: &str, raw: List<Raw>, scope: &Scope) -> Result<Started, Memory>
+pub fn started(
+    alloc: Global,
+    name: &str,
+    raw: List<Raw>,
+    scope: &Scope,
+    known: &mut Known,
+) -> Result<Started, Memory>
     ensures { IfOk result (Resolves name.now raw scope.now) }
 {
     let (before, behind) = split(name);
     Ok(Started {
-        space: Text::from_str(alloc, scope.address_or_empty(before))?,
-        name: Text::from_str(alloc, behind)?,
-        attrs: attributes(alloc, raw, scope)?,
+        space: scope.space(alloc, before)?,
+        name: known.text(alloc, behind)?,
+        attrs: attributes(alloc, raw, scope, known)?,
     })
 }

@@ -50,4 +50,13 @@ impl Arch {
             }
         }
     }
+
+    /// The same platform once more. Memory is the one refusal.
+    pub fn copy(&self, alloc: Global) -> Result<Arch, Memory>
+        ensures { IfOk result (λ arch. arch ≡ self.now) }
+    {
+        let os = self.os.copy(alloc)?;
+        let machine = self.machine.copy(alloc)?;
+        Ok(Arch { os, machine })
+    }
 }

@@ -1,3 +1,4 @@
+use zi_inherited::Shared;
 use zi_policy::{Arch, Stability};
 use zi_text::{List, Text};
 use zi_version::Version;
@@ -16,7 +17,7 @@ pub struct Standing {
     /// The platform that it is for; without one, any.
     pub arch: Option<Arch>,
     /// The languages that it speaks, in any order.
-    pub langs: List<Text>,
+    pub langs: Shared<List<Text>>,
     /// How well it has been tried; the user's word, where there is one, has replaced the feed's.
     pub stability: Stability,
     /// Whether it is a folder of this machine.

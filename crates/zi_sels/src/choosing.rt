@@ -8,8 +8,8 @@ ghost use Rattle.zi_sels.specs.Settings.{universe_of, picks_of, walk_of};
 ghost use Rattle.zi_sels.specs.Using.{walk_with};
 
 use crate::copies::{
-    arch_text, copy_bindings, copy_digests, copy_text, copy_words, plain_copy, plain_runner,
-    stability_text,
+    arch_text, copy_bindings, copy_digests, copy_inherited, copy_text, copy_words, plain_copy,
+    plain_runner, stability_text,
 };
 use crate::sorting::sort;
 use crate::types::{Selection, Selections};
@@ -17,6 +17,7 @@ use crate::used::UsedTable;
 use std::alloc::Global;
 use zi_choice::{Choice, Names, Used, trace_picks};
 use zi_feed::{Command, Dep, DepKind};
+use zi_inherited::{Inherited, Shared};
 use zi_text::{List, Memory, Text};
 use zi_universe::{Candidate, Interface, Requirement, Universe};
 
@@ -59,15 +60,35 @@ fn is_there(on: &Setting, dep: &Dep) -> bool
     }
 }
 
-// The dependencies that ask for an interface for which something is chosen.
+// Adds the dependencies that ask for an interface for which something is chosen.
+fn add_met(on: &Setting, deps: &[Dep], copy: &mut List<Dep>) -> Result<(), Memory>
+    ensures { OnOk result (copy.new ≡ copy.old ++ met (universe_of on.now) (picks_of on.now) deps.now) }
+{
+    for dep in deps {
+        if asks(dep) && is_there(on, dep) {
+            copy.push(plain_copy(on.alloc, dep)?)?;
+        }
+    }
+    Ok(())
+}
+
+// Those of a command.
 fn met(on: &Setting, deps: &List<Dep>) -> Result<List<Dep>, Memory>
     ensures { IfOk result (λ ds. ds ≡ met (universe_of on.now) (picks_of on.now) deps.now) }
 {
     let mut copy = List::new(on.alloc);
-    for dep in deps.as_slice() {
-        if asks(dep) && is_there(on, dep) {
-            copy.push(plain_copy(on.alloc, dep)?)?;
-        }
+    add_met(on, deps.as_slice(), &mut copy)?;
+    Ok(copy)
+}
+
+// Those of an implementation, which are inherited.
+fn met_of(on: &Setting, deps: &Inherited<Dep>) -> Result<List<Dep>, Memory>
+    ensures { IfOk result (λ ds. ds ≡ met (universe_of on.now) (picks_of on.now) deps.now) }
+{
+    let mut copy = List::new(on.alloc);
+    let pieces = deps.segments(on.alloc)?;
+    for piece in pieces.as_slice() {
+        add_met(on, piece, &mut copy)?;
     }
     Ok(copy)
 }
@@ -77,12 +98,12 @@ fn used_command(on: &Setting, command: &Command) -> Result<Command, Memory>
     ensures { IfOk result (λ k. k ≡ used_command (universe_of on.now) (picks_of on.now) command.now) }
 {
     let name = command.name.copy(on.alloc)?;
-    let path = copy_text(on.alloc, &command.path)?;
     let words = copy_words(on.alloc, &command.words)?;
-    let runner = plain_runner(on.alloc, &command.runner)?;
     let deps = met(on, &command.deps)?;
     let bindings = copy_bindings(on.alloc, &command.bindings)?;
+    let path = copy_text(on.alloc, &command.path)?;
     let unbuilt = copy_text(on.alloc, &command.unbuilt)?;
+    let runner = plain_runner(on.alloc, &command.runner)?;
     Ok(Command {
         name,
         path,
@@ -94,15 +115,35 @@ fn used_command(on: &Setting, command: &Command) -> Result<Command, Memory>
     })
 }
 
-// The commands of the interface of a number that are used, in their order.
-fn used_of(on: &Setting, i: u32, commands: &List<Command>) -> Result<List<Command>, Memory>
+// Adds the commands of the interface of a number that are used, in their order.
+fn add_used(
+    on: &Setting,
+    i: u32,
+    commands: &[Shared<Command>],
+    copy: &mut List<Command>,
+) -> Result<(), Memory>
+    ensures { OnOk result (copy.new ≡ copy.old ++ used_of (universe_of on.now) (picks_of on.now) (walk_of on.now) i commands.now) }
+{
+    for command in commands {
+        if on.used.has(i, command.name.as_str()) {
+            copy.push(used_command(on, command.as_ref())?)?;
+        }
+    }
+    Ok(())
+}
+
+// Those of an implementation, of which some are inherited.
+fn used_of(
+    on: &Setting,
+    i: u32,
+    commands: &Inherited<Shared<Command>>,
+) -> Result<List<Command>, Memory>
     ensures { IfOk result (λ ks. ks ≡ used_of (universe_of on.now) (picks_of on.now) (walk_of on.now) i commands.now) }
 {
     let mut copy = List::new(on.alloc);
-    for command in commands.as_slice() {
-        if on.used.has(i, command.name.as_str()) {
-            copy.push(used_command(on, command)?)?;
-        }
+    let pieces = commands.segments(on.alloc)?;
+    for piece in pieces.as_slice() {
+        add_used(on, i, piece, &mut copy)?;
     }
     Ok(copy)
 }
@@ -122,14 +163,14 @@ fn selection_by(
     let id = imp.id.copy(on.alloc)?;
     let version = Text::from_str(on.alloc, imp.version.text())?;
     let from_feed = candidate.standing.feed.copy(on.alloc)?;
+    let stability = Text::from_str(on.alloc, stability_text(candidate.standing.stability))?;
+    let digests = copy_digests(on.alloc, &imp.digests)?;
+    let deps = met_of(on, &imp.deps)?;
+    let commands = used_of(on, i, &imp.commands)?;
+    let bindings = copy_inherited(on.alloc, &imp.bindings)?;
     let local = copy_text(on.alloc, &imp.local)?;
     let arch = arch_text(on.alloc, &imp.arch)?;
     let released = copy_text(on.alloc, &imp.released)?;
-    let stability = Text::from_str(on.alloc, stability_text(candidate.standing.stability))?;
-    let digests = copy_digests(on.alloc, &imp.digests)?;
-    let deps = met(on, &imp.deps)?;
-    let commands = used_of(on, i, &imp.commands)?;
-    let bindings = copy_bindings(on.alloc, &imp.bindings)?;
     Ok(Selection {
         interface,
         id,

@@ -1,10 +1,11 @@
 //! Copies of what is selected: dependencies without what they restrict, and what stands beside them.
-ghost use Rattle.std.specs.Prelude.{◌≡◌, option_map, IfOk};
+ghost use Rattle.std.specs.Prelude.{◌≡◌, ◌++◌, option_map, IfOk, OnOk};
 ghost use Rattle.zi_sels.specs.Chosen.{plain, plain_runner, arch_text, stability_text};
 
 use std::alloc::Global;
 use zi_digest::DigestName;
 use zi_feed::{Binding, Dep, Runner, Word};
+use zi_inherited::Inherited;
 use zi_policy::{Arch, Condition, Stability};
 use zi_text::{List, Memory, Text};
 
@@ -36,13 +37,33 @@ pub fn copy_digests(alloc: Global, digests: &List<DigestName>) -> Result<List<Di
     Ok(List::from_vec(Vec::from_slice(alloc, digests.as_slice())?))
 }
 
+// Adds the same bindings once more.
+fn add_bindings(alloc: Global, bindings: &[Binding], copy: &mut List<Binding>) -> Result<(), Memory>
+    ensures { OnOk result (copy.new ≡ copy.old ++ bindings.now) }
+{
+    for binding in bindings {
+        copy.push(binding.copy(alloc)?)?;
+    }
+    Ok(())
+}
+
 /// The same bindings once more.
 pub fn copy_bindings(alloc: Global, bindings: &List<Binding>) -> Result<List<Binding>, Memory>
     ensures { IfOk result (λ bs. bs ≡ bindings.now) }
 {
     let mut copy = List::new(alloc);
-    for binding in bindings.as_slice() {
-        copy.push(binding.copy(alloc)?)?;
+    add_bindings(alloc, bindings.as_slice(), &mut copy)?;
+    Ok(copy)
+}
+
+/// The same bindings, inherited ones among them, once more.
+pub fn copy_inherited(alloc: Global, bindings: &Inherited<Binding>) -> Result<List<Binding>, Memory>
+    ensures { IfOk result (λ bs. bs ≡ bindings.now) }
+{
+    let mut copy = List::new(alloc);
+    let pieces = bindings.segments(alloc)?;
+    for piece in pieces.as_slice() {
+        add_bindings(alloc, piece, &mut copy)?;
     }
     Ok(copy)
 }

@@ -14,7 +14,8 @@ use Rattle.zi_universe.specs.declared.types.Requirement.{Requirement}
 use Rattle.zi_universe.specs.declared.types.Candidate.{Candidate}
 use Rattle.zi_universe.specs.declared.types.Interface.{Interface}
 use Rattle.zi_universe.specs.Naming.{Uri, Uris, all_of}
-use Rattle.zi_universe.specs.Candidates.{Store, active_command, active_part, offered_from, offered_by, is_admitted, admitted_by, admitted}
+use Rattle.zi_feed.specs.Active.{active_command, active_part}
+use Rattle.zi_universe.specs.Candidates.{Store, offered_from, offered_by, is_admitted, admitted_by, admitted}
 use Rattle.zi_universe.specs.Whole.{feed_limit}
 use Rattle.zi_universe.specs.Loading.{Reading, Says, no_feed, IsRead, IsInterface, reached, Loads}
 use Rattle.zi_universe.proofs.NamingLemmas.{bytes_eq-refl, listed-Contains, listed-cons, listed-without_repeats}

@@ -1,5 +1,5 @@
 pub mod TopsLemmas
-pub mod HalvesLemmas
+pub mod FoundLemmas
 pub mod DoingLemmas
 pub mod ReadingLemmas
 pub mod FillingLemmas

@@ -5,7 +5,6 @@ ghost use Rattle.zi_shelf.specs.Names.{put};
 ghost use Rattle.zi_shelf.specs.Memory.{top_of, tops_of, are_apart, are_trees, IsAt, IsPlace};
 
 use crate::shelf::ShelfFault;
-use std::cmp::Ordering;
 use zi_text::Text;
 use zi_tree::Tree;
 
@@ -31,17 +30,7 @@ pub fn place_of(entries: &[TopEntry], name: &str) -> Result<usize, usize>
         (λ i. (i < length entries.now) × IsAt name.now entries.now i)
         (λ i. (i ≤ length entries.now) × IsPlace name.now entries.now i × (tops_of entries.now name.now ≡ None)) }
 {
-    let mut low = 0;
-    let mut high = entries.len();
-    while low < high {
-        let middle = low + (high - low) / 2;
-        match entries[middle].name.as_str().cmp(name) {
-            Ordering::Equal => return Ok(middle),
-            Ordering::Less => low = middle + 1,
-            Ordering::Greater => high = middle,
-        }
-    }
-    Err(low)
+    entries.binary_search_by(|entry| entry.name.as_str().cmp(name))
 }
 
 /// Where the entry of this name is.

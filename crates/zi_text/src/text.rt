@@ -5,19 +5,30 @@ use std::alloc::Global;
 use std::cmp::Ordering;
 use std::hash::{Hash, Hasher};
 use std::marker::Model;
+use std::rc::Rc;
 
-/// A text, which contracts see as the list of its bytes in UTF-8 (RFC 3629). Lengths and places count bytes.
-#[derive(Debug, Drop)]
+/// A text, which contracts see as the list of its bytes in UTF-8 (RFC 3629). Lengths and places count bytes. Its copies share
+/// the bytes, until one of them grows.
+#[derive(Debug)]
 pub struct Text {
-    text: String,
+    alloc: Global,
+    held: Option<Rc<String>>,
+}
+
+impl Drop for Text {
+    fn drop(self) {
+        let Text { alloc: _, held: _ } = self;
+    }
 }
 
 impl Model for Text {
-    ghost use Rattle.std.specs.Prelude.{List, ℕ, string_bytes};
+    ghost use Rattle.std.specs.Prelude.{List, ℕ, [], string_bytes, unwrap_or};
+    ghost use Rattle.std.specs.Option.{option_map};
+    ghost use Rattle.std.specs.Rc.{rc_value};
 
     ghost Value = { List ℕ };
 
-    ghost view = { λ t. string_bytes t.text };
+    ghost view = { λ t. unwrap_or (option_map (λ r. string_bytes (rc_value r)) t.held) [] };
 }
 
 impl Text {
@@ -25,23 +36,21 @@ impl Text {
     pub fn new(alloc: Global) -> Text
         ensures { result ≡ [] }
     {
-        Text {
-            text: String::new(alloc),
-        }
+        Text { alloc, held: None }
     }
 
     /// The number of bytes.
     pub fn len(&self) -> usize
         ensures { result ≡ length self.now }
     {
-        self.text.len()
+        self.as_str().len()
     }
 
     /// Whether it has no byte.
     pub fn is_empty(&self) -> bool
         ensures { IsTrue result ↔ (self.now ≡ []) }
     {
-        self.text.is_empty()
+        self.as_str().is_empty()
     }
 
     /// The byte at a place below the length.
@@ -49,7 +58,7 @@ impl Text {
         requires { i < length self.now }
         ensures { result ≡ slice_index self.now i }
     {
-        self.text.as_bytes()[i]
+        self.as_str().as_bytes()[i]
     }
 
     /// Adds a character at the end. Where memory is refused the text stays as it was.
@@ -57,7 +66,14 @@ impl Text {
         ensures ok { OnOk result (self.new ≡ self.old ++ encode_utf8 c) }
         ensures err { OnErr result (self.new ≡ self.old) }
     {
-        self.text.push(c)?;
+        match &mut self.held {
+            Some(held) => Rc::make_mut(held)?.push(c)?,
+            None => {
+                let mut text = String::new(self.alloc);
+                text.push(c)?;
+                self.held = Some(Rc::new(self.alloc, text)?);
+            }
+        }
         Ok(())
     }
 
@@ -66,7 +82,10 @@ impl Text {
         ensures ok { OnOk result (self.new ≡ self.old ++ s.now) }
         ensures err { OnErr result (self.new ≡ self.old) }
     {
-        self.text.push_str(s)?;
+        match &mut self.held {
+            Some(held) => Rc::make_mut(held)?.push_str(s)?,
+            None => *self = Text::from_str(self.alloc, s)?,
+        }
         Ok(())
     }
 
@@ -75,21 +94,32 @@ impl Text {
         ensures { IfOk result (λ t. t ≡ s.now) }
     {
         let text = String::from_str(alloc, s)?;
-        Ok(Text { text })
+        let held = Rc::new(alloc, text)?;
+        Ok(Text {
+            alloc,
+            held: Some(held),
+        })
     }
 
     /// The characters, lent.
     pub fn as_str(&self) -> &str
         ensures { result.now ≡ self.now }
     {
-        self.text.as_str()
+        match &self.held {
+            Some(held) => held.as_str(),
+            None => "",
+        }
     }
 
-    /// The same text once more. Memory is its one refusal.
+    /// The same text once more, which costs no bytes: both share them. Memory is its one refusal.
     pub fn copy(&self, alloc: Global) -> Result<Text, Memory>
         ensures { IfOk result (λ t. t ≡ self.now) }
     {
-        Text::from_str(alloc, self.text.as_str())
+        let held = match &self.held {
+            Some(held) => Some(held.clone()?),
+            None => None,
+        };
+        Ok(Text { alloc, held })
     }
 }
 
@@ -104,7 +134,7 @@ impl PartialEq for Text {
     ghost laws = { Prim.search (comparing, rules) };
 
     fn eq(&self, other: &Text) -> bool {
-        self.text.as_str() == other.text.as_str()
+        self.as_str() == other.as_str()
     }
 }
 
@@ -147,7 +177,7 @@ impl Ord for Text {
     ghost matches_eq = { Prim.search (comparing, rules) };
 
     fn cmp(&self, other: &Text) -> Ordering {
-        self.text.as_str().cmp(other.text.as_str())
+        self.as_str().cmp(other.as_str())
     }
 }
 
@@ -161,6 +191,6 @@ impl Hash for Text {
     ghost respects_eq = { Prim.search (hashing, rules) };
 
     fn hash<H: Hasher>(&self, state: &mut H) {
-        self.text.as_str().hash(state);
+        self.as_str().hash(state);
     }
 }

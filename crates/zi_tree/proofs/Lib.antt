@@ -1,7 +1,7 @@
 pub mod Hung
 pub mod Items
 pub mod Order
-pub mod Halves
+pub mod Found
 mod Holders
 pub mod ChangeLemmas
 pub mod Sizes

@@ -21,7 +21,7 @@ Name = List ℕ
 abbrev pub cmp : Name → Name → Ordering
 cmp = slice_cmp nat_cmp
 
-less_of : (o : Ordering) → is_lt o ≡ true → o ≡ Less
+pub less_of : (o : Ordering) → is_lt o ≡ true → o ≡ Less
 less_of Less h = refl
 less_of Equal h = absurd (cc h)
 less_of Greater h = absurd (cc h)

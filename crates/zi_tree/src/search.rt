@@ -7,7 +7,6 @@ ghost use Rattle.zi_tree.specs.Paths.{node_in};
 ghost use Rattle.zi_tree.specs.Places.{IsAt, IsPlace};
 
 use crate::tree::Entry;
-use std::cmp::Ordering;
 
 /// Where the entry of this name is, or else where one would go.
 pub(crate) fn find_entry(entries: &[Entry], name: &str) -> Result<usize, usize>
@@ -16,15 +15,5 @@ pub(crate) fn find_entry(entries: &[Entry], name: &str) -> Result<usize, usize>
         (λ i. (i < length entries.now) × IsAt name.now entries.now i)
         (λ i. (i ≤ length entries.now) × IsPlace name.now entries.now i × (node_in name.now (items_of entries.now) ≡ None)) }
 {
-    let mut low = 0;
-    let mut high = entries.len();
-    while low < high {
-        let middle = low + (high - low) / 2;
-        match entries[middle].name.as_str().cmp(name) {
-            Ordering::Equal => return Ok(middle),
-            Ordering::Less => low = middle + 1,
-            Ordering::Greater => high = middle,
-        }
-    }
-    Err(low)
+    entries.binary_search_by(|entry| entry.name.as_str().cmp(name))
 }

@@ -62,9 +62,9 @@ with_one_more uri xs = by (listed uri xs)
     by false = refl
 
 -- the table grew by what was asked for
-pub gets_once : (told : Option Holding) (root uri : Uri) (fs gs : List Feed) (old new : Feeding) → GetsOnce told root uri fs gs
+pub gets_once : (told : Option Holding) (root : Uri) (p : Policy) (uri : Uri) (fs gs : List Feed) (old new : Feeding) → GetsOnce told root p uri fs gs
     → AreAsked (unless_there uri (addresses fs)) old new → GetsMore (addresses fs) (addresses gs) old new
-gets_once told root uri fs gs old new g a = record { more = unless_there uri (addresses fs); grown = g.places ∙ with_one_more uri (addresses fs); asked = a }
+gets_once told root p uri fs gs old new g a = record { more = unless_there uri (addresses fs); grown = g.places ∙ with_one_more uri (addresses fs); asked = a }
 
 pub gets_none : (uris : Uris) (seen : Feeding) → GetsMore uris uris seen seen
 gets_none uris seen = record { more = []; grown = sym (append-nil uris); asked = asked_none seen }
@@ -94,9 +94,9 @@ none_asked old new a = same_seen old new (a.asks.told ∙ asking-nil old.told) a
 
 module _ (told : Option Holding) (root : Uri) (place : ℕ) (here : Uris) (fs : List Feed) (uri : Uri) (turn : slice_get here place ≡ Some uri) where
   -- memory was refused behind the feed
-  pub ends_followed : (gs : List Feed) (old new : Feeding) → length fs ≤ most_feeds → GetsOnce told root uri fs gs
+  pub ends_followed : (p : Policy) (gs : List Feed) (old new : Feeding) → length fs ≤ most_feeds → GetsOnce told root p uri fs gs
       → AreAsked (unless_there uri (addresses fs)) old new → EndsNext old new place here fs
-  ends_followed gs old new few g a = by (listed uri (addresses fs)) refl g.places a
+  ends_followed p gs old new few g a = by (listed uri (addresses fs)) refl g.places a
     where
       by : (b : Bool) → listed uri (addresses fs) ≡ b → addresses gs ≡ (if b then addresses fs else addresses fs ++ uri ∷ []) → AreAsked (if b then [] else uri ∷ []) old new
           → EndsNext old new place here fs

@@ -1,4 +1,5 @@
 pub mod NamingLemmas
+pub mod PieceLemmas
 pub mod OfferLemmas
 pub mod LookupLemmas
 pub mod ReadingLemmas

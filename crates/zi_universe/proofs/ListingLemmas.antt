@@ -6,12 +6,13 @@ use Rattle.std.proofs.lemmas.List.Elements.{All-append}
 use Rattle.zi_policy.specs.declared.types.Policy.{Policy}
 use Rattle.zi_policy.specs.Platform.{listed}
 use Rattle.zi_feed.specs.declared.feed.Feed.{Feed}
+use Rattle.zi_feed.specs.Active.{active_feed}
 use Rattle.zi_outside.specs.Views.{Holding}
 use Rattle.zi_universe.specs.Naming.{Uri, Uris, with_one, joined, IsNamed}
 use Rattle.zi_universe.specs.Candidates.{imports_of}
 use Rattle.zi_universe.specs.Whole.{most_feeds}
-use Rattle.zi_universe.specs.Loading.{IsRead, Reading}
-use Rattle.zi_universe.specs.Tables.{addresses, imports_at, Agrees, AllRead}
+use Rattle.zi_universe.specs.Loading.{Reading}
+use Rattle.zi_universe.specs.Tables.{addresses, imports_at, IsActiveOf, Agrees, AllRead}
 use Rattle.zi_universe.specs.declared.fault.LoadFault.{LoadFault}
 use Rattle.zi_universe.specs.declared.fault.LoadFault.TheVariants as fault
 use Rattle.zi_universe.specs.Stages.{RefusesFeed, RefusesNext, GetsOnce, HasListed, StopsListing}
@@ -19,34 +20,34 @@ use Rattle.zi_universe.specs.Listing.{ListsNext, StopsNext}
 use Rattle.zi_universe.proofs.NamingLemmas.{joined-append, named_begins, member_names, map-append, listed-with_one, take_joined}
 use Rattle.zi_universe.proofs.TableLemmas.{All-front, imports_agreed}
 
-none_read : (told : Option Holding) (root : Uri) → AllRead told root []
-none_read told root k d lt = absurd (omega (arith, lt))
+none_read : (told : Option Holding) (root : Uri) (p : Policy) → AllRead told root p []
+none_read told root p k d lt = absurd (omega (arith, lt))
 
 -- One feed.
 
 -- it was there
-pub gets_none : (told : Option Holding) (root uri : Uri) (fs : List Feed) → listed uri (addresses fs) ≡ true → GetsOnce told root uri fs fs
-gets_none told root uri fs l = record {
+pub gets_none : (told : Option Holding) (root : Uri) (p : Policy) (uri : Uri) (fs : List Feed) → listed uri (addresses fs) ≡ true → GetsOnce told root p uri fs fs
+gets_none told root p uri fs l = record {
   more = [];
   grown = sym (append-nil fs);
   places = sym (ap (λ b. if b then addresses fs else addresses fs ++ uri ∷ []) l);
-  read = none_read told root;
+  read = none_read told root p;
   few = λ h. h;
 }
 
 -- it is new
-pub gets_one : (told : Option Holding) (root uri : Uri) (fs gs : List Feed) (f : Feed) → listed uri (addresses fs) ≡ false → length fs < most_feeds
-    → f.uri ≡ uri → IsRead told root uri f → gs ≡ fs ++ f ∷ [] → GetsOnce told root uri fs gs
-gets_one told root uri fs gs f new room place read grown = record {
+pub gets_one : (told : Option Holding) (root : Uri) (p : Policy) (uri : Uri) (fs gs : List Feed) (f : Feed) → listed uri (addresses fs) ≡ false → length fs < most_feeds
+    → f.uri ≡ uri → IsActiveOf told root p uri f → gs ≡ fs ++ f ∷ [] → GetsOnce told root p uri fs gs
+gets_one told root p uri fs gs f new room place read grown = record {
   more = f ∷ [];
   grown = grown;
   places = ap addresses grown ∙ map-append (λ (g : Feed). g.uri) fs (f ∷ []) ∙ ap (λ u. addresses fs ++ u ∷ []) place
       ∙ sym (ap (λ b. if b then addresses fs else addresses fs ++ uri ∷ []) new);
-  read = λ k d lt. (let P : Uri → Type 0 = λ u. IsRead told root u f in one k d lt (subst P (sym place) read));
+  read = λ k d lt. (let P : Uri → Type 0 = λ u. IsActiveOf told root p u f in one k d lt (subst P (sym place) read));
   few = λ h. (let e : length gs ≡ length fs + 1 = ap length grown ∙ length-append fs (f ∷ []) in omega (arith, e, room));
 }
   where
-    one : (k : ℕ) (d : Feed) → k < 1 → IsRead told root f.uri f → IsRead told root (get_or (f ∷ []) k d).uri (get_or (f ∷ []) k d)
+    one : (k : ℕ) (d : Feed) → k < 1 → IsActiveOf told root p f.uri f → IsActiveOf told root p (get_or (f ∷ []) k d).uri (get_or (f ∷ []) k d)
     one zero d lt h = h
     one (suc k) d lt h = absurd (omega (arith, lt))
 
@@ -74,13 +75,22 @@ listed_begins told root p interface start few = record {
   more = [];
   grown = sym (append-nil start);
   places = refl;
-  read = none_read told root;
+  read = none_read told root p;
   few = few;
 }
 
 module _ (told : Option Holding) (root : Uri) (p : Policy) (interface : Uri) (start : List Feed) where
+  -- what was listed was read where the start was, and what agrees with it agrees with the start
+  pub listed_read : (here : Uris) (n : ℕ) (fs : List Feed) → HasListed told root p interface start here n fs → AllRead told root p start → AllRead told root p fs
+  listed_read here n fs h before =
+      let P : List Feed → Type 0 = λ gs. AllRead told root p gs in
+      subst P (sym h.grown) (All-append (λ f. IsActiveOf told root p f.uri f) start h.more before h.read)
+
+  pub listed_agrees : (here : Uris) (n : ℕ) (fs : List Feed) → HasListed told root p interface start here n fs → (at : Reading) → Agrees p at fs → Agrees p at start
+  listed_agrees here n fs h at a = All-front (λ f. active_feed p (at f.uri) ≡ f) start h.more (subst (Agrees p at) h.grown a)
+
   pub listed_more : (here there : Uris) (n : ℕ) (uri : Uri) (fs gs : List Feed) → HasListed told root p interface start here n fs
-      → n < length here → get_or here n uri ≡ uri → GetsOnce told root uri fs gs → there ≡ joined here (imports_at p gs uri)
+      → n < length here → get_or here n uri ≡ uri → GetsOnce told root p uri fs gs → there ≡ joined here (imports_at p gs uri)
       → HasListed told root p interface start there (n + 1) gs
   listed_more here there n uri fs gs h lt e gets keys = record {
     named = λ at a. names at a;
@@ -88,14 +98,14 @@ module _ (told : Option Holding) (root : Uri) (p : Policy) (interface : Uri) (st
     grown = gets.grown ∙ ap (λ q. q ++ gets.more) h.grown ∙ append_assoc start h.more gets.more;
     places = gets.places ∙ ap (λ q. with_one q uri) h.places ∙ sym (joined-append (addresses start) (take n here) (uri ∷ []))
         ∙ ap (joined (addresses start)) (sym (ap (take (n + 1)) keys ∙ take_joined here (imports_at p gs uri) n uri lt e));
-    read = All-append (λ f. IsRead told root f.uri f) h.more gets.more h.read gets.read;
+    read = All-append (λ f. IsActiveOf told root p f.uri f) h.more gets.more h.read gets.read;
     few = gets.few h.few;
   }
     where
-      names : (at : Reading) → Agrees at gs → IsNamed interface (map (λ u. imports_of p (at u)) (take (n + 1) there)) there
+      names : (at : Reading) → Agrees p at gs → IsNamed interface (map (λ u. imports_of p (at u)) (take (n + 1) there)) there
       names at a =
           let next : Uri → Uris = λ u. imports_of p (at u) in
-          let front : Agrees at fs = All-front (λ f. at f.uri ≡ f) fs gets.more (subst (Agrees at) gets.grown a) in
+          let front : Agrees p at fs = All-front (λ f. active_feed p (at f.uri) ≡ f) fs gets.more (subst (Agrees p at) gets.grown a) in
           let there_now : listed uri (addresses gs) ≡ true = ap (listed uri) gets.places ∙ listed-with_one uri (addresses fs) in
           let same : there ≡ joined here (next uri) = keys ∙ ap (joined here) (imports_agreed p at gs uri there_now a) in
           let P : Uris → Type 0 = λ q. IsNamed interface (map next (take (n + 1) q)) q in

@@ -2,7 +2,7 @@
 use Rattle.std.proofs.Common.{Option, ◌≡◌, ℕ, ◌+◌, ◌<◌, ◌≤◌, true, List, [], ◌∷◌, ◌++◌, length, map, take, get_or, All, refl, sym, ap, subst, ◌∙◌, arith, length-append}
 use Rattle.std.specs.List.{AllZip}
 use Rattle.std.proofs.lemmas.List.{take_all}
-use Rattle.std.proofs.lemmas.List.Elements.{All-append, Contains-get_or}
+use Rattle.std.proofs.lemmas.List.Elements.{Contains-get_or}
 use Rattle.std.proofs.lemmas.List.Sums.{sum_by_push}
 use Rattle.zi_policy.specs.declared.types.Policy.{Policy}
 use Rattle.zi_policy.specs.Platform.{listed}
@@ -14,11 +14,12 @@ use Rattle.zi_universe.specs.declared.types.Interface.{Interface}
 use Rattle.zi_universe.specs.Naming.{Uri, Uris, joined, all_of, IsNamed, AreApart}
 use Rattle.zi_universe.specs.Candidates.{Store, imports_of, AreCandidates, asked_by, asked_by_all}
 use Rattle.zi_universe.specs.Whole.{uris_of, candidates_in, most_feeds, most_candidates, most_interfaces}
-use Rattle.zi_universe.specs.Loading.{IsRead, Reading, AreRead, IsInterface, reached, HasCome, Loads}
+use Rattle.zi_universe.specs.Loading.{Reading, AreRead, IsInterface, reached, HasCome, Loads}
 use Rattle.zi_universe.specs.Tables.{addresses, Agrees, AllRead}
 use Rattle.zi_universe.specs.Stages.{HasListed, HasLoaded}
 use Rattle.zi_universe.proofs.NamingLemmas.{joined-append, all_of-append, named_begins, named_more, map-append, length-map, without_repeats_apart, closes, take_joined, Contains-listed, listed-joined}
-use Rattle.zi_universe.proofs.TableLemmas.{All-front, reading_of, reading_agrees, reading_reads}
+use Rattle.zi_universe.proofs.TableLemmas.{reading_of, reading_agrees, reading_reads}
+use Rattle.zi_universe.proofs.ListingLemmas.{listed_read, listed_agrees}
 
 -- the feeds that one interface more reaches
 pub reached_more : (groups : List Uris) (here : Uris) → reached (groups ++ here ∷ []) ≡ joined (reached groups) here
@@ -52,13 +53,11 @@ module _ (told : Option Holding) (req : Requirement) (p : Policy) (stored : Stor
     (h : HasLoaded told req p stored done names start) (lt : length done < length names) (e : get_or names (length done) uri ≡ uri)
     (here : Uris) (fs : List Feed) (l : HasListed told req.interface p uri start here (length here) fs) where
   -- what agrees with all agrees with the start
-  pub from_start : (at : Reading) → Agrees at fs → Agrees at start
-  from_start at a = All-front (λ f. at f.uri ≡ f) start l.more (subst (Agrees at) l.grown a)
+  pub from_start : (at : Reading) → Agrees p at fs → Agrees p at start
+  from_start at a = listed_agrees told req.interface p uri start here (length here) fs l at a
 
-  pub all_read : AllRead told req.interface fs
-  all_read =
-      let P : List Feed → Type 0 = λ gs. AllRead told req.interface gs in
-      subst P (sym l.grown) (All-append (λ f. IsRead told req.interface f.uri f) start l.more h.read l.read)
+  pub all_read : AllRead told req.interface p fs
+  all_read = listed_read told req.interface p uri start here (length here) fs l h.read
 
   -- the table has what is reached
   pub places_now : addresses fs ≡ reached (h.groups ++ here ∷ [])
@@ -74,10 +73,10 @@ module _ (told : Option Holding) (req : Requirement) (p : Policy) (stored : Stor
       ap (listed (get_or here k d)) (l.places ∙ ap (joined (addresses start)) (take_all (length here) here (omega arith)))
       ∙ listed-joined (get_or here k d) (addresses start) here (Contains-listed (get_or here k d) here (Contains-get_or here k d lt))
 
-  pub closed_now : (at : Reading) → Agrees at fs → IsNamed uri (map (λ u. imports_of p (at u)) here) here
+  pub closed_now : (at : Reading) → Agrees p at fs → IsNamed uri (map (λ u. imports_of p (at u)) here) here
   closed_now at a = closes uri (λ u. imports_of p (at u)) here (length here) (omega arith) (l.named at a)
 
-  pub loaded_more : (cs : List Candidate) → ((at : Reading) → Agrees at fs → AreCandidates req p stored uri (map at here) cs)
+  pub loaded_more : (cs : List Candidate) → ((at : Reading) → Agrees p at fs → AreCandidates req p stored uri (map at here) cs)
       → candidates_in done + length cs ≤ most_candidates → length (joined names (asked_by_all cs)) ≤ most_interfaces
       → HasLoaded told req p stored (done ++ record { uri = uri; candidates = cs } ∷ []) (joined names (asked_by_all cs)) fs
   loaded_more cs ranked few many = record {
@@ -88,7 +87,7 @@ module _ (told : Option Holding) (req : Requirement) (p : Policy) (stored : Stor
     few = l.few;
   }
     where
-      come : (at : Reading) → Agrees at fs → HasCome at req p stored (done ++ record { uri = uri; candidates = cs } ∷ []) (h.groups ++ here ∷ []) (joined names (asked_by_all cs))
+      come : (at : Reading) → Agrees p at fs → HasCome at req p stored (done ++ record { uri = uri; candidates = cs } ∷ []) (h.groups ++ here ∷ []) (joined names (asked_by_all cs))
       come at a = let c = h.come at (from_start at a) in record {
         named = named_now c.named;
         in_turn = turn_now c.in_turn;
@@ -116,9 +115,9 @@ pub loads : (told : Option Holding) (req : Requirement) (p : Policy) (stored : S
     → HasLoaded told req p stored done names fs → length names ≤ length done → (l : Loads told req p stored done) × (reached l.groups ≡ addresses fs)
 loads told req p stored done names fs h le =
     let apart : AreApart (addresses fs) = subst AreApart (sym h.places) (without_repeats_apart (all_of h.groups)) in
-    let at : Reading = reading_of fs in
-    let c = h.come at (reading_agrees fs apart) in
+    let at : Reading = reading_of told req.interface p fs h.read in
+    let c = h.come at (reading_agrees told req.interface p fs h.read apart) in
     let all : uris_of done ≡ names = c.in_turn ∙ take_all (length done) names le in
     let P : Uris → Type 0 = λ q. HasCome at req p stored done h.groups q in
     let Q : Uris → Type 0 = λ q. AreRead told req.interface at q in
-    (record { at = at; groups = h.groups; universe = subst P (sym all) c; read = subst Q h.places (reading_reads told req.interface fs h.read) }, sym h.places)
+    (record { at = at; groups = h.groups; universe = subst P (sym all) c; read = subst Q h.places (reading_reads told req.interface p fs h.read) }, sym h.places)

@@ -1,6 +1,6 @@
 -- One interface more: its feeds offer these, and it is finished.
 use Rattle.std.proofs.Common.{Option, ◌≡◌, ℕ, ◌+◌, ◌<◌, ◌≤◌, true, List, [], ◌∷◌, ◌++◌, length, map, get_or, All, Some, slice_get, refl, sym, ap, subst, ◌∙◌, arith, length-append}
-use Rattle.std.specs.Prelude.{Result, Ok, Err, MatchResult, OnOk}
+use Rattle.std.specs.Prelude.{Result, Ok, Err, MatchResult, OnOk, IsPermutation}
 use Rattle.std.proofs.lemmas.List.Sums.{sum_by_push}
 use Rattle.std.proofs.lemmas.Option.{slice_get_within, get_or_from_slice_get}
 use Rattle.zi_policy.specs.declared.types.Policy.{Policy}
@@ -19,11 +19,11 @@ use Rattle.zi_outside.specs.Views.{Feeding}
 use Rattle.zi_universe.specs.declared.fault.LoadFault.TheVariants as fault
 use Rattle.zi_universe.specs.Loading.{Reading, Refuses, asked_until, CountsFault}
 use Rattle.zi_universe.specs.Asked.{GetsMore, StopsLoading}
-use Rattle.zi_universe.specs.Tables.{addresses, feeds_at, Agrees}
+use Rattle.zi_universe.specs.Tables.{addresses, held, Agrees}
 use Rattle.zi_universe.specs.Stages.{Gathers, HasLoaded, IsAt, IsBegun, ArePlaced, IsSorting, Finishes, StopsFinishing, LoadsNext}
 use Rattle.zi_universe.proofs.NamingLemmas.{without_repeats_apart}
-use Rattle.zi_universe.proofs.TableLemmas.{feeds_agreed, addresses-feeds_at, reading_of, reading_agrees}
-use Rattle.zi_universe.proofs.LoadedLemmas.{loaded_none, places_now, here_listed, closed_now, loaded_more}
+use Rattle.zi_universe.proofs.TableLemmas.{addresses_agreed, held_agreed, reading_of, reading_agrees}
+use Rattle.zi_universe.proofs.LoadedLemmas.{loaded_none, here_listed, closed_now, loaded_more}
 use Rattle.zi_universe.proofs.RefusalLemmas.{refuses_finishing}
 use Rattle.zi_universe.proofs.RankedLemmas.{admitted_placed}
 
@@ -32,7 +32,7 @@ pub few_counted : (told : Option Holding) (req : Requirement) (p : Policy) (stor
 few_counted told req p stored s a =
     let h = a.loaded in
     let apart : AreApart (addresses s.table) = subst AreApart (sym h.places) (without_repeats_apart (all_of h.groups)) in
-    let come = h.come (reading_of s.table) (reading_agrees s.table apart) in
+    let come = h.come (reading_of told req.interface p s.table h.read) (reading_agrees told req.interface p s.table h.read apart) in
     omega (arith, a.counted, come.few_candidates)
 
 module _ (told : Option Holding) (req : Requirement) (p : Policy) (stored : Store) (old : Loading) (uri : Uri) (a : IsAt told req p stored old)
@@ -46,35 +46,29 @@ module _ (told : Option Holding) (req : Requirement) (p : Policy) (stored : Stor
   all_there : All (λ u. listed u (addresses fs) ≡ true) o.here
   all_there = here_listed told req p stored old.done old.names.keys old.table uri a.loaded within turn o.here fs o.feeds
 
-  fs_apart : AreApart (addresses fs)
-  fs_apart =
-      let places = places_now told req p stored old.done old.names.keys old.table uri a.loaded within turn o.here fs o.feeds in
-      subst AreApart (sym places) (without_repeats_apart (all_of (a.loaded.groups ++ o.here ∷ [])))
+  -- over a reading that agrees with the table
+  module _ (at : Reading) (agrees : Agrees p at fs) where
+    here_apart : AreApart o.here
+    here_apart =
+        let named = closed_now told req p stored old.done old.names.keys old.table uri a.loaded within turn o.here fs o.feeds at agrees in
+        subst AreApart (sym named.are) (without_repeats_apart (uri ∷ all_of (map (λ u. imports_of p (at u)) o.here)))
 
-  here_apart : AreApart o.here
-  here_apart =
-      let named = closed_now told req p stored old.done old.names.keys old.table uri a.loaded within turn o.here fs o.feeds (reading_of fs) (reading_agrees fs fs_apart) in
-      subst AreApart (sym named.are) (without_repeats_apart (uri ∷ all_of (map (λ u. imports_of p (reading_of fs u)) o.here)))
+    are_admitted : offered ≡ admitted req p stored uri (map at o.here)
+    are_admitted = o.are ∙ held_agreed req p stored uri at fs o.here all_there agrees
 
-  placed : ArePlaced (admitted req p stored uri (feeds_at fs o.here))
-  placed = admitted_placed req p stored uri (feeds_at fs o.here) (subst AreApart (sym (addresses-feeds_at fs o.here all_there)) here_apart)
+    placed : ArePlaced offered
+    placed =
+        subst ArePlaced (sym are_admitted)
+        (admitted_placed req p stored uri (map at o.here) (subst AreApart (sym (addresses_agreed p at fs o.here all_there agrees)) here_apart))
 
-  sorted : (cs : List Candidate) → IsSorting p (admitted req p stored uri (feeds_at fs o.here)) cs → AreCandidates req p stored uri (feeds_at fs o.here) cs
-  sorted cs s = record { same = s.same; ranked = s.ranked placed }
-
-  sorted_at : (cs : List Candidate) → IsSorting p (admitted req p stored uri (feeds_at fs o.here)) cs → (at : Reading) → Agrees at fs → AreCandidates req p stored uri (map at o.here) cs
-  sorted_at cs s at agrees =
-      let P : List Feed → Type 0 = λ q. AreCandidates req p stored uri q cs in
-      subst P (feeds_agreed at fs o.here all_there agrees) (sorted cs s)
+    sorted : (cs : List Candidate) → IsSorting p offered cs → AreCandidates req p stored uri (map at o.here) cs
+    sorted cs s = let P : List Candidate → Type 0 = λ q. IsPermutation q cs in record { same = subst P are_admitted s.same; ranked = s.ranked placed }
 
   pub loads_next : (new : Loading) → Finishes p uri offered (record old { table = fs }) new → LoadsNext told req p stored old new
   loads_next new z = record { at = record { loaded = loaded; counted = counted }; one = one }
     where
       item : Interface
       item = record { uri = uri; candidates = z.cs }
-
-      sorting : IsSorting p (admitted req p stored uri (feeds_at fs o.here)) z.cs
-      sorting = let P : List Candidate → Type 0 = λ q. IsSorting p q z.cs in subst P o.are z.sorting
 
       few : candidates_in old.done + length z.cs ≤ most_candidates
       few = omega (arith, a.counted, z.count, z.few_candidates)
@@ -83,7 +77,7 @@ module _ (told : Option Holding) (req : Requirement) (p : Policy) (stored : Stor
       many = let P : Uris → Type 0 = λ q. length q ≤ most_interfaces in subst P z.names z.few_interfaces
 
       more : HasLoaded told req p stored (old.done ++ item ∷ []) (joined old.names.keys (asked_by_all z.cs)) fs
-      more = loaded_more told req p stored old.done old.names.keys old.table uri a.loaded within turn o.here fs o.feeds z.cs (sorted_at z.cs sorting) few many
+      more = loaded_more told req p stored old.done old.names.keys old.table uri a.loaded within turn o.here fs o.feeds z.cs (λ at agrees. sorted at agrees z.cs z.sorting) few many
 
       loaded : HasLoaded told req p stored new.done new.names.keys new.table
       loaded =
@@ -100,9 +94,8 @@ module _ (told : Option Holding) (req : Requirement) (p : Policy) (stored : Stor
 
   refuses_done : (why : LoadFault) → StopsFinishing p offered (record old { table = fs }) why → (r : Refuses told req p stored why) × (asked_until told req p stored why r ≡ addresses fs)
   refuses_done why r =
-      let P : List Candidate → Type 0 = λ q. StopsFinishing p q (record old { table = fs }) why in
       refuses_finishing told req p stored old.done old.names.keys old.table uri a.loaded within turn o.here fs o.feeds next
-      (record old { table = fs }) why refl a.counted sorted (subst P o.are r)
+      (record old { table = fs }) offered why refl a.counted are_admitted sorted r
 
   -- the count after a refusal that no call caused
   count_stays : (f g : Feeding) (why : LoadFault) → StopsFinishing p offered (record old { table = fs }) why → g.faults ≡ f.faults → CountsFault why f.faults g.faults

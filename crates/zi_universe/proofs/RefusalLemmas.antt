@@ -1,7 +1,6 @@
 -- The refusals of the parts of a loading are refusals of the whole.
-use Rattle.std.proofs.Common.{◌≡◌, ℕ, ◌<◌, ◌≤◌, inl, inr, false, List, [], ◌∷◌, ◌++◌, length, take, get_or, Some, None, Option, slice_get, IfSome, IsSomeAnd, refl, sym, ap, subst, ◌∙◌, arith}
+use Rattle.std.proofs.Common.{◌≡◌, ℕ, ◌<◌, ◌≤◌, inl, inr, false, List, [], ◌∷◌, ◌++◌, length, map, take, get_or, Some, None, Option, slice_get, IfSome, IsSomeAnd, refl, sym, ap, subst, ◌∙◌, arith}
 use Rattle.std.proofs.lemmas.List.{append-nil}
-use Rattle.std.proofs.lemmas.List.Elements.{All-append}
 use Rattle.zi_policy.specs.declared.types.Policy.{Policy}
 use Rattle.zi_policy.specs.Platform.{listed}
 use Rattle.zi_feed.specs.declared.feed.Feed.{Feed}
@@ -15,13 +14,14 @@ use Rattle.zi_universe.specs.declared.types.Candidate.{Candidate}
 use Rattle.zi_universe.specs.declared.loading.Loading.{Loading}
 use Rattle.zi_universe.specs.Candidates.{Store, admitted, AreCandidates, asked_by_all}
 use Rattle.zi_universe.specs.Whole.{candidates_in, most_feeds, most_interfaces, feed_limit}
-use Rattle.zi_universe.specs.Loading.{Reading, AreRead, IsRead, IsHeld, HasFault, reached, ComesTo, ComesToGet, HasGot, Finds, Refuses, asked_until}
-use Rattle.zi_universe.specs.Tables.{addresses, feeds_at, Agrees, AllRead}
+use Rattle.zi_universe.specs.Loading.{Reading, AreRead, IsHeld, HasFault, reached, ComesTo, ComesToGet, HasGot, Finds, Refuses, asked_until}
+use Rattle.zi_universe.specs.Tables.{addresses, Agrees, AllRead}
 use Rattle.zi_universe.specs.Stages.{RefusesNext, HasListed, StopsListing, HasLoaded, IsSorting, StopsFinishing}
 use Rattle.zi_universe.specs.Asked.{up_to}
 use Rattle.zi_universe.proofs.NamingLemmas.{without_repeats_apart, length-map}
-use Rattle.zi_universe.proofs.TableLemmas.{All-front, feeds_agreed, reading_of, reading_agrees, reading_reads}
-use Rattle.zi_universe.proofs.LoadedLemmas.{reached_more, from_start, all_read, places_now, few_now, here_listed, closed_now}
+use Rattle.zi_universe.proofs.TableLemmas.{reading_of, reading_agrees, reading_reads}
+use Rattle.zi_universe.proofs.ListingLemmas.{listed_read, listed_agrees}
+use Rattle.zi_universe.proofs.LoadedLemmas.{reached_more, from_start, all_read, places_now, few_now, closed_now}
 
 -- A feed is refused.
 module _ (told : Option Holding) (req : Requirement) (p : Policy) (stored : Store) (done : List Interface) (names : Uris) (start : List Feed) (interface : Uri)
@@ -29,21 +29,21 @@ module _ (told : Option Holding) (req : Requirement) (p : Policy) (stored : Stor
   pub comes_to : (here : Uris) (n : ℕ) (fs : List Feed) (uri : Uri) → HasListed told req.interface p interface start here n fs
       → slice_get here n ≡ Some uri → listed uri (addresses fs) ≡ false → ComesTo told req p stored uri (addresses fs)
   comes_to here n fs uri l turn new = record {
-    at = reading_of fs;
+    at = at;
     done = done;
     groups = h.groups;
     names = names;
-    come = h.come (reading_of fs) (front (reading_of fs) agrees);
+    come = h.come at (listed_agrees told req.interface p interface start here n fs l at agrees);
     interface = interface;
     next = next;
     here = here;
     n = n;
-    listed_here = l.named (reading_of fs) agrees;
+    listed_here = l.named at agrees;
     turn = turn;
     so_far = places;
     few = few;
     new = new;
-    read = reading_reads told req.interface fs all_read;
+    read = reading_reads told req.interface p fs all_read;
   }
     where
       places : addresses fs ≡ reached (h.groups ++ take n here ∷ [])
@@ -52,19 +52,17 @@ module _ (told : Option Holding) (req : Requirement) (p : Policy) (stored : Stor
       apart : AreApart (addresses fs)
       apart = subst AreApart (sym places) (without_repeats_apart (all_of (h.groups ++ take n here ∷ [])))
 
-      agrees : Agrees (reading_of fs) fs
-      agrees = reading_agrees fs apart
-
-      front : (at : Reading) → Agrees at fs → Agrees at start
-      front at a = All-front (λ x. at x.uri ≡ x) start l.more (subst (Agrees at) l.grown a)
-
       few : length (addresses fs) ≤ most_feeds
       few = let e : length (addresses fs) ≡ length fs = length-map (λ (x : Feed). x.uri) fs in omega (arith, e, l.few)
 
-      all_read : AllRead told req.interface fs
-      all_read =
-          let P : List Feed → Type 0 = λ gs. AllRead told req.interface gs in
-          subst P (sym l.grown) (All-append (λ x. IsRead told req.interface x.uri x) start l.more h.read l.read)
+      all_read : AllRead told req.interface p fs
+      all_read = listed_read told req.interface p interface start here n fs l h.read
+
+      at : Reading
+      at = reading_of told req.interface p fs all_read
+
+      agrees : Agrees p at fs
+      agrees = reading_agrees told req.interface p fs all_read apart
 
   got_fewer : (fs : List Feed) → length fs < most_feeds → length (addresses fs) < most_feeds
   got_fewer fs lt = let e : length (addresses fs) ≡ length fs = length-map (λ (x : Feed). x.uri) fs in omega (arith, e, lt)
@@ -99,19 +97,19 @@ module _ (told : Option Holding) (req : Requirement) (p : Policy) (stored : Stor
   -- the feeds that were got before memory was refused
   pub has_got : (here : Uris) (n : ℕ) (fs : List Feed) → HasListed told req.interface p interface start here n fs → HasGot told req p stored (addresses fs)
   has_got here n fs l = record {
-    at = reading_of fs;
+    at = at;
     done = done;
     groups = h.groups;
     names = names;
-    come = h.come (reading_of fs) (front (reading_of fs) agrees);
+    come = h.come at (listed_agrees told req.interface p interface start here n fs l at agrees);
     interface = interface;
     next = next;
     here = here;
     n = n;
-    listed_here = l.named (reading_of fs) agrees;
+    listed_here = l.named at agrees;
     so_far = places;
     few = few;
-    read = reading_reads told req.interface fs all_read;
+    read = reading_reads told req.interface p fs all_read;
   }
     where
       places : addresses fs ≡ reached (h.groups ++ take n here ∷ [])
@@ -120,19 +118,17 @@ module _ (told : Option Holding) (req : Requirement) (p : Policy) (stored : Stor
       apart : AreApart (addresses fs)
       apart = subst AreApart (sym places) (without_repeats_apart (all_of (h.groups ++ take n here ∷ [])))
 
-      agrees : Agrees (reading_of fs) fs
-      agrees = reading_agrees fs apart
-
-      front : (at : Reading) → Agrees at fs → Agrees at start
-      front at a = All-front (λ x. at x.uri ≡ x) start l.more (subst (Agrees at) l.grown a)
-
       few : length (addresses fs) ≤ most_feeds
       few = let e : length (addresses fs) ≡ length fs = length-map (λ (x : Feed). x.uri) fs in omega (arith, e, l.few)
 
-      all_read : AllRead told req.interface fs
-      all_read =
-          let P : List Feed → Type 0 = λ gs. AllRead told req.interface gs in
-          subst P (sym l.grown) (All-append (λ x. IsRead told req.interface x.uri x) start l.more h.read l.read)
+      all_read : AllRead told req.interface p fs
+      all_read = listed_read told req.interface p interface start here n fs l h.read
+
+      at : Reading
+      at = reading_of told req.interface p fs all_read
+
+      agrees : Agrees p at fs
+      agrees = reading_agrees told req.interface p fs all_read apart
 
 -- An interface is refused.
 module _ (told : Option Holding) (req : Requirement) (p : Policy) (stored : Store) (done : List Interface) (names : Uris) (start : List Feed) (uri : Uri)
@@ -143,40 +139,49 @@ module _ (told : Option Holding) (req : Requirement) (p : Policy) (stored : Stor
       let places : addresses fs ≡ reached (h.groups ++ here ∷ []) = places_now told req p stored done names start uri h lt e here fs l in
       subst AreApart (sym places) (without_repeats_apart (all_of (h.groups ++ here ∷ [])))
 
-  agrees : Agrees (reading_of fs) fs
-  agrees = reading_agrees fs apart
+  pub read_there : AllRead told req.interface p fs
+  read_there = all_read told req p stored done names start uri h lt e here fs l
 
-  pub finds : (f : Finds told req p stored done names uri (feeds_at fs here)) × (reached (f.groups ++ f.here ∷ []) ≡ addresses fs)
+  abbrev pub found_at : Reading
+  found_at = reading_of told req.interface p fs read_there
+
+  pub found_agrees : Agrees p found_at fs
+  found_agrees = reading_agrees told req.interface p fs read_there apart
+
+  pub finds : (f : Finds told req p stored done names uri (map found_at here)) × (reached (f.groups ++ f.here ∷ []) ≡ addresses fs)
   finds =
       let places : addresses fs ≡ reached (h.groups ++ here ∷ []) = places_now told req p stored done names start uri h lt e here fs l in
-      let Q : Uris → Type 0 = λ q. AreRead told req.interface (reading_of fs) q in (
+      let Q : Uris → Type 0 = λ q. AreRead told req.interface found_at q in (
         record {
-          at = reading_of fs;
+          at = found_at;
           groups = h.groups;
-          come = h.come (reading_of fs) (from_start told req p stored done names start uri h lt e here fs l (reading_of fs) agrees);
+          come = h.come found_at (from_start told req p stored done names start uri h lt e here fs l found_at found_agrees);
           next = next;
           here = here;
-          closed = closed_now told req p stored done names start uri h lt e here fs l (reading_of fs) agrees;
-          are = feeds_agreed (reading_of fs) fs here (here_listed told req p stored done names start uri h lt e here fs l) agrees;
+          closed = closed_now told req p stored done names start uri h lt e here fs l found_at found_agrees;
+          are = refl;
           few = few_now told req p stored done names start uri h lt e here fs l;
-          read = subst Q places (reading_reads told req.interface fs (all_read told req p stored done names start uri h lt e here fs l));
+          read = subst Q places (reading_reads told req.interface p fs read_there);
         },
         sym places,
       )
 
-  pub refuses_finishing : (s : Loading) (why : LoadFault) → s.names.keys ≡ names → s.count ≡ candidates_in done
-      → ((cs : List Candidate) → IsSorting p (admitted req p stored uri (feeds_at fs here)) cs → AreCandidates req p stored uri (feeds_at fs here) cs)
-      → StopsFinishing p (admitted req p stored uri (feeds_at fs here)) s why → (r : Refuses told req p stored why) × (asked_until told req p stored why r ≡ addresses fs)
-  refuses_finishing s (fault.TooManyCandidates limit) keys count ranked r =
-      ((r.0, (done, names, uri, feeds_at fs here, finds.0, omega (arith, count, r.1))), finds.1)
-  refuses_finishing s (fault.TooManyInterfaces limit) keys count ranked r =
+  -- what is offered over every reading that agrees with the table is what is admitted
+  pub refuses_finishing : (s : Loading) (offered : List Candidate) (why : LoadFault) → s.names.keys ≡ names → s.count ≡ candidates_in done
+      → ((at : Reading) → Agrees p at fs → offered ≡ admitted req p stored uri (map at here))
+      → ((at : Reading) → Agrees p at fs → (cs : List Candidate) → IsSorting p offered cs → AreCandidates req p stored uri (map at here) cs)
+      → StopsFinishing p offered s why → (r : Refuses told req p stored why) × (asked_until told req p stored why r ≡ addresses fs)
+  refuses_finishing s offered (fault.TooManyCandidates limit) keys count are ranked r =
+      let same : length offered ≡ length (admitted req p stored uri (map found_at here)) = ap length (are found_at found_agrees) in
+      ((r.0, (done, names, uri, map found_at here, finds.0, omega (arith, count, same, r.1))), finds.1)
+  refuses_finishing s offered (fault.TooManyInterfaces limit) keys count are ranked r =
       let t = r.1 in
       let P : Uris → Type 0 = λ q. most_interfaces < length (joined q (asked_by_all t.cs)) in
-      ((r.0, (done, names, uri, feeds_at fs here, t.cs, finds.0, ranked t.cs t.sorting, omega (arith, count, t.few_candidates), subst P keys t.many)), finds.1)
-  refuses_finishing s (fault.FeedRead u) keys count ranked r = absurd r
-  refuses_finishing s fault.NoRootFeed keys count ranked r = absurd r
-  refuses_finishing s (fault.BadFeed u w) keys count ranked r = absurd r
-  refuses_finishing s (fault.FeedTooLong u limit) keys count ranked r = absurd r
-  refuses_finishing s (fault.TooManyFeeds limit) keys count ranked r = absurd r
-  refuses_finishing s fault.Memory keys count ranked r =
+      ((r.0, (done, names, uri, map found_at here, t.cs, finds.0, ranked found_at found_agrees t.cs t.sorting, omega (arith, count, t.few_candidates), subst P keys t.many)), finds.1)
+  refuses_finishing s offered (fault.FeedRead u) keys count are ranked r = absurd r
+  refuses_finishing s offered fault.NoRootFeed keys count are ranked r = absurd r
+  refuses_finishing s offered (fault.BadFeed u w) keys count are ranked r = absurd r
+  refuses_finishing s offered (fault.FeedTooLong u limit) keys count are ranked r = absurd r
+  refuses_finishing s offered (fault.TooManyFeeds limit) keys count are ranked r = absurd r
+  refuses_finishing s offered fault.Memory keys count are ranked r =
       ((addresses fs, inl (has_got told req p stored done names start uri h next here (length here) fs l)), refl)

@@ -1,6 +1,6 @@
 -- There is a universe, or a refusal.
 use Rattle.std.proofs.Common.{◌≡◌, ◌⊎◌, inl, inr, ℕ, zero, suc, ◌+◌, ◌<◌, ◌≤◌, Bool, true, false, List, [], ◌∷◌, ◌++◌, length, map, take, get_or, All, Option, Some, None, Contains, slice_get, refl, sym, ap, subst, ◌∙◌, arith, length-append}
-use Rattle.std.specs.Prelude.{bytes_eq, IsSomeAnd}
+use Rattle.std.specs.Prelude.{bytes_eq, IsSomeAnd, IsPermutation}
 use Rattle.std.proofs.lemmas.List.{length-take-le}
 use Rattle.std.proofs.lemmas.List.Sorted.{length_permutation}
 use Rattle.std.proofs.lemmas.Option.{get_or_from_slice_get}
@@ -12,6 +12,7 @@ use Rattle.zi_forest.specs.Forest.{element_view}
 use Rattle.zi_doc.specs.Documents as doc
 use Rattle.zi_doc.specs.Laws.{IsSettled}
 use Rattle.zi_feed.specs.declared.feed.Feed.{Feed}
+use Rattle.zi_feed.specs.Active.{active_feed}
 use Rattle.zi_feed.specs.declared.fault.Fault.{Fault}
 use Rattle.zi_feed.specs.Feeds.{feed_of, feed_fault}
 use Rattle.zi_outside.specs.Views.{Holding}
@@ -22,18 +23,18 @@ use Rattle.zi_universe.specs.declared.fault.BadFeed.TheVariants as bad
 use Rattle.zi_universe.specs.declared.fault.LoadFault.{LoadFault}
 use Rattle.zi_universe.specs.declared.fault.LoadFault.TheVariants as fault
 use Rattle.zi_universe.specs.Naming.{Uri, Uris, joined, all_of, without_repeats, AreApart}
-use Rattle.zi_universe.specs.Candidates.{Store, imports_of, admitted, AreCandidates, asked_by_all}
+use Rattle.zi_universe.specs.Candidates.{Store, imports_of, admitted, AreRanked, AreCandidates, asked_by_all}
 use Rattle.zi_universe.specs.Whole.{candidates_in, most_feeds, most_interfaces, most_candidates, feed_limit}
 use Rattle.zi_universe.specs.Loading.{no_feed, IsRead, Reading, Loads, Refuses}
-use Rattle.zi_universe.specs.Tables.{addresses, feeds_at, imports_at, Agrees}
+use Rattle.zi_universe.specs.Tables.{addresses, feeds_at, imports_at, held, Agrees, AllRead}
 use Rattle.zi_universe.specs.Stages.{RefusesFeed, GetsOnce, StopsOnce, HasListed, StopsListing, HasLoaded, ArePlaced}
 use Rattle.zi_universe.specs.Laws.{IsOfFeeds, LoadsOrIsRefused}
 use Rattle.zi_universe.proofs.NamingLemmas.{bytes_eq-true, bytes_eq-false, length-map, listed-Contains, Contains-listed, listed-joined, without_repeats_apart}
-use Rattle.zi_universe.proofs.TableLemmas.{feeds_agreed, addresses-feeds_at, reading_of, reading_agrees}
+use Rattle.zi_universe.proofs.TableLemmas.{addresses_agreed, held_agreed, reading_of, reading_agrees}
 use Rattle.zi_universe.proofs.ReadingLemmas.{place_of_feed}
-use Rattle.zi_universe.proofs.ListingLemmas.{gets_none, gets_one, refused_next, listed_begins, listed_more, listed_ends}
-use Rattle.zi_universe.proofs.LoadedLemmas.{reached_more, loaded_none, places_now, here_listed, closed_now, loaded_more, loads}
-use Rattle.zi_universe.proofs.RefusalLemmas.{refuses_stop, finds}
+use Rattle.zi_universe.proofs.ListingLemmas.{gets_none, gets_one, refused_next, listed_read, listed_begins, listed_more, listed_ends}
+use Rattle.zi_universe.proofs.LoadedLemmas.{reached_more, loaded_none, all_read, places_now, here_listed, closed_now, loaded_more, loads}
+use Rattle.zi_universe.proofs.RefusalLemmas.{refuses_stop, found_at, found_agrees, finds}
 use Rattle.zi_universe.proofs.RankedLemmas.{admitted_placed}
 use Rattle.zi_universe.proofs.ExclusionLemmas.{longer}
 use Rattle.zi_universe.proofs.RankingLemmas.{can_rank, no_longer, apart_front}
@@ -78,21 +79,21 @@ module _ (one : (w : List ℕ) → IsSettled w) (holds : Holding) (root uri : Ur
           ]
 
 -- One feed, unless it was got.
-module _ (one : (w : List ℕ) → IsSettled w) (holds : Holding) (root : Uri) where
+module _ (one : (w : List ℕ) → IsSettled w) (holds : Holding) (root : Uri) (p : Policy) where
   abbrev pub GetsOr : Uri → List Feed → Type 0
-  GetsOr uri fs = ((gs : List Feed) × GetsOnce (Some holds) root uri fs gs) ⊎ ((e : LoadFault) × (IsOfFeeds e ≡ true) × StopsOnce (Some holds) root uri fs e)
+  GetsOr uri fs = ((gs : List Feed) × GetsOnce (Some holds) root p uri fs gs) ⊎ ((e : LoadFault) × (IsOfFeeds e ≡ true) × StopsOnce (Some holds) root uri fs e)
 
   pub gets_or : (uri : Uri) (fs : List Feed) → length fs ≤ most_feeds → GetsOr uri fs
   gets_or uri fs few = by (listed uri (addresses fs)) refl
     where
       new_one : listed uri (addresses fs) ≡ false → length fs < most_feeds → GetsOr uri fs
       new_one new lt = elim (feed_or one holds root uri) [
-        | inl r ↦ inl (fs ++ r.0 ∷ [], gets_one (Some holds) root uri fs (fs ++ r.0 ∷ []) r.0 new lt r.1 r.2 refl)
+        | inl r ↦ inl (fs ++ active_feed p r.0 ∷ [], gets_one (Some holds) root p uri fs (fs ++ active_feed p r.0 ∷ []) (active_feed p r.0) new lt r.1 (r.0, r.2, refl) refl)
         | inr r ↦ inr (r.0, r.1, record { new = new; refused = refused_next (Some holds) root uri (length fs) r.0 lt r.2 })
       ]
 
       by : (b : Bool) → listed uri (addresses fs) ≡ b → GetsOr uri fs
-      by true e = inl (fs, gets_none (Some holds) root uri fs e)
+      by true e = inl (fs, gets_none (Some holds) root p uri fs e)
       by false e = elim (within_or most_feeds (length fs)) [
         | inl le ↦ inr (fault.TooManyFeeds most_feeds, refl, record { new = e; refused = (refl, omega (arith, le, few)) })
         | inr lt ↦ new_one e lt
@@ -107,9 +108,11 @@ module _ (one : (w : List ℕ) → IsSettled w) (holds : Holding) (req : Require
       let places : addresses fs ≡ without_repeats (all_of (h.groups ++ take n here ∷ [])) =
       l.places ∙ ap (λ q. joined q (take n here)) h.places ∙ sym (reached_more h.groups (take n here)) in
       let apart : AreApart (addresses fs) = subst AreApart (sym places) (without_repeats_apart (all_of (h.groups ++ take n here ∷ []))) in
-      let named = l.named (reading_of fs) (reading_agrees fs apart) in
+      let read : AllRead (Some holds) req.interface p fs = listed_read (Some holds) req.interface p interface start here n fs l h.read in
+      let at : Reading = reading_of (Some holds) req.interface p fs read in
+      let named = l.named at (reading_agrees (Some holds) req.interface p fs read apart) in
       let here_apart : AreApart here =
-      subst AreApart (sym named.are) (without_repeats_apart (interface ∷ all_of (map (λ u. imports_of p (reading_of fs u)) (take n here)))) in
+      subst AreApart (sym named.are) (without_repeats_apart (interface ∷ all_of (map (λ u. imports_of p (at u)) (take n here)))) in
       let all : (u : Uri) → Contains (take n here) u → Contains (addresses fs) u =
       λ u m. listed-Contains u (addresses fs) (ap (listed u) l.places ∙ listed-joined u (addresses start) (take n here) (Contains-listed u (take n here) m)) in
       let k = no_longer (take n here) (addresses fs) (apart_front here n le here_apart) all in
@@ -127,7 +130,7 @@ module _ (one : (w : List ℕ) → IsSettled w) (holds : Holding) (req : Require
     | inl ge ↦ inl (here, fs, listed_ends (Some holds) req.interface p interface start here n fs ge l)
     | inr lt ↦ (let turn = at_place here n lt in
         let uri : Uri = turn.0 in
-        elim (gets_or one holds req.interface uri fs l.few) [
+        elim (gets_or one holds req.interface p uri fs l.few) [
           | inl r ↦ (let k = longer here (imports_at p r.0 uri) in
               lists_from fuel (joined here (imports_at p r.0 uri)) (n + 1) r.0
               (listed_more (Some holds) req.interface p interface start here (joined here (imports_at p r.0 uri)) n uri fs r.0 l lt (get_or_from_slice_get here n uri uri turn.1) r.1 refl)
@@ -148,7 +151,7 @@ module _ (strict : RanksAreStrict) (one : (w : List ℕ) → IsSettled w) (holds
     few_names : length names ≤ most_interfaces
     few_names =
         let apart : AreApart (addresses start) = subst AreApart (sym h.places) (without_repeats_apart (all_of h.groups)) in
-        (h.come (reading_of start) (reading_agrees start apart)).few_interfaces
+        (h.come (reading_of (Some holds) req.interface p start h.read) (reading_agrees (Some holds) req.interface p start h.read apart)).few_interfaces
 
     module _ (uri : Uri) (next : slice_get names (length done) ≡ Some uri) (lt : length done < length names) (here : Uris) (fs : List Feed)
         (l : HasListed (Some holds) req.interface p uri start here (length here) fs) where
@@ -161,19 +164,34 @@ module _ (strict : RanksAreStrict) (one : (w : List ℕ) → IsSettled w) (holds
       table_apart : AreApart (addresses fs)
       table_apart = subst AreApart (sym (places_now (Some holds) req p stored done names start uri h lt turn here fs l)) (without_repeats_apart (all_of (h.groups ++ here ∷ [])))
 
+      its_reading : Reading
+      its_reading = reading_of (Some holds) req.interface p fs (all_read (Some holds) req p stored done names start uri h lt turn here fs l)
+
+      it_agrees : Agrees p its_reading fs
+      unfolding its_reading
+      it_agrees = reading_agrees (Some holds) req.interface p fs (all_read (Some holds) req p stored done names start uri h lt turn here fs l) table_apart
+
       here_apart : AreApart here
       here_apart =
-          let named = closed_now (Some holds) req p stored done names start uri h lt turn here fs l (reading_of fs) (reading_agrees fs table_apart) in
-          subst AreApart (sym named.are) (without_repeats_apart (uri ∷ all_of (map (λ u. imports_of p (reading_of fs u)) here)))
+          let named = closed_now (Some holds) req p stored done names start uri h lt turn here fs l its_reading it_agrees in
+          subst AreApart (sym named.are) (without_repeats_apart (uri ∷ all_of (map (λ u. imports_of p (its_reading u)) here)))
 
-      placed : ArePlaced (admitted req p stored uri (feeds_at fs here))
-      placed = admitted_placed req p stored uri (feeds_at fs here) (subst AreApart (sym (addresses-feeds_at fs here all_there)) here_apart)
+      abbrev has : List Candidate
+      has = held req p stored uri (feeds_at fs here)
 
-      pub its_candidates : (cs : List Candidate) × AreCandidates req p stored uri (feeds_at fs here) cs
-      its_candidates = let r = can_rank strict p (admitted req p stored uri (feeds_at fs here)) placed in (r.0, record { same = r.1; ranked = r.2 })
+      are_admitted : (at : Reading) → Agrees p at fs → has ≡ admitted req p stored uri (map at here)
+      are_admitted at agrees = held_agreed req p stored uri at fs here all_there agrees
 
-      over : (cs : List Candidate) → AreCandidates req p stored uri (feeds_at fs here) cs → (at : Reading) → Agrees at fs → AreCandidates req p stored uri (map at here) cs
-      over cs a at agrees = let P : List Feed → Type 0 = λ q. AreCandidates req p stored uri q cs in subst P (feeds_agreed at fs here all_there agrees) a
+      placed : ArePlaced has
+      placed =
+          subst ArePlaced (sym (are_admitted its_reading it_agrees))
+          (admitted_placed req p stored uri (map its_reading here) (subst AreApart (sym (addresses_agreed p its_reading fs here all_there it_agrees)) here_apart))
+
+      its_candidates : (cs : List Candidate) × IsPermutation has cs × AreRanked p cs
+      its_candidates = can_rank strict p has placed
+
+      over : (cs : List Candidate) → IsPermutation has cs → AreRanked p cs → (at : Reading) → Agrees p at fs → AreCandidates req p stored uri (map at here) cs
+      over cs same ranked at agrees = let P : List Candidate → Type 0 = λ q. IsPermutation q cs in record { same = subst P (are_admitted at agrees) same; ranked = ranked }
 
       -- one interface more, or a limit
       abbrev pub MoreOr : Type 0
@@ -183,17 +201,19 @@ module _ (strict : RanksAreStrict) (one : (w : List ℕ) → IsSettled w) (holds
       pub more_or : MoreOr
       more_or =
           let cs : List Candidate = its_candidates.0 in
-          let are = its_candidates.1 in
+          let are = over cs its_candidates.1 its_candidates.2 in
+          let at : Reading = found_at (Some holds) req p stored done names start uri h lt turn here fs l next in
+          let agrees = found_agrees (Some holds) req p stored done names start uri h lt turn here fs l next in
           let c = (finds (Some holds) req p stored done names start uri h lt turn here fs l next).0 in
-          let same : length cs ≡ length (admitted req p stored uri (feeds_at fs here)) = length_permutation (admitted req p stored uri (feeds_at fs here)) cs are.same in
+          let same : length cs ≡ length (admitted req p stored uri (map at here)) = length_permutation (admitted req p stored uri (map at here)) cs (are at agrees).same in
           elim (within_or (candidates_in done + length cs) most_candidates) [
-            | inr gt ↦ inr (fault.TooManyCandidates most_candidates, refl, (refl, (done, names, uri, feeds_at fs here, c, omega (arith, gt, same))))
+            | inr gt ↦ inr (fault.TooManyCandidates most_candidates, refl, (refl, (done, names, uri, map at here, c, omega (arith, gt, same))))
             | inl few ↦ elim (within_or (length (joined names (asked_by_all cs))) most_interfaces) [
-              | inr gt ↦ inr (fault.TooManyInterfaces most_interfaces, refl, (refl, (done, names, uri, feeds_at fs here, cs, c, are, few, gt)))
+              | inr gt ↦ inr (fault.TooManyInterfaces most_interfaces, refl, (refl, (done, names, uri, map at here, cs, c, are at agrees, few, gt)))
               | inl many ↦ inl (
                 done ++ record { uri = uri; candidates = cs } ∷ [],
                 joined names (asked_by_all cs),
-                loaded_more (Some holds) req p stored done names start uri h lt turn here fs l cs (over cs are) few many,
+                loaded_more (Some holds) req p stored done names start uri h lt turn here fs l cs are few many,
                 length-append done (record { uri = uri; candidates = cs } ∷ []),
               )
             ]

@@ -1,5 +1,5 @@
 -- Feeds by their addresses, and the readings that agree with them.
-use Rattle.std.proofs.Common.{◌≡◌, ◌≢◌, ℕ, zero, suc, ◌<◌, Bool, true, false, true≢false, ◌||◌, List, [], ◌∷◌, ◌++◌, length, map, get_or, Option, Some, None, option_map, All, Contains, bytes_eq, refl, sym, ap, subst, ◌∙◌, arith, if◌then◌else◌}
+use Rattle.std.proofs.Common.{◌+◌, ◌≡◌, ◌≢◌, ℕ, zero, suc, ◌<◌, Bool, true, false, true≢false, ◌||◌, List, [], ◌∷◌, ◌++◌, length, map, filter, get_or, Option, Some, None, option_map, All, Contains, bytes_eq, refl, sym, ap, subst, ◌∙◌, arith, if◌then◌else◌}
 use Rattle.std.specs.Prelude.{unwrap_or, is_some, option_copied}
 use Rattle.std.specs.Borrow.{Bor}
 use Rattle.std.specs.List.{cons_option}
@@ -10,12 +10,15 @@ use Rattle.indexmap.specs.IndexMap.{IndexMap, insert_entry}
 use Rattle.indexmap.proofs.CallerLemmas.{insert_entry-new}
 use Rattle.zi_policy.specs.declared.types.Policy.{Policy}
 use Rattle.zi_policy.specs.Platform.{listed}
+use Rattle.zi_feed.specs.declared.feed.Impl.{Impl}
 use Rattle.zi_feed.specs.declared.feed.Feed.{Feed}
+use Rattle.zi_feed.specs.Active.{active_part, active_feed}
 use Rattle.zi_outside.specs.Views.{Holding}
 use Rattle.zi_universe.specs.Naming.{Uri, Uris, AreApart}
-use Rattle.zi_universe.specs.Candidates.{imports_of}
+use Rattle.zi_universe.specs.declared.types.Requirement.{Requirement}
+use Rattle.zi_universe.specs.Candidates.{Store, imports_of, stability_of, is_stored, standing_of, candidate_of, offered_from, is_admitted, admitted_by, admitted}
 use Rattle.zi_universe.specs.Loading.{no_feed, IsRead, Reading, AreRead}
-use Rattle.zi_universe.specs.Tables.{addresses, find_feed, feeds_at, imports_at, Agrees, AllRead}
+use Rattle.zi_universe.specs.Tables.{addresses, find_feed, feeds_at, imports_at, as_it_is, held_from, held_by, held, IsActiveOf, Agrees, AllRead}
 use Rattle.zi_universe.proofs.NamingLemmas.{bytes_eq-true, bytes_eq-refl, Contains-listed, length-map, map-append}
 
 -- The front of what agrees agrees.
@@ -86,23 +89,23 @@ found_listed fs uri f e = by (listed uri (addresses fs)) refl
     by true l = l
     by false l = absurd (let bad : Some f ≡ None = sym e ∙ absent fs uri l in cc)
 
--- What agrees gives the feed that is found.
-pub agreed : (at : Reading) (fs : List Feed) (uri : Uri) (r : IsFound fs uri) → Agrees at fs → at uri ≡ r.feed
-agreed at fs uri r a = ap at (sym r.place) ∙ All-contains (λ f. at f.uri ≡ f) fs r.feed a r.member
+-- Of what agrees the feed that is found is what is active.
+pub agreed : (p : Policy) (at : Reading) (fs : List Feed) (uri : Uri) (r : IsFound fs uri) → Agrees p at fs → active_feed p (at uri) ≡ r.feed
+agreed p at fs uri r a = ap (λ u. active_feed p (at u)) (sym r.place) ∙ All-contains (λ f. active_feed p (at f.uri) ≡ f) fs r.feed a r.member
 
-pub imports_agreed : (p : Policy) (at : Reading) (fs : List Feed) (uri : Uri) → listed uri (addresses fs) ≡ true → Agrees at fs
+pub imports_agreed : (p : Policy) (at : Reading) (fs : List Feed) (uri : Uri) → listed uri (addresses fs) ≡ true → Agrees p at fs
     → imports_at p fs uri ≡ imports_of p (at uri)
 imports_agreed p at fs uri l a =
     let r = found fs uri l in
-    ap (λ o. unwrap_or (option_map (imports_of p) o) []) r.found ∙ ap (imports_of p) (sym (agreed at fs uri r a))
+    ap (λ o. unwrap_or (option_map (imports_of p) o) []) r.found ∙ ap (imports_of p) (sym (agreed p at fs uri r a))
 
-pub feeds_agreed : (at : Reading) (fs : List Feed) (uris : Uris) → All (λ u. listed u (addresses fs) ≡ true) uris → Agrees at fs
-    → feeds_at fs uris ≡ map at uris
-feeds_agreed at fs [] l a = refl
-feeds_agreed at fs (u ∷ us) l a =
+feeds_agreed : (p : Policy) (at : Reading) (fs : List Feed) (uris : Uris) → All (λ u. listed u (addresses fs) ≡ true) uris → Agrees p at fs
+    → feeds_at fs uris ≡ map (λ u. active_feed p (at u)) uris
+feeds_agreed p at fs [] l a = refl
+feeds_agreed p at fs (u ∷ us) l a =
     let r = found fs u (All-head (λ v. listed v (addresses fs) ≡ true) u us l) in
-    ap (λ o. cons_option o (feeds_at fs us)) (r.found ∙ ap (λ f. Some f) (sym (agreed at fs u r a)))
-    ∙ ap (λ q. at u ∷ q) (feeds_agreed at fs us (All-tail (λ v. listed v (addresses fs) ≡ true) u us l) a)
+    ap (λ o. cons_option o (feeds_at fs us)) (r.found ∙ ap (λ f. Some f) (sym (agreed p at fs u r a)))
+    ∙ ap (λ q. active_feed p (at u) ∷ q) (feeds_agreed p at fs us (All-tail (λ v. listed v (addresses fs) ≡ true) u us l) a)
 
 -- the addresses of those that are there
 pub addresses-feeds_at : (fs : List Feed) (uris : Uris) → All (λ u. listed u (addresses fs) ≡ true) uris → addresses (feeds_at fs uris) ≡ uris
@@ -112,13 +115,45 @@ addresses-feeds_at fs (u ∷ us) l =
     ap (λ o. addresses (cons_option o (feeds_at fs us))) r.found ∙ ap (λ q. q ∷ addresses (feeds_at fs us)) r.place
     ∙ ap (λ q. u ∷ q) (addresses-feeds_at fs us (All-tail (λ v. listed v (addresses fs) ≡ true) u us l))
 
--- The reading that a table gives.
-pub reading_of : List Feed → Reading
-reading_of fs uri = unwrap_or (find_feed fs uri) (no_feed uri)
+-- What is active of a feed has its address.
+active_addresses : (p : Policy) (at : Reading) (uris : Uris) → addresses (map at uris) ≡ addresses (map (λ u. active_feed p (at u)) uris)
+active_addresses p at [] = refl
+active_addresses p at (u ∷ us) = ap (λ q. (at u).uri ∷ q) (active_addresses p at us)
 
-pub reads_found : (fs : List Feed) (uri : Uri) (f : Feed) → find_feed fs uri ≡ Some f → reading_of fs uri ≡ f
-unfolding reading_of
-reads_found fs uri f e = ap (λ o. unwrap_or o (no_feed uri)) e
+pub addresses_agreed : (p : Policy) (at : Reading) (fs : List Feed) (uris : Uris) → All (λ u. listed u (addresses fs) ≡ true) uris → Agrees p at fs → addresses (map at uris) ≡ uris
+addresses_agreed p at fs uris l a = active_addresses p at uris ∙ ap addresses (sym (feeds_agreed p at fs uris l a)) ∙ addresses-feeds_at fs uris l
+
+-- What a table has for an interface is what is admitted of what was read.
+same_standing : (p : Policy) (stored : Store) (interface feed : Uri) (place : ℕ) (i : Impl)
+    → standing_of p stored interface feed place (active_part p i) ≡ standing_of p stored interface feed place i
+unfolding standing_of stability_of is_stored active_part
+same_standing p stored interface feed place i = refl
+
+same_candidate : (p : Policy) (stored : Store) (interface feed : Uri) (place : ℕ) (i : Impl)
+    → as_it_is p stored interface feed place (active_part p i) ≡ candidate_of p stored interface feed place i
+same_candidate p stored interface feed place i = ap (λ s. record { standing = s; imp = active_part p i }) (same_standing p stored interface feed place i)
+
+held_active : (p : Policy) (stored : Store) (interface feed : Uri) (place : ℕ) (is : List Impl)
+    → held_from p stored interface feed place (map (active_part p) is) ≡ offered_from p stored interface feed place is
+held_active p stored interface feed place [] = refl
+held_active p stored interface feed place (i ∷ is) =
+    ap (λ q. q ∷ held_from p stored interface feed (place + 1) (map (active_part p) is)) (same_candidate p stored interface feed place i)
+    ∙ ap (λ q. candidate_of p stored interface feed place i ∷ q) (held_active p stored interface feed (place + 1) is)
+
+active_held : (req : Requirement) (p : Policy) (stored : Store) (interface : Uri) (f : Feed) → held_by req p stored interface (active_feed p f) ≡ admitted_by req p stored interface f
+active_held req p stored interface f = ap (filter (is_admitted req p interface)) (held_active p stored interface f.uri 0 f.impls)
+
+all_held : (req : Requirement) (p : Policy) (stored : Store) (interface : Uri) (at : Reading) (uris : Uris)
+    → held req p stored interface (map (λ u. active_feed p (at u)) uris) ≡ admitted req p stored interface (map at uris)
+all_held req p stored interface at [] = refl
+all_held req p stored interface at (u ∷ us) =
+    ap (λ q. q ++ held req p stored interface (map (λ v. active_feed p (at v)) us)) (active_held req p stored interface (at u))
+    ∙ ap (λ q. admitted_by req p stored interface (at u) ++ q) (all_held req p stored interface at us)
+
+pub held_agreed : (req : Requirement) (p : Policy) (stored : Store) (interface : Uri) (at : Reading) (fs : List Feed) (uris : Uris)
+    → All (λ u. listed u (addresses fs) ≡ true) uris → Agrees p at fs → held req p stored interface (feeds_at fs uris) ≡ admitted req p stored interface (map at uris)
+held_agreed req p stored interface at fs uris l a =
+    ap (held req p stored interface) (feeds_agreed p at fs uris l a) ∙ all_held req p stored interface at uris
 
 -- where addresses are apart, each feed is the one that is found at its address
 finds_each : (fs : List Feed) → AreApart (addresses fs) → All (λ f. find_feed fs f.uri ≡ Some f) fs
@@ -137,16 +172,64 @@ finds_each (f ∷ fs) a = All-cons (λ g. find_feed (f ∷ fs) g.uri ≡ Some g)
     other : (k : ℕ) (d : Feed) → k < length fs → (get_or fs k d).uri ≢ f.uri
     other k d lt s = a zero (suc k) f.uri (omega arith) (omega (arith, length-map (λ (g : Feed). g.uri) fs, lt)) (sym s ∙ sym (get_or-map (λ (g : Feed). g.uri) fs k d f.uri lt))
 
-pub reading_agrees : (fs : List Feed) → AreApart (addresses fs) → Agrees (reading_of fs) fs
-reading_agrees fs a = All-weaker (λ f. find_feed fs f.uri ≡ Some f) (λ f. reading_of fs f.uri ≡ f) (λ f e. reads_found fs f.uri f e) fs (finds_each fs a)
+-- The feed at an address was read, and what is active of it is found there.
+record Stands (told : Option Holding) (root : Uri) (p : Policy) (fs : List Feed) (uri : Uri) (read : Feed) : Type 0 where
+  feed : Feed
+  found : find_feed fs uri ≡ Some feed
+  is_read : IsRead told root uri read
+  active : feed ≡ active_feed p read
 
-pub reading_reads : (told : Option Holding) (root : Uri) (fs : List Feed) → AllRead told root fs → AreRead told root (reading_of fs) (addresses fs)
-reading_reads told root fs all uri c =
-    let r = found fs uri (Contains-listed uri (addresses fs) c) in
-    let read : IsRead told root r.feed.uri r.feed = All-contains (λ f. IsRead told root f.uri f) fs r.feed all r.member in
-    let P : Uri → Type 0 = λ u. IsRead told root u r.feed in
-    let Q : Feed → Type 0 = λ f. IsRead told root uri f in
-    subst Q (sym (reads_found fs uri r.feed r.found)) (subst P r.place read)
+-- The reading that a table gives: each feed as it was read.
+module _ (told : Option Holding) (root : Uri) (p : Policy) where
+  abbrev WasRead : Feed → Type 0
+  WasRead f = IsActiveOf told root p f.uri f
+
+  pub reading_of : (fs : List Feed) → AllRead told root p fs → Reading
+  reading_of [] all uri = no_feed uri
+  reading_of (f ∷ fs) all uri = if bytes_eq uri f.uri then (All-head WasRead f fs all).0 else reading_of fs (All-tail WasRead f fs all) uri
+
+  stands : (fs : List Feed) (all : AllRead told root p fs) (uri : Uri) → listed uri (addresses fs) ≡ true → Stands told root p fs uri (reading_of fs all uri)
+  unfolding reading_of
+  stands [] all uri e = absurd (true≢false (sym e))
+  stands (f ∷ fs) all uri e = by (bytes_eq uri f.uri) refl (stands fs (All-tail WasRead f fs all) uri)
+    where
+      mine : IsActiveOf told root p f.uri f
+      mine = All-head WasRead f fs all
+
+      rest : Feed
+      rest = reading_of fs (All-tail WasRead f fs all) uri
+
+      by : (b : Bool) → bytes_eq uri f.uri ≡ b → (listed uri (addresses fs) ≡ true → Stands told root p fs uri rest) → Stands told root p (f ∷ fs) uri (if bytes_eq uri f.uri then mine.0 else rest)
+      by true s later =
+          let P : Feed → Type 0 = λ q. Stands told root p (f ∷ fs) uri q in
+          let Q : Uri → Type 0 = λ q. IsRead told root q mine.0 in
+          subst P (sym (ap (λ b. if b then mine.0 else rest) s)) (record {
+            feed = f;
+            found = ap (λ b. if b then Some f else find_feed fs uri) s;
+            is_read = subst Q (sym (bytes_eq-true uri f.uri s)) mine.1;
+            active = mine.2;
+          })
+      by false s later =
+          let P : Feed → Type 0 = λ q. Stands told root p (f ∷ fs) uri q in
+          let r = later (ap (λ b. b || listed uri (addresses fs)) (sym s) ∙ e) in
+          subst P (sym (ap (λ b. if b then mine.0 else rest) s)) (record {
+            feed = r.feed;
+            found = ap (λ b. if b then Some f else find_feed fs uri) s ∙ r.found;
+            is_read = r.is_read;
+            active = r.active;
+          })
+
+  same_found : (f g : Feed) → Some f ≡ Some g → f ≡ g
+  same_found f g e = cc
+
+  pub reading_agrees : (fs : List Feed) (all : AllRead told root p fs) → AreApart (addresses fs) → Agrees p (reading_of fs all) fs
+  reading_agrees fs all apart = All-weaker (λ f. find_feed fs f.uri ≡ Some f) (λ f. active_feed p (reading_of fs all f.uri) ≡ f) agrees fs (finds_each fs apart)
+    where
+      agrees : (f : Feed) → find_feed fs f.uri ≡ Some f → active_feed p (reading_of fs all f.uri) ≡ f
+      agrees f e = let s = stands fs all f.uri (found_listed fs f.uri f e) in sym s.active ∙ same_found s.feed f (sym s.found ∙ e)
+
+  pub reading_reads : (fs : List Feed) (all : AllRead told root p fs) → AreRead told root (reading_of fs all) (addresses fs)
+  reading_reads fs all uri c = (stands fs all uri (Contains-listed uri (addresses fs) c)).is_read
 
 -- The feeds in a map under their addresses.
 pub lookup_feed : (es : List (Uri × Feed)) (uri : Uri) → All (λ e. e.0 ≡ e.1.uri) es → lookup (bytes_eq uri) es ≡ find_feed (map (λ e. e.1) es) uri

@@ -5,12 +5,13 @@ use Rattle.std.specs.List.{list_any, list_all, flat_map, enumerate_from}
 use Rattle.zi_version.specs.Range.{admits}
 use Rattle.zi_policy.specs.declared.types.Policy.{Policy}
 use Rattle.zi_policy.specs.declared.types.Stability.{Stability}
-use Rattle.zi_policy.specs.Platform.{is_run, is_active, holds_where_asked}
+use Rattle.zi_policy.specs.Platform.{is_run, holds_where_asked}
 use Rattle.zi_digest.specs.Name.{spelling}
 use Rattle.zi_rank.specs.declared.types.Standing.{Standing}
 use Rattle.zi_rank.specs.Languages.{base}
 use Rattle.zi_rank.specs.Reasons.{why_not}
 use Rattle.zi_rank.specs.Rank.{Before}
+use Rattle.zi_feed.specs.Active.{active_part}
 use Rattle.zi_feed.specs.declared.feed.Dep.{Dep}
 use Rattle.zi_feed.specs.declared.feed.DepKind.{DepKind}
 use Rattle.zi_feed.specs.declared.feed.DepKind.TheVariants.{Essential, Recommended, Restricts}
@@ -44,17 +45,6 @@ abbrev pub imports_of : Policy → Feed → Uris
 imports_of p f = map (λ m. m.uri) (filter (is_followed p) f.imports)
 
 -- An implementation as a candidate.
-
--- the dependencies that are active
-abbrev pub active_deps : Policy → List Dep → List Dep
-active_deps p ds = filter (λ d. is_active p d.condition) ds
-
-abbrev pub active_command : Policy → Command → Command
-active_command p k = record k { deps = active_deps p k.deps }
-
--- an implementation with its active dependencies alone, and each of its commands with its own
-unfoldable pub active_part : Policy → Impl → Impl
-active_part p i = record i { deps = active_deps p i.deps; commands = map (active_command p) i.commands }
 
 -- the policy's stability for an interface and an id, or else the feed's
 unfoldable pub stability_of : Policy → Uri → Impl → Stability

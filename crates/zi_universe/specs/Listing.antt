@@ -12,7 +12,7 @@ use Rattle.zi_universe.specs.Stages.{GetsOnce, StopsOnce}
 pub record ListsNext (told : Option Holding) (root : Uri) (p : Policy) (place : ℕ) (here there : Uris) (old new : List Feed) : Type 0 where
   pub uri : Uri
   pub turn : slice_get here place ≡ Some uri
-  pub gets : GetsOnce told root uri old new
+  pub gets : GetsOnce told root p uri old new
   pub more : there ≡ joined here (imports_at p new uri)
 
 -- the feed of the member at a place is refused

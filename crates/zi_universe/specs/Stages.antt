@@ -5,6 +5,7 @@ use Rattle.std.specs.List.{IsDistinct}
 use Rattle.zi_policy.specs.declared.types.Policy.{Policy}
 use Rattle.zi_policy.specs.Platform.{listed}
 use Rattle.zi_rank.specs.Ratings.{rating_of}
+use Rattle.zi_feed.specs.Active.{active_feed}
 use Rattle.zi_feed.specs.declared.feed.Feed.{Feed}
 use Rattle.zi_outside.specs.Count.{Rose}
 use Rattle.zi_outside.specs.Views.{Holding}
@@ -16,10 +17,10 @@ use Rattle.zi_universe.specs.declared.loading.Loading.{Loading}
 use Rattle.zi_universe.specs.declared.fault.LoadFault.{LoadFault}
 use Rattle.zi_universe.specs.declared.fault.LoadFault.TheVariants as fault
 use Rattle.zi_universe.specs.Naming.{Uri, Uris, with_one, joined, IsNamed}
-use Rattle.zi_universe.specs.Candidates.{Store, imports_of, admitted, AreRanked, asked_by_all}
+use Rattle.zi_universe.specs.Candidates.{Store, imports_of, AreRanked, asked_by_all}
 use Rattle.zi_universe.specs.Whole.{candidates_in, most_feeds, most_interfaces, most_candidates, feed_limit}
-use Rattle.zi_universe.specs.Loading.{HasFault, IsHeld, IsRead, Reading, reached, HasCome}
-use Rattle.zi_universe.specs.Tables.{addresses, feeds_at, Agrees, AllRead}
+use Rattle.zi_universe.specs.Loading.{Says, HasFault, IsHeld, Reading, reached, HasCome}
+use Rattle.zi_universe.specs.Tables.{addresses, feeds_at, held, IsActiveOf, Agrees, AllRead}
 
 -- Refusals.
 
@@ -52,16 +53,20 @@ RefusesNext told root got uri e = (got < most_feeds) × RefusesFeed told root ur
 
 -- One feed.
 
-abbrev pub Fetches : Option Holding → Uri → Uri → Result Feed LoadFault → Type 0
-Fetches told root uri (Ok feed) = (feed.uri ≡ uri) × IsRead told root uri feed
-Fetches told root uri (Err e) = RefusesFeed told root uri e
+-- the feed is what is active of the one that the bytes say
+abbrev pub SaysActive : Policy → Uri → List ℕ → Feed → Type 0
+SaysActive p uri bytes f = (said : Feed) × Says uri bytes said × (f ≡ active_feed p said)
+
+abbrev pub Fetches : Option Holding → Uri → Policy → Uri → Result Feed LoadFault → Type 0
+Fetches told root p uri (Ok feed) = (feed.uri ≡ uri) × IsActiveOf told root p uri feed
+Fetches told root p uri (Err e) = RefusesFeed told root uri e
 
 -- the feed at an address was got, unless it was there
-pub record GetsOnce (told : Option Holding) (root uri : Uri) (old new : List Feed) : Type 0 where
+pub record GetsOnce (told : Option Holding) (root : Uri) (p : Policy) (uri : Uri) (old new : List Feed) : Type 0 where
   pub more : List Feed
   pub grown : new ≡ old ++ more
   pub places : addresses new ≡ with_one (addresses old) uri
-  pub read : AllRead told root more
+  pub read : AllRead told root p more
   pub few : length old ≤ most_feeds → length new ≤ most_feeds
 
 -- it wasn't there, and was refused
@@ -73,11 +78,11 @@ pub record StopsOnce (told : Option Holding) (root uri : Uri) (old : List Feed) 
 
 -- The first n of those in here were looked at: the table grew by theirs, and here by what they import.
 pub record HasListed (told : Option Holding) (root : Uri) (p : Policy) (interface : Uri) (start : List Feed) (here : Uris) (n : ℕ) (fs : List Feed) : Type 0 where
-  pub named : (at : Reading) → Agrees at fs → IsNamed interface (map (λ u. imports_of p (at u)) (take n here)) here
+  pub named : (at : Reading) → Agrees p at fs → IsNamed interface (map (λ u. imports_of p (at u)) (take n here)) here
   pub more : List Feed
   pub grown : fs ≡ start ++ more
   pub places : addresses fs ≡ joined (addresses start) (take n here)
-  pub read : AllRead told root more
+  pub read : AllRead told root p more
   pub few : length fs ≤ most_feeds
 
 -- the next of them is refused
@@ -90,20 +95,20 @@ pub record StopsListing (told : Option Holding) (root : Uri) (p : Policy) (inter
   pub turn : slice_get here n ≡ Some uri
   pub stops : StopsOnce told root uri fs e
 
--- The feeds of an interface were found, and this is what they offer for it.
+-- The feeds of an interface were found, and this is what they have for it.
 pub record Gathers (told : Option Holding) (req : Requirement) (p : Policy) (stored : Store) (interface : Uri) (start : List Feed) (offered : List Candidate) (fs : List Feed) : Type 0 where
   pub here : Uris
   pub feeds : HasListed told req.interface p interface start here (length here) fs
-  pub are : offered ≡ admitted req p stored interface (feeds_at fs here)
+  pub are : offered ≡ held req p stored interface (feeds_at fs here)
 
 -- The interfaces.
 
 -- These interfaces are done, over the feeds of the table, and names are the root and what they ask for.
 pub record HasLoaded (told : Option Holding) (req : Requirement) (p : Policy) (stored : Store) (done : List Interface) (names : Uris) (fs : List Feed) : Type 0 where
   pub groups : List Uris
-  pub come : (at : Reading) → Agrees at fs → HasCome at req p stored done groups names
+  pub come : (at : Reading) → Agrees p at fs → HasCome at req p stored done groups names
   pub places : addresses fs ≡ reached groups
-  pub read : AllRead told req.interface fs
+  pub read : AllRead told req.interface p fs
   pub few : length fs ≤ most_feeds
 
 -- the state is as far as that, and counts the candidates

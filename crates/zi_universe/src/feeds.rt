@@ -25,13 +25,14 @@ use zi_text::{Memory, Text};
 fn get_new<F: Feeds>(
     alloc: Global,
     root: &Text,
+    policy: &Policy,
     uri: &Text,
     table: &mut FeedTable,
     feeds: &mut F,
 ) -> Result<(), LoadFault>
     requires few { length table.old ≤ most_feeds }
     requires new { listed uri.now (addresses table.old) ≡ false }
-    ensures got { MatchResult result (λ _. GetsOnce (holding (F.seen feeds.old)) root.now uri.now table.old table.new)
+    ensures got { MatchResult result (λ _. GetsOnce (holding (F.seen feeds.old)) root.now policy.now uri.now table.old table.new)
         (RefusesNext (holding (F.seen feeds.old)) root.now (length table.old) uri.now) }
     ensures asks { MatchResult result (λ _. AreAsked (uri.now ∷ []) (F.seen feeds.old) (F.seen feeds.new)) (λ e. StopsAt uri.now (F.seen feeds.old) e (F.seen feeds.new)) }
 {
@@ -39,7 +40,7 @@ fn get_new<F: Feeds>(
         let limit = MOST_FEEDS as u64;
         return Err(LoadFault::TooManyFeeds { limit });
     }
-    let feed = fetch(alloc, root, uri, feeds)?;
+    let feed = fetch(alloc, root, policy, uri, feeds)?;
     table.push(alloc, feed)?;
     Ok(())
 }
@@ -48,19 +49,20 @@ fn get_new<F: Feeds>(
 fn get_once<F: Feeds>(
     alloc: Global,
     root: &Text,
+    policy: &Policy,
     uri: &Text,
     table: &mut FeedTable,
     feeds: &mut F,
 ) -> Result<(), LoadFault>
     requires { length table.old ≤ most_feeds }
-    ensures got { MatchResult result (λ _. GetsOnce (holding (F.seen feeds.old)) root.now uri.now table.old table.new)
+    ensures got { MatchResult result (λ _. GetsOnce (holding (F.seen feeds.old)) root.now policy.now uri.now table.old table.new)
         (StopsOnce (holding (F.seen feeds.old)) root.now uri.now table.old) }
     ensures asks { MatchResult result (λ _. AreAsked (unless_there uri.now (addresses table.old)) (F.seen feeds.old) (F.seen feeds.new)) (λ e. StopsAt uri.now (F.seen feeds.old) e (F.seen feeds.new)) }
 {
     if table.has(uri) {
         return Ok(());
     }
-    get_new(alloc, root, uri, table, feeds)
+    get_new(alloc, root, policy, uri, table, feeds)
 }
 
 // Adds what the feed at an address imports.
@@ -97,7 +99,7 @@ fn list_next<F: Feeds>(
     ensures asks { OnOk result (GetsMore (addresses table.old) (addresses table.new) (F.seen feeds.old) (F.seen feeds.new)) }
 {
     let uri = copy_at(alloc, here, place)?;
-    get_once(alloc, root, &uri, table, feeds)?;
+    get_once(alloc, root, policy, &uri, table, feeds)?;
     follow(alloc, policy, table, &uri, here)?;
     Ok(())
 }

@@ -23,7 +23,6 @@
 //! (the invariant of `Universe`); OnceLemmas, ExclusionLemmas, RefusedOnceLemmas and SomeLemmas have the four laws.
 #![tactic(auto)]
 
-mod copies;
 mod fault;
 mod feeds;
 pub mod laws;

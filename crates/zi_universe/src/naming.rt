@@ -11,6 +11,7 @@ use indexmap::IndexSet;
 use std::alloc::Global;
 use zi_digest::DigestName;
 use zi_feed::{Command, Dep, DepKind, Feed, Impl, Runner};
+use zi_inherited::{Inherited, Shared};
 use zi_policy::Policy;
 use zi_text::{Memory, Text};
 
@@ -102,6 +103,21 @@ fn add_deps(alloc: Global, deps: &[Dep], names: &mut IndexSet<Text>) -> Result<(
     Ok(())
 }
 
+// The same of dependencies that are inherited.
+fn add_inherited(
+    alloc: Global,
+    deps: &Inherited<Dep>,
+    names: &mut IndexSet<Text>,
+) -> Result<(), Memory>
+    ensures { OnOk result (names.new.keys ≡ joined names.old.keys (asked deps.now)) }
+{
+    let pieces = deps.segments(alloc)?;
+    for piece in pieces.as_slice() {
+        add_deps(alloc, piece, names)?;
+    }
+    Ok(())
+}
+
 // Adds what a runner asks for, where there is one.
 fn add_runner(
     alloc: Global,
@@ -119,13 +135,28 @@ fn add_runner(
 // Adds what commands ask for.
 fn add_commands(
     alloc: Global,
-    commands: &[Command],
+    commands: &[Shared<Command>],
     names: &mut IndexSet<Text>,
 ) -> Result<(), Memory>
     ensures { OnOk result (names.new.keys ≡ joined names.old.keys (flat_map asked_by_command commands.now)) }
 {
     for command in commands {
-        add_command(alloc, command, names)?;
+        add_command(alloc, command.as_ref(), names)?;
+    }
+    Ok(())
+}
+
+// The same of commands that are inherited.
+fn add_inherited_commands(
+    alloc: Global,
+    commands: &Inherited<Shared<Command>>,
+    names: &mut IndexSet<Text>,
+) -> Result<(), Memory>
+    ensures { OnOk result (names.new.keys ≡ joined names.old.keys (flat_map asked_by_command commands.now)) }
+{
+    let pieces = commands.segments(alloc)?;
+    for piece in pieces.as_slice() {
+        add_commands(alloc, piece, names)?;
     }
     Ok(())
 }
@@ -144,8 +175,8 @@ fn add_command(alloc: Global, command: &Command, names: &mut IndexSet<Text>) -> 
 fn add_impl(alloc: Global, imp: &Impl, names: &mut IndexSet<Text>) -> Result<(), Memory>
     ensures { OnOk result (names.new.keys ≡ joined names.old.keys (asked_by_impl imp.now)) }
 {
-    add_deps(alloc, imp.deps.as_slice(), names)?;
-    add_commands(alloc, imp.commands.as_slice(), names)
+    add_inherited(alloc, &imp.deps, names)?;
+    add_inherited_commands(alloc, &imp.commands, names)
 }
 
 /// Adds what candidates ask for, one after the other.

@@ -2,11 +2,10 @@
 ghost use Rattle.std.specs.Prelude.{◌≡◌, ◌∷◌, [], ◌++◌, map, filter, length, is_some, is_none, IfOk, OnOk};
 ghost use Rattle.std.specs.List.{flat_map, enumerate_from};
 ghost use Rattle.zi_policy.specs.Platform.{is_run, holds_where_asked};
-ghost use Rattle.zi_universe.specs.Candidates.{suits, is_followed, has_items, standing_of, candidate_of, is_admitted, offered_by, admitted_by, admitted};
+ghost use Rattle.zi_universe.specs.Candidates.{suits, is_followed, has_items, standing_of, is_admitted};
 ghost use Rattle.zi_universe.specs.Naming.{in_set};
-ghost use Rattle.zi_universe.specs.Tables.{feeds_at};
+ghost use Rattle.zi_universe.specs.Tables.{feeds_at, as_it_is, held_by, held};
 
-use crate::copies::{active_copy, copy_arch, copy_texts};
 use crate::table::FeedTable;
 use crate::types::Candidate;
 use crate::wanted::Wanted;
@@ -42,6 +41,16 @@ pub fn is_followed(import: &Import, policy: &Policy) -> bool
     is_run(&import.arch, policy) && suits(policy.langs.as_slice(), import.langs.as_slice())
 }
 
+// The same platform once more, where there is one.
+fn copy_arch(alloc: Global, arch: &Option<Arch>) -> Result<Option<Arch>, Memory>
+    ensures { IfOk result (λ a. a ≡ arch.now) }
+{
+    match arch {
+        None => Ok(None),
+        Some(arch) => Ok(Some(arch.copy(alloc)?)),
+    }
+}
+
 // An implementation's standing for an interface.
 #[tactic(auto, unfolding(crate::specs::Candidates::standing_of))]
 fn standing(
@@ -57,9 +66,9 @@ fn standing(
     let version = imp.version.copy(alloc)?;
     let id = imp.id.copy(alloc)?;
     let feed = feed.copy(alloc)?;
-    let arch = copy_arch(alloc, &imp.arch)?;
-    let langs = copy_texts(alloc, &imp.langs)?;
+    let langs = imp.langs.share()?;
     let stored = wanted.is_stored(alloc, imp)?;
+    let arch = copy_arch(alloc, &imp.arch)?;
     Ok(Standing {
         version,
         id,
@@ -85,7 +94,7 @@ fn offer_one(
     candidates: &mut Vec<Candidate>,
 ) -> Result<(), Memory>
     ensures { OnOk result (candidates.new.items ≡ candidates.old.items ++ filter (is_admitted wanted.now.req wanted.now.policy interface.now)
-        (candidate_of wanted.now.policy (in_set wanted.now.stored) interface.now feed.now place imp.now ∷ [])) }
+        (as_it_is wanted.now.policy (in_set wanted.now.stored) interface.now feed.now place imp.now ∷ [])) }
 {
     let standing = standing(alloc, wanted, interface, feed, place, imp)?;
     if usable(&standing, wanted.policy()).is_some()
@@ -93,7 +102,7 @@ fn offer_one(
     {
         return Ok(());
     }
-    let imp = active_copy(alloc, wanted.policy(), imp)?;
+    let imp = imp.copy(alloc)?;
     candidates.push(Candidate { standing, imp })?;
     Ok(())
 }
@@ -106,7 +115,7 @@ fn offer(
     feed: &Feed,
     candidates: &mut Vec<Candidate>,
 ) -> Result<(), Memory>
-    ensures { OnOk result (candidates.new.items ≡ candidates.old.items ++ admitted_by wanted.now.req wanted.now.policy (in_set wanted.now.stored) interface.now feed.now) }
+    ensures { OnOk result (candidates.new.items ≡ candidates.old.items ++ held_by wanted.now.req wanted.now.policy (in_set wanted.now.stored) interface.now feed.now) }
 {
     for (place, imp) in feed.impls.as_slice().iter().enumerate() {
         offer_one(
@@ -130,7 +139,7 @@ pub fn gather(
     table: &FeedTable,
     here: &[Text],
 ) -> Result<Vec<Candidate>, Memory>
-    ensures { IfOk result (λ cs. cs.items ≡ admitted wanted.now.req wanted.now.policy (in_set wanted.now.stored) interface.now (feeds_at table.now here.now)) }
+    ensures { IfOk result (λ cs. cs.items ≡ held wanted.now.req wanted.now.policy (in_set wanted.now.stored) interface.now (feeds_at table.now here.now)) }
 {
     let mut candidates = Vec::new(alloc);
     for uri in here {

@@ -1,8 +1,8 @@
 //! One feed: its bytes are got and read.
 ghost use Rattle.std.specs.Prelude.{◌≡◌, ◌≢◌, ◌∷◌, [], MatchResult};
 ghost use Rattle.zi_outside.specs.Views.{holding};
-ghost use Rattle.zi_universe.specs.Loading.{Says, no_feed, AreAsked};
-ghost use Rattle.zi_universe.specs.Stages.{Fetches, RefusesBytes};
+ghost use Rattle.zi_universe.specs.Loading.{no_feed, AreAsked};
+ghost use Rattle.zi_universe.specs.Stages.{SaysActive, Fetches, RefusesBytes};
 ghost use Rattle.zi_universe.specs.Asked.{StopsAt};
 
 use crate::fault::{BadFeed, LoadFault};
@@ -11,11 +11,12 @@ use std::alloc::Global;
 use zi_doc::DocFault;
 use zi_feed::{Feed, FeedFault};
 use zi_outside::{Feeds, FeedsFault, Got};
+use zi_policy::Policy;
 use zi_text::{List, Text};
 
-// The feed that bytes say, read under an address.
-fn read_bytes(alloc: Global, uri: Text, bytes: &[u8]) -> Result<Feed, LoadFault>
-    ensures { MatchResult result (Says uri bytes.now) (RefusesBytes uri bytes.now) }
+// What is active under a policy of the feed that bytes say, read under an address.
+fn read_bytes(alloc: Global, policy: &Policy, uri: Text, bytes: &[u8]) -> Result<Feed, LoadFault>
+    ensures { MatchResult result (SaysActive policy.now uri bytes.now) (RefusesBytes uri bytes.now) }
 {
     let tree = match zi_doc::read(alloc, bytes) {
         Ok(tree) => tree,
@@ -25,7 +26,7 @@ fn read_bytes(alloc: Global, uri: Text, bytes: &[u8]) -> Result<Feed, LoadFault>
         }
         Err(DocFault::Memory) => return Err(LoadFault::Memory),
     };
-    match Feed::from_tree(alloc, &tree, uri.as_str()) {
+    match Feed::active_from_tree(alloc, &tree, uri.as_str(), policy) {
         Ok(feed) => Ok(feed),
         Err(FeedFault::Bad { kind, place }) => {
             let fault = BadFeed::Feed { kind, place };
@@ -49,21 +50,22 @@ fn absent(alloc: Global, root: &Text, uri: Text) -> Result<Feed, LoadFault>
     })
 }
 
-/// The feed at an address; an absent one says nothing, unless it is the root's. What a fault says is made before the call, so
+/// What is active under a policy of the feed at an address; an absent one says nothing, unless it is the root's. What a fault says is made before the call, so
 /// that a failed call is never told as want of memory.
 pub fn fetch<F: Feeds>(
     alloc: Global,
     root: &Text,
+    policy: &Policy,
     uri: &Text,
     feeds: &mut F,
 ) -> Result<Feed, LoadFault>
-    ensures fetched { Fetches (holding (F.seen feeds.old)) root.now uri.now result }
+    ensures fetched { Fetches (holding (F.seen feeds.old)) root.now policy.now uri.now result }
     ensures asks { MatchResult result (λ _. AreAsked (uri.now ∷ []) (F.seen feeds.old) (F.seen feeds.new)) (λ e. StopsAt uri.now (F.seen feeds.old) e (F.seen feeds.new)) }
 {
     let named = uri.copy(alloc)?;
     let mut bytes = Vec::new(alloc);
     match feeds.get(uri.as_str(), FEED_LIMIT, &mut bytes) {
-        Ok(Got::Held) => read_bytes(alloc, named, bytes.as_slice()),
+        Ok(Got::Held) => read_bytes(alloc, policy, named, bytes.as_slice()),
         Ok(Got::Absent) => absent(alloc, root, named),
         Ok(Got::TooLong) => {
             let limit = FEED_LIMIT;

@@ -28,7 +28,7 @@ pub struct Requirement {
 pub struct Candidate {
     /// What decides where it stands among the others.
     pub standing: Standing,
-    /// The implementation, with its active dependencies alone.
+    /// The implementation, with its active dependencies alone. It shares all that it says with the feed's.
     pub imp: Impl,
 }
 

@@ -27,6 +27,20 @@ fn a_text_is_copied(rt: HostRuntime) -> Result<(), Fail> {
 }
 
 #[test]
+fn a_copy_keeps_its_bytes(rt: HostRuntime) -> Result<(), Fail> {
+    let mut t = Text::from_str(rt.alloc(), "ab")?;
+    let u = t.copy(rt.alloc())?;
+    t.push('c')?;
+    assert_eq!(rt; u.as_str(), "ab");
+    assert_eq!(rt; t.as_str(), "abc");
+    let mut v = u.copy(rt.alloc())?;
+    v.push_str("z")?;
+    assert_eq!(rt; u.as_str(), "ab");
+    assert_eq!(rt; v.as_str(), "abz");
+    Ok(())
+}
+
+#[test]
 fn bytes_go_in_and_out(rt: HostRuntime) -> Result<(), Fail> {
     let mut b = Bytes::new(rt.alloc());
     b.push(3)?;

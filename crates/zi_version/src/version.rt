@@ -8,6 +8,7 @@ use crate::reader::{Word, read};
 use std::alloc::Global;
 use std::cmp::Ordering;
 use std::marker::Model;
+use zi_inherited::Shared;
 use zi_text::{Memory, Text};
 
 /// A version, which contracts see as the text that it was written as. Two are equal where they are written alike, so `1.2` and
@@ -15,7 +16,7 @@ use zi_text::{Memory, Text};
 #[derive(Debug, Drop)]
 pub struct Version {
     text: Text,
-    words: Vec<Word>,
+    words: Shared<Vec<Word>>,
 }
 
 impl Model for Version {
@@ -35,7 +36,7 @@ impl Version {
     pub fn parse(alloc: Global, text: &str) -> Result<Version, VersionFault>
         ensures { MatchResult result (λ v. (v ≡ text.now) × IsVersion text.now) (FaultMeans text.now) }
     {
-        let words = read(alloc, text.as_bytes())?;
+        let words = Shared::new(alloc, read(alloc, text.as_bytes())?)?;
         let text = Text::from_str(alloc, text)?;
         Ok(Version { text, words })
     }
@@ -62,12 +63,12 @@ impl Version {
         self.words.as_slice()
     }
 
-    /// The same version once more. Memory is its one refusal.
+    /// The same version once more, which costs nothing of it: both share it. Memory is its one refusal.
     pub fn copy(&self, alloc: Global) -> Result<Version, Memory>
         ensures { IfOk result (λ v. v ≡ self.now) }
     {
         let text = self.text.copy(alloc)?;
-        let words = Vec::from_slice(alloc, self.words.as_slice())?;
+        let words = self.words.share()?;
         Ok(Version { text, words })
     }
 }

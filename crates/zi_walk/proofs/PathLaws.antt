@@ -3,7 +3,6 @@ use Rattle.std.proofs.Common.{◌≡◌, ◌==◌, ◌≤◌, ◌<◌, ◌+◌, 
 use Rattle.std.specs.Prelude.{slice_get, option_and_then}
 use Rattle.std.specs.List.{list_any}
 use Rattle.std.proofs.lemmas.Option.{slice_get_past}
-use Rattle.zi_feed.specs.declared.feed.Dep.{Dep}
 use Rattle.zi_universe.specs.declared.types.Candidate.{Candidate}
 use Rattle.zi_universe.specs.declared.types.Interface.{Interface}
 use Rattle.zi_universe.specs.declared.types.Requirement.{Requirement}
@@ -16,10 +15,10 @@ use Rattle.zi_choice.proofs.WalkLaws.{true_false, none_some}
 use Rattle.zi_choice.proofs.GrowLaws.{visit_lists}
 use Rattle.zi_choice.proofs.TaskLaws.{a_walk}
 use Rattle.zi_walk.specs.declared.tasks.Task.{Task}
-use Rattle.zi_walk.specs.declared.tasks.Task.TheVariants.{Follow, Need}
+use Rattle.zi_walk.specs.declared.tasks.Task.TheVariants.{Need}
 use Rattle.zi_walk.specs.declared.path.Stop.{Stop}
 use Rattle.zi_walk.specs.Lists.{list_at}
-use Rattle.zi_walk.specs.Kept.{Stand, Does, Runs, Agrees, Awaits, GoesOn, IsReady, IsEmpty, PathIs, Grown, Longer, Steps, Moves, Stays, GoesAlong, stop_at, waiting, walk_to, left_of, interfaces_of, size, sizes}
+use Rattle.zi_walk.specs.Kept.{FollowsFirst, Stand, Does, Runs, Agrees, Awaits, GoesOn, IsReady, IsEmpty, PathIs, Grown, Longer, Steps, Moves, Stays, GoesAlong, stop_at, waiting, walk_to, left_of, interfaces_of, size, sizes}
 use Rattle.zi_walk.proofs.InverseLaws.{each_same, follow_same}
 use Rattle.zi_walk.proofs.StepLaws.{go_on, none_waits, not_longer, longer_still, with_lists, added_runs, AddsFirst, with_order, IsInserted, visit_steps}
 
@@ -123,12 +122,12 @@ follow_none u y x xs waits last e none =
     (λ s a b w p f r. let q : chosen u s x.interface ≡ None = ap (λ o. option_and_then (λ c. candidate_at u x.interface c) o) p ∙ none in
     subst (λ c. Runs u s (left_of y) c w) (sym (follow_same (subst (λ o. Follows u s (deps_of o) a b) q f))) r)
 
-pub follow_some : (u : List Interface) (y : Stand) (x : Stop) (xs : List Stop) (k : Candidate) (ds : Bor (List Dep)) (lists : List (List Task)) (left : ℕ) → waiting y ≡ Some x.interface → length y.order ≤ length y.stops + 1 → xs ≡ y.stops ++ x ∷ [] → option_and_then (λ c. candidate_at u x.interface c) x.pick ≡ Some k → ds.now ≡ k.imp.deps → AddsFirst y (Follow ds) lists left → GoesAlong u y (with_lists (with_stop y xs) lists left) x
-follow_some u y x xs k ds lists left waits last e some d h =
+pub follow_some : (u : List Interface) (y : Stand) (x : Stop) (xs : List Stop) (k : Candidate) (lists : List (List Task)) (left : ℕ) → waiting y ≡ Some x.interface → length y.order ≤ length y.stops + 1 → xs ≡ y.stops ++ x ∷ [] → option_and_then (λ c. candidate_at u x.interface c) x.pick ≡ Some k → FollowsFirst k.imp.deps (left_of y) (list_at lists left) → GoesAlong u y (with_lists (with_stop y xs) lists left) x
+follow_some u y x xs k lists left waits last e some h =
     let n = length_last y.stops xs x e in
     goes_along u y (with_lists (with_stop y xs) lists left) x waits refl refl (omega (arith, n, last))
     (λ s a b w p f r. let q : chosen u s x.interface ≡ Some k = ap (λ o. option_and_then (λ c. candidate_at u x.interface c) o) p ∙ some in
-    added_runs h u s a b w (subst (λ js. Follows u s js a b) (sym d) (subst (λ o. Follows u s (deps_of o) a b) q f)) r)
+    h u s a b w (subst (λ o. Follows u s (deps_of o) a b) q f) r)
 
 -- A walk begins at the root.
 

@@ -1,11 +1,11 @@
 -- What a step of a walk's tasks does, where its choice agrees with what was followed.
-use Rattle.std.proofs.Common.{◌≡◌, ◌==◌, ◌<◌, ◌+◌, inl, inr, ℕ, zero, suc, Bool, true, false, not, List, [], ◌∷◌, ◌++◌, length, map, get_or, Option, Some, None, Bor, refl, sym, ap, ◌∙◌, subst, arith, length-append, append_assoc, if◌then◌else◌, eqb-true}
+use Rattle.std.proofs.Common.{drop, ◌≤◌, ◌≡◌, ◌==◌, ◌<◌, ◌+◌, inl, inr, ℕ, zero, suc, Bool, true, false, not, List, [], ◌∷◌, ◌++◌, length, map, get_or, Option, Some, None, Bor, refl, sym, ap, ◌∙◌, subst, arith, length-append, append_assoc, if◌then◌else◌, eqb-true}
 use Rattle.std.specs.Prelude.{slice_get, position, option_and_then}
-use Rattle.std.specs.List.{list_any}
-use Rattle.std.proofs.lemmas.List.{append-nil, length-map, get_or-map}
+use Rattle.std.specs.List.{flat_map, list_any}
+use Rattle.std.proofs.lemmas.List.{drop_all, append-nil, length-map, get_or-map}
 use Rattle.std.proofs.lemmas.Option.{slice_get_past, slice_get_within, get_or_from_slice_get}
 use Rattle.std.proofs.lemmas.List.Quantifiers.{position-Some}
-use Rattle.std.proofs.Math.Seq.{get_or-append_seam}
+use Rattle.std.proofs.Math.Seq.{drop-cons, get_or-append_seam}
 use Rattle.std.proofs.lemmas.Bool.{not-true, not-false}
 use Rattle.zi_feed.specs.declared.feed.Dep.{Dep}
 use Rattle.zi_feed.specs.declared.feed.Command.{Command}
@@ -24,8 +24,8 @@ use Rattle.zi_walk.specs.declared.tasks.Task.TheVariants.{Follow, FollowOne, Nee
 use Rattle.zi_choice.specs.declared.traced.Used.{Used}
 use Rattle.zi_walk.specs.declared.path.Stop.{Stop}
 use Rattle.zi_walk.specs.Lists.{list_at, IsAdded}
-use Rattle.zi_walk.specs.Kept.{Stand, Does, Runs, Agrees, Awaits, GoesOn, IsReady, Grown, Longer, Steps, Stays, NeedsFirst, command_in, waiting, walk_to, left_of, size, sizes}
-use Rattle.zi_walk.proofs.InverseLaws.{visit_same, visit_goes, need_lacking, need_used, need_goes, each_split, follow_split, follow_leads}
+use Rattle.zi_walk.specs.Kept.{Stand, Does, Runs, Agrees, Awaits, GoesOn, IsReady, Grown, Longer, Steps, Stays, FollowsFirst, NeedsFirst, command_in, waiting, walk_to, left_of, size, sizes}
+use Rattle.zi_walk.proofs.InverseLaws.{visit_same, visit_goes, need_lacking, need_used, need_goes, each_split, follow_same, follow_split, follow_leads}
 
 -- How a walk goes on.
 
@@ -251,6 +251,25 @@ lacks_command u i c name e = at (candidate_at u i c) e
 pub has_command : (u : List Interface) (i c n : ℕ) (k : Candidate) (name : List ℕ) → Some n ≡ option_and_then (λ (k : Candidate). command_place k name) (candidate_at u i c) → candidate_at u i c ≡ Some k → slice_get k.imp.commands n ≡ command_in u i name (Some c)
 has_command u i c n k name p e =
     command_there k name n (p ∙ ap (option_and_then (λ (k : Candidate). command_place k name)) e) ∙ ap (option_and_then (λ (k : Candidate). command_of k name)) (sym e)
+
+-- pieces of dependencies are followed first, the last of which was added first
+pub pieces_first : (ps : List (Bor (List Dep))) (n : ℕ) (ts : List Task) → length ps ≤ n → FollowsFirst (flat_map (λ q. q.now) (drop n ps)) ts ts
+pieces_first ps n ts le u s a b w f r =
+    subst (λ x. Runs u s ts x w) (sym (follow_same (subst (λ x. Follows u s (flat_map (λ q. q.now) x) a b) (drop_all n ps le) f))) r
+
+pub piece_first : (ps : List (Bor (List Dep))) (i n : ℕ) (p : Bor (List Dep)) (old : List (List Task)) (first : ℕ) (lists : List (List Task)) (left : ℕ) (ts : List Task) → n ≡ i + 1 → i < length ps → p ≡ get_or ps i p
+    → IsAdded old first (Follow p) lists left → FollowsFirst (flat_map (λ q. q.now) (drop n ps)) ts (list_at old first) → FollowsFirst (flat_map (λ q. q.now) (drop i ps)) ts (list_at lists left)
+piece_first ps i n p old first lists left ts e lt is h later u s a b w f r =
+    let m : suc i ≡ n = omega (arith, e) in
+    let split : drop i ps ≡ p ∷ drop n ps = drop-cons ps i p lt ∙ ap (λ y. y ∷ drop (suc i) ps) (sym is) ∙ ap (λ j. p ∷ drop j ps) m in
+    let g = follow_split p.now (flat_map (λ q. q.now) (drop n ps)) (subst (λ x. Follows u s (flat_map (λ q. q.now) x) a b) split f) in
+    added_runs h u s a g.0 w g.1 (later u s g.0 b w g.2 r)
+
+pub pieces_all : (ps : List (Bor (List Dep))) (n : ℕ) (ds : List Dep) (ts us : List Task) → n ≤ 0 → flat_map (λ q. q.now) ps ≡ ds → FollowsFirst (flat_map (λ q. q.now) (drop n ps)) ts us → FollowsFirst ds ts us
+pieces_all ps n ds ts us le e h =
+    let none : n ≡ 0 = omega (arith, le) in
+    let P : List Dep → Type 0 = λ xs. FollowsFirst xs ts us in
+    subst P (ap (λ k. flat_map (λ q. q.now) (drop k ps)) none ∙ e) h
 
 -- what a command needs is done first
 pub needs_first : (m : Command) (ls : List (List Task)) (n : ℕ) (ds : Bor (List Dep)) (lists : List (List Task)) (left : ℕ) → m.runner ≡ None → ds.now ≡ m.deps → IsAdded ls n (Follow ds) lists left → NeedsFirst m (list_at ls n) (list_at lists left)

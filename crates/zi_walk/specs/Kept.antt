@@ -1,6 +1,7 @@
 -- What the decider keeps of a walk, so that it can be taken up again where it stood.
 use Rattle.std.specs.Prelude.{◌≡◌, ◌≤◌, ◌<◌, ◌+◌, ◌-◌, ◌⊎◌, ℕ, Bool, true, List, [], ◌∷◌, ◌++◌, map, length, take, slice_get, Option, Some, None, option_and_then}
 use Rattle.zi_feed.specs.declared.feed.Command.{Command}
+use Rattle.zi_feed.specs.declared.feed.Dep.{Dep}
 use Rattle.zi_universe.specs.declared.types.Requirement.{Requirement}
 use Rattle.zi_universe.specs.declared.types.Interface.{Interface}
 use Rattle.zi_choice.specs.declared.traced.Used.{Used}
@@ -167,13 +168,17 @@ abbrev pub Moves : List Interface → Stand → Stand → Bool → Type 0
 Moves u y z new =
     (s : Choice) (w : Walk) → Agrees s y.stops → Runs u s (left_of y) (walk_to s y) w → GoesOn u s z w × (new ≡ true → IsFurther u s y z)
 
+-- dependencies are to be followed before the tasks that were left
+abbrev pub FollowsFirst : List Dep → List Task → List Task → Type 0
+FollowsFirst ds later ts = (u : List Interface) (s : Choice) (a b w : Walk) → Follows u s ds a b → Runs u s later b w → Runs u s ts a w
+
 -- the command of a name that the candidate has which is chosen, if one is
 abbrev pub command_in : List Interface → ℕ → List ℕ → Option ℕ → Option Command
 command_in u i name o = option_and_then (λ k. command_of k name) (option_and_then (λ c. candidate_at u i c) o)
 
 -- what a command needs is to be done before the tasks that were left
 abbrev pub NeedsFirst : Command → List Task → List Task → Type 0
-NeedsFirst m later ts = (u : List Interface) (s : Choice) (a b w : Walk) → Follows u s (needs_of m) a b → Runs u s later b w → Runs u s ts a w
+NeedsFirst m later ts = FollowsFirst (needs_of m) later ts
 
 -- what is kept of the place that waits, when it is followed
 abbrev pub stop_at : Stand → ℕ → Option ℕ → ℕ → Stop

@@ -5,13 +5,14 @@ ghost use Rattle.zi_choice.specs.Walk.{Visits, Needs, NeedsEach, Follows, is_lis
 ghost use Rattle.zi_choice.specs.Tasks.{dep_size, deps_size};
 ghost use Rattle.zi_walk.specs.declared.path.Stop.{Stop as AStop};
 ghost use Rattle.zi_walk.specs.Lists.{list_at};
-ghost use Rattle.zi_walk.specs.Kept.{Does, size, sizes, stand_of, left_of, walk_to, waiting, back_at, Agrees, PathIs, IsEmpty, IsReady, Grown, Longer, Steps, Stays, Moves, NeedsFirst, command_in, IsFollowed, GoesAlong, stop_at};
+ghost use Rattle.zi_walk.specs.Kept.{Does, size, sizes, stand_of, left_of, walk_to, waiting, back_at, Agrees, PathIs, IsEmpty, IsReady, Grown, Longer, Steps, Stays, Moves, FollowsFirst, NeedsFirst, command_in, IsFollowed, GoesAlong, stop_at};
 
 use crate::tasks::{Task, Tasks};
 use indexmap::IndexSet;
 use std::alloc::Global;
 use zi_choice::{Names, Used};
 use zi_feed::{Command, Dep, DepKind};
+use zi_inherited::Inherited;
 use zi_text::{Memory, Text};
 use zi_universe::{Candidate, Requirement};
 
@@ -118,9 +119,7 @@ impl<'u> Path<'u> {
         let Some(k) = candidate(names, i, pick) else {
             return Ok(());
         };
-        self.left = self
-            .tasks
-            .add(Task::Follow(k.imp.deps.as_slice()), self.left)?;
+        self.left = add_follows(self.alloc, &mut self.tasks, &k.imp.deps, self.left)?;
         Ok(())
     }
 
@@ -283,7 +282,31 @@ fn command<'u>(names: &Names<'u>, i: u32, pick: u32, name: &Text) -> Option<&'u 
 {
     let place = names.command_place(i, pick, name)?;
     let k = candidate(names, i, Some(pick))?;
-    k.imp.commands.as_slice().get(place)
+    let command = k.imp.commands.get(place)?;
+    Some(command.as_ref())
+}
+
+// Inherited dependencies are to be followed before a list of tasks, the outer ones first.
+fn add_follows<'u>(
+    alloc: Global,
+    tasks: &mut Tasks<'u>,
+    deps: &'u Inherited<Dep>,
+    later: usize,
+) -> Result<usize, Memory>
+    requires { later < length tasks.old }
+    ensures lists { OnOk result (Longer tasks.old tasks.new) }
+    ensures inside { IfOk result (λ n. n < length tasks.new) }
+    ensures follows { IfOk result (λ n. FollowsFirst deps.now (list_at tasks.old later) (list_at tasks.new n)) }
+{
+    let segments = deps.segments(alloc)?;
+    let pieces = segments.as_slice();
+    let mut first = later;
+    let mut left = pieces.len();
+    while left > 0 {
+        left -= 1;
+        first = tasks.add(Task::Follow(pieces[left]), first)?;
+    }
+    Ok(first)
 }
 
 // Where a dependency leads.

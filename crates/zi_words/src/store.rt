@@ -91,10 +91,10 @@ pub fn ended(request: Request, behind: &[Text]) -> Result<Request, Refusal>
     ensures { IsEnded request behind.now result }
 {
     if behind.is_empty() {
-        Ok(request)
-    } else {
-        Err(Refusal::Left(behind.len()))
+        return Ok(request);
     }
+    drop(request);
+    Err(Refusal::Left(behind.len()))
 }
 
 // The request of the words behind `store add`.

@@ -18,7 +18,8 @@ use Rattle.zi_universe.specs.declared.types.Requirement.{Requirement}
 use Rattle.zi_universe.specs.declared.types.Candidate.{Candidate}
 use Rattle.zi_universe.specs.declared.types.Interface.{Interface}
 use Rattle.zi_universe.specs.Naming.{Uri, Uris, with_one, joined, without_repeats, all_of, IsNamed}
-use Rattle.zi_universe.specs.Candidates.{Store, is_followed, imports_of, active_command, active_part, standing_of, offered_from, offered_by, is_admitted, admitted_by, admitted, asks, asked, asked_by_runner, asked_by_command, asked_by_impl, asked_by}
+use Rattle.zi_feed.specs.Active.{active_command, active_part}
+use Rattle.zi_universe.specs.Candidates.{Store, is_followed, imports_of, standing_of, offered_from, offered_by, is_admitted, admitted_by, admitted, asks, asked, asked_by_runner, asked_by_command, asked_by_impl, asked_by}
 use Rattle.zi_universe.specs.Whole.{uris_of, feed_limit}
 use Rattle.zi_universe.specs.Loading.{Reading, Says, no_feed, IsRead, IsInterface, reached, Loads}
 use Rattle.zi_universe.proofs.NamingLemmas.{all_of-append, joined-append, at_stage, length-map, listed-Contains, listed-cons, listed-without_repeats, bytes_eq-refl}

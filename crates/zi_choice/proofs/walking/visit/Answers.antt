@@ -24,8 +24,8 @@ returns-clause-steps c =
     let w = c.args.way.now in
     let t : Came (picks_of c.args.on.now) c.args.i (map as_use w.used.keys) w.order.keys c.insert.new.self.keys =
     came (picks_of c.args.on.now) c.args.i (map as_use w.used.keys) w.order.keys c.insert.new.self.keys c.in_ok-insert.field-0 c.in_ok-insert.ensures.added c.in_ok-insert.ensures.keys c.if-not-branch.false in
-    visit_some (universe_of c.args.on.now) (picks_of c.args.on.now) c.args.i c.in-Some.k.now c.args.tasks.now.items c.push.new.self.items c.as_slice.result (walk_of c.args.on.now w) (walk_of c.args.on.now (record w { order = c.insert.new.self })) t.new t.walk
-    (lent_some c.chosen.result c.in-Some.k _ c.chosen.ensures c.in-Some.is) c.as_slice.ensures c.in_ok-push.ensures.items
+    λ v r. visit_some (universe_of c.args.on.now) (picks_of c.args.on.now) c.args.i c.in-Some.k.now c.args.tasks.now.items (walk_of c.args.on.now w) (walk_of c.args.on.now (record w { order = c.insert.new.self })) t.new t.walk
+    (lent_some c.chosen.result c.in-Some.k _ c.chosen.ensures c.in-Some.is) v (c.in_ok-add_follows.ensures (record w { order = c.insert.new.self }) v r)
 
 pub returns-clause-new : goal.returns-clause-new
 returns-clause-new c is =

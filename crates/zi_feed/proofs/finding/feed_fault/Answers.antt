@@ -8,5 +8,5 @@ pub returns : goal.returns
 returns c =
     c.lesser_of-2.ensures
     ∙ (ap (lesser_of c.in_ok-own.own) c.lesser_of.ensures
-    ∙ whole_fault _ _ (map seen_view c.args.seen.now) _ _ _ (sym c.is.ensures ∙ c.if-not-is.false) c.requires c.in_ok-own.ensures
+    ∙ whole_fault _ _ (map seen_view c.args.seen.now) _ _ _ (sym c.is.ensures ∙ c.if-not-is.false) c.requires.seen c.in_ok-own.ensures
     c.in_ok-inner.ensures c.in_ok-shared.ensures)

@@ -1,18 +1,30 @@
-use Rattle.std.proofs.Common.{ap, sym, ◌∙◌, map, None}
+use Rattle.std.proofs.Common.{List, ap, sym, subst, ◌∙◌, map, None}
 use Rattle.std.specs.List.{flat_map}
 use Rattle.zi_forest.specs.Forest.{element_view}
 use Rattle.zi_feed.specs.Faults.{least}
-use Rattle.zi_feed.specs.Views.{faults_seen, seen_view, said_by, taken}
+use Rattle.zi_feed.specs.declared.walk.Seen.{Seen}
+use Rattle.zi_feed.specs.Views.{faults_seen, seen_view, said_by, taken, AreChecked}
 use Rattle.zi_feed.proofs.FindingLaws.{closed_part, open_part}
 use Rattle.zi_feed.proofs.finding.part_fault.Goals as goal
 
+pub checked-requires : goal.checked-requires
+checked-requires c = c.nothing.ensures.checked None
+
+pub fault_with-requires : goal.fault_with-requires
+fault_with-requires c = c.in_ok-said.ensures.checked
+
+pub least_seen-requires : goal.least_seen-requires
+least_seen-requires c =
+    let P : List Seen → Type 0 = λ v. AreChecked None v in
+    subst P (sym c.as_slice.ensures.value) c.in_ok-seen.ensures.checked
+
 pub returns-then-branch : goal.returns-then-branch
 returns-then-branch c =
-    closed_part _ (said_by c.taken-said.result) _ (c.taken-said.ensures ∙ ap (λ v. taken v (element_view c.args.e.now)) c.nothing.ensures) c.in_ok-own.ensures (sym c.in_ok-is_unclear.ensures ∙ c.if-branch.true)
+    closed_part _ (said_by c.in_ok-said.said) _ (c.in_ok-said.ensures.said ∙ ap (λ v. taken v (element_view c.args.e.now)) c.nothing.ensures.said) c.in_ok-own.ensures (sym c.in_ok-is_unclear.ensures ∙ c.if-branch.true)
 
 pub returns : goal.returns
 returns c =
     c.lesser_of.ensures
-    ∙ open_part _ (said_by c.taken-said.result) (map seen_view c.in_ok-seen.seen.items) _ _ (c.taken-said.ensures ∙ ap (λ v. taken v (element_view c.args.e.now)) c.nothing.ensures)
-    c.in_ok-own.ensures (sym c.in_ok-is_unclear.ensures ∙ c.if-branch.false) c.in_ok-seen.ensures
+    ∙ open_part _ (said_by c.in_ok-said.said) (map seen_view c.in_ok-seen.seen.items) _ _ (c.in_ok-said.ensures.said ∙ ap (λ v. taken v (element_view c.args.e.now)) c.nothing.ensures.said)
+    c.in_ok-own.ensures (sym c.in_ok-is_unclear.ensures ∙ c.if-branch.false) c.in_ok-seen.ensures.seen
     (c.in_ok-inner.ensures ∙ ap (λ v. least (flat_map (faults_seen None) (map seen_view v))) c.as_slice.ensures.value)

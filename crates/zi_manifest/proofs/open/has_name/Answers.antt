@@ -1,31 +1,13 @@
-use Rattle.std.proofs.Common.{◌<◌, ◌+◌, ◌-◌, ◌/◌, ◌∙◌, ap, sym, length, arith, ℕ, List}
+-- The closure compares a name with the one that is sought.
+use Rattle.std.proofs.Common.{rules, ◌∙◌, List, ℕ}
 use Rattle.std.specs.Ordering.{nat_cmp}
 use Rattle.std.specs.Cmp.Lexicographic.{slice_cmp}
-use Rattle.zi_manifest.proofs.OpenLemmas.{below_middle, above_middle, found_middle, none_there}
+use Rattle.std.proofs.lemmas.Fn.{always_returns_same}
+use Rattle.zi_manifest.proofs.OpenLemmas.{name_found}
 use Rattle.zi_manifest.proofs.open.has_name.Goals as goal
 
-pub returns-in-Equal : goal.returns-in-Equal
-returns-in-Equal c =
-    let lt : c.loop-low.low + (c.loop-low.high - c.loop-low.low) / 2 < length c.args.names.now = omega arith in
-    sym (found_middle c.args.names.now c.args.name.now _ c.index-names-middle.result lt c.index-names-middle.is (ap (λ (t : List ℕ). slice_cmp nat_cmp t c.args.name.now) (sym c.as_str.ensures) ∙ sym c.cmp.ensures ∙ c.in-Equal.is))
-
-pub loop-low-preserved-in-Less : goal.loop-low-preserved-in-Less
-loop-low-preserved-in-Less c =
-    let lt : c.loop-low.low + (c.loop-low.high - c.loop-low.low) / 2 < c.loop-low.high = omega arith in
-    record {
-      bounds = (omega arith, c.loop-low.invariant.bounds.1);
-      below = below_middle c.args.names.now c.args.name.now _ c.index-names-middle.result c.requires (omega arith) c.index-names-middle.is (ap (λ (t : List ℕ). slice_cmp nat_cmp t c.args.name.now) (sym c.as_str.ensures) ∙ sym c.cmp.ensures ∙ c.in-Less.is);
-      above = c.loop-low.invariant.above;
-    }
-
-pub loop-low-preserved : goal.loop-low-preserved
-loop-low-preserved c =
-    let lt : c.loop-low.low + (c.loop-low.high - c.loop-low.low) / 2 < c.loop-low.high = omega arith in
-    record {
-      bounds = (omega arith, omega arith);
-      below = c.loop-low.invariant.below;
-      above = above_middle c.args.names.now c.args.name.now _ c.index-names-middle.result c.requires (omega arith) c.index-names-middle.is (ap (λ (t : List ℕ). slice_cmp nat_cmp t c.args.name.now) (sym c.as_str.ensures) ∙ sym c.cmp.ensures ∙ c.in-Greater.is);
-    }
-
 pub returns : goal.returns
-returns c = sym (none_there c.args.names.now c.args.name.now c.loop-low.low c.loop-low.invariant.below (λ k d l. c.loop-low.invariant.above k d (omega arith)))
+returns c =
+    let facts = c.binary_search_by.ensures in
+    let by_name = facts.position (λ (m : List ℕ). slice_cmp nat_cmp m c.args.name.now) (always_returns_same _ _ _ (λ a r g called. search rules)) in
+    c.is_ok.ensures.value ∙ name_found c.args.names.now c.requires c.args.name.now c.binary_search_by.result facts.bound by_name

@@ -1,36 +1,14 @@
-use Rattle.std.proofs.Common.{◌<◌, ◌+◌, ◌-◌, ◌/◌, ◌∙◌, ap, sym, length, arith}
+-- The closure compares an entry's name with the one that is sought.
+use Rattle.std.proofs.Common.{rules}
 use Rattle.std.specs.Ordering.{nat_cmp}
 use Rattle.std.specs.Cmp.Lexicographic.{slice_cmp}
+use Rattle.std.proofs.lemmas.Fn.{always_returns_same}
 use Rattle.zi_tree.specs.declared.tree.Entry.{Entry}
-use Rattle.zi_tree.proofs.Halves.{below_middle, above_middle, found_middle, none_there, place_there}
+use Rattle.zi_tree.proofs.Found.{entry_found}
 use Rattle.zi_tree.proofs.search.find_entry.Goals as goal
 
-pub returns-in-Equal : goal.returns-in-Equal
-returns-in-Equal c =
-    let lt : c.loop-low.low + (c.loop-low.high - c.loop-low.low) / 2 < length c.args.entries.now = omega arith in
-    (lt, found_middle c.args.entries.now c.args.name.now _ c.index-entries-middle.result c.requires lt c.index-entries-middle.is (ap (λ (e : Entry). slice_cmp nat_cmp e.name c.args.name.now) c.index-entries-middle.is ∙ ap (λ t. slice_cmp nat_cmp t c.args.name.now) (sym c.as_str.ensures) ∙ sym c.cmp.ensures ∙ c.in-Equal.is))
-
-pub loop-low-preserved-in-Less : goal.loop-low-preserved-in-Less
-loop-low-preserved-in-Less c =
-    let lt : c.loop-low.low + (c.loop-low.high - c.loop-low.low) / 2 < c.loop-low.high = omega arith in
-    record {
-      bounds = (omega arith, c.loop-low.invariant.bounds.1);
-      below = below_middle c.args.entries.now c.args.name.now _ c.index-entries-middle.result c.requires (omega arith) c.index-entries-middle.is (ap (λ (e : Entry). slice_cmp nat_cmp e.name c.args.name.now) c.index-entries-middle.is ∙ ap (λ t. slice_cmp nat_cmp t c.args.name.now) (sym c.as_str.ensures) ∙ sym c.cmp.ensures ∙ c.in-Less.is);
-      above = c.loop-low.invariant.above;
-    }
-
-pub loop-low-preserved : goal.loop-low-preserved
-loop-low-preserved c =
-    let lt : c.loop-low.low + (c.loop-low.high - c.loop-low.low) / 2 < c.loop-low.high = omega arith in
-    record {
-      bounds = (omega arith, omega arith);
-      below = c.loop-low.invariant.below;
-      above = above_middle c.args.entries.now c.args.name.now _ c.index-entries-middle.result c.requires (omega arith) c.index-entries-middle.is (ap (λ (e : Entry). slice_cmp nat_cmp e.name c.args.name.now) c.index-entries-middle.is ∙ ap (λ t. slice_cmp nat_cmp t c.args.name.now) (sym c.as_str.ensures) ∙ sym c.cmp.ensures ∙ c.in-Greater.is);
-    }
-
 pub returns : goal.returns
-returns c = (
-  omega arith,
-  place_there c.args.entries.now c.args.name.now c.loop-low.low c.requires (omega arith) c.loop-low.invariant.below (λ k d l. c.loop-low.invariant.above k d (omega arith)),
-  none_there c.args.entries.now c.args.name.now c.loop-low.low c.loop-low.invariant.below (λ k d l. c.loop-low.invariant.above k d (omega arith)),
-)
+returns c =
+    let facts = c.binary_search_by.ensures in
+    let by_name = facts.position (λ (e : Entry). slice_cmp nat_cmp e.name c.args.name.now) (always_returns_same _ _ _ (λ a r g called. search rules)) in
+    entry_found c.args.entries.now c.requires c.args.name.now c.binary_search_by.result facts.bound by_name

@@ -17,7 +17,7 @@ returns-in_err-follow-clause-next g c =
     let q = err_from_is_err_and c.from_residual-in_err-follow.result c.from_residual-in_err-follow.ensures.1 in
     rw (q.1, q.2)
     (ends_followed (holding seen) c.args.root.now c.args.place c.args.here.now.keys c.args.table.now c.in_ok-uri.uri c.in_ok-uri.ensures
-    c.get_once.new.table seen (g.F.Feeds.seen c.get_once.new.feeds) c.requires.few c.in_ok-get_once.ensures.got c.in_ok-get_once.ensures.asks)
+    c.args.policy.now c.get_once.new.table seen (g.F.Feeds.seen c.get_once.new.feeds) c.requires.few c.in_ok-get_once.ensures.got c.in_ok-get_once.ensures.asks)
 
 pub returns-clause-next : goal.returns-clause-next
 returns-clause-next g c = record {

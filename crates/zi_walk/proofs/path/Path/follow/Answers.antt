@@ -13,6 +13,6 @@ returns-in_default-clause-goes c =
 pub returns-clause-goes : goal.returns-clause-goes
 returns-clause-goes c =
     let y = stand_of c.args.self.now in
-    follow_some c.args.names.now y (stop_at y c.args.i c.args.pick c.args.known) c.push.new.self.items c.in-Some.k.now c.as_slice.result c.add.new.self c.in_ok-self.field-0 c.requires.waits c.requires.last
+    follow_some c.args.names.now y (stop_at y c.args.i c.args.pick c.args.known) c.push.new.self.items c.in-Some.k.now c.add_follows.new.tasks c.in_ok-self.field-0 c.requires.waits c.requires.last
     (with_last y c.push.new.self.items c.args.i c.args.known c.len.result c.len-2.result c.args.pick c.in_ok-push.ensures.items c.len.ensures c.len-2.ensures.len)
-    (lent_some c.candidate.result c.in-Some.k _ c.candidate.ensures c.in-Some.is) c.as_slice.ensures c.in_ok-self.ensures.added
+    (lent_some c.candidate.result c.in-Some.k _ c.candidate.ensures c.in-Some.is) c.in_ok-self.ensures.follows

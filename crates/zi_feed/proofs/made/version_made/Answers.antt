@@ -1,0 +1,13 @@
+use Rattle.std.proofs.Common.{sym, ap, ◌∙◌}
+use Rattle.std.specs.Prelude.{option_and_then}
+use Rattle.std.proofs.lemmas.Result.{IfOk-weaker}
+use Rattle.zi_version.specs.Range.{a_version}
+use Rattle.zi_forest.specs.Forest.{element_view}
+use Rattle.zi_feed.specs.Views.{said_by}
+use Rattle.zi_feed.proofs.SaidLaws.{same_version}
+use Rattle.zi_feed.proofs.made.version_made.Goals as goal
+
+pub returns : goal.returns
+returns c =
+    IfOk-weaker c.copied_version.result _ _
+    (λ v h. h ∙ (c.requires.made ∙ ap (option_and_then a_version) (sym (same_version (said_by c.args.outer.now.said) (said_by c.args.said.now) (element_view c.args.e.now) c.requires.said (sym c.says_version.ensures ∙ c.if-says_version.false))))) c.copied_version.ensures
