@@ -1,6 +1,6 @@
 //! Folders that are held open while a tree is read: what stands in one is reached from it, so that no path is looked up from the
 //! top again for each entry, and no link is followed on the way.
-ghost use Rattle.std.specs.Prelude.{◌≤◌, IfOk, length};
+ghost use Rattle.std.specs.Prelude.{◌≡◌, ◌≤◌, IfOk, take};
 
 use crate::folder_calls::kind_at;
 use crate::trouble::{Reason, Trouble};
@@ -372,7 +372,7 @@ impl OpenFolders {
 
     /// The first so many of the bytes that were read last.
     pub fn read_last(&self, count: usize) -> &[u8]
-        ensures { length result.now ≤ count }
+        ensures { result.now ≡ take count self.now.room.items }
     {
         &self.room[..count.min(self.room.len())]
     }
