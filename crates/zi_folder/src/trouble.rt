@@ -39,6 +39,14 @@ pub enum Trouble {
 }
 
 impl From<io::Error> for Trouble {
+    ghost use Rattle.std.specs.Prelude.{◌≡◌, ◌≢◌};
+    ghost use Rattle.std.specs.IoError.{error_kind};
+    ghost use Rattle.std.specs.declared.io.ErrorKind.TheVariants.{OutOfMemory};
+    ghost use Rattle.zi_folder.specs.declared.trouble.Reason.TheVariants.{System};
+    ghost use Rattle.zi_folder.specs.declared.trouble.Trouble.TheVariants.{Failed, Memory as NoMemory};
+
+    ghost from_gives = { λ error e. (error_kind error ≡ OutOfMemory → e ≡ NoMemory) × (error_kind error ≢ OutOfMemory → e ≡ Failed (System error)) };
+
     fn from(error: io::Error) -> Trouble {
         if error.kind() == ErrorKind::OutOfMemory {
             Trouble::Memory
