@@ -9,7 +9,7 @@ use crate::told::take_picks;
 use std::alloc::Global;
 use zi_build::build;
 use zi_choice::{Names, Place, Traced, Used, trace_picks, variable};
-use zi_formula::{Constraint, Formula, Lit};
+use zi_formula::{Formula, Lent, Lit};
 use zi_lines::{Sheet, halves};
 use zi_text::{List, Memory};
 use zi_universe::{Candidate, Requirement, Universe};
@@ -92,10 +92,10 @@ fn put_group(out: &mut Sheet, variables: &[u32]) {
 }
 
 /// Adds a constraint.
-fn put_constraint(out: &mut Sheet, c: &Constraint) {
+fn put_constraint(out: &mut Sheet, c: Lent<'_>) {
     match c {
-        Constraint::Clause(lits) => put_clause(out, lits.as_slice()),
-        Constraint::AtMostOne(variables) => put_group(out, variables.as_slice()),
+        Lent::Clause(lits) => put_clause(out, lits),
+        Lent::AtMostOne(variables) => put_group(out, variables),
     }
     out.put(";");
 }
@@ -104,8 +104,8 @@ fn put_constraint(out: &mut Sheet, c: &Constraint) {
 fn put_constraints(out: &mut Sheet, formula: &Formula) {
     out.number(u64::from(formula.variables));
     out.put(":");
-    for c in formula.constraints.as_slice() {
-        put_constraint(out, c);
+    for i in 0..formula.constraints.len() {
+        put_constraint(out, formula.constraints.at(i));
     }
 }
 

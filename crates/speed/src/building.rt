@@ -8,7 +8,7 @@ use std::alloc::{AllocError, Global};
 use std::io;
 use thiserror::Error;
 use zi_build::{BuildFault, build};
-use zi_formula::{Constraint, Formula};
+use zi_formula::{Formula, Lent};
 use zi_outside::SureFeeds;
 use zi_policy::{Network, Policy, Stability};
 use zi_text::{List, Memory, Text};
@@ -85,10 +85,10 @@ fn policy(alloc: Global) -> Result<Policy, Memory> {
 /// How many variables, constraints and literals a formula has, as a line.
 fn counts(alloc: Global, f: &Formula) -> Result<String, Fault> {
     let mut literals: usize = 0;
-    for c in f.constraints.as_slice() {
-        let more = match c {
-            Constraint::Clause(lits) => lits.len(),
-            Constraint::AtMostOne(variables) => variables.len(),
+    for i in 0..f.constraints.len() {
+        let more = match f.constraints.at(i) {
+            Lent::Clause(lits) => lits.len(),
+            Lent::AtMostOne(variables) => variables.len(),
         };
         literals = literals.saturating_add(more);
     }

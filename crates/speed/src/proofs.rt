@@ -5,28 +5,21 @@
 use crate::{line, number};
 use std::alloc::Global;
 use std::io::{self, Read};
-use zi_formula::{Constraint, Formula, Lit, is_well_formed};
+use zi_formula::{Constraints, Formula, Lit, is_well_formed};
 use zi_proof::{Marks, ProofFault, check, read};
-use zi_text::{List, Memory};
+use zi_text::Memory;
 
-fn clause(alloc: Global, lits: &[(u32, bool)]) -> Result<Constraint, Memory> {
-    let mut clause = List::new(alloc);
-    for (variable, positive) in lits {
-        clause.push(Lit {
-            variable: *variable,
-            positive: *positive,
-        })?;
-    }
-    Ok(Constraint::Clause(clause))
+fn lit(variable: u32, positive: bool) -> Lit {
+    Lit { variable, positive }
 }
 
 fn chain(alloc: Global, n: u32) -> Result<Formula, Memory> {
-    let mut constraints = List::new(alloc);
-    constraints.push(clause(alloc, &[(1, true)])?)?;
+    let mut constraints = Constraints::new(alloc);
+    constraints.push_clause(&[lit(1, true)])?;
     for k in 1..n {
-        constraints.push(clause(alloc, &[(k, false), (k + 1, true)])?)?;
+        constraints.push_clause(&[lit(k, false), lit(k + 1, true)])?;
     }
-    constraints.push(clause(alloc, &[(n, false)])?)?;
+    constraints.push_clause(&[lit(n, false)])?;
     Ok(Formula {
         variables: n,
         constraints,

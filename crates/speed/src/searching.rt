@@ -8,7 +8,7 @@ use crate::in_order::InOrder;
 use crate::{line, number};
 use std::alloc::Global;
 use std::io::{self, Write};
-use zi_formula::{Constraint, Formula, Lit, is_well_formed};
+use zi_formula::{Constraints, Formula, Lit, is_well_formed};
 use zi_proof::{Certificate, write};
 use zi_sat::{Found, Search};
 use zi_text::{List, Memory};
@@ -27,8 +27,8 @@ fn lit_of(word: &str) -> Option<Lit> {
 
 /// Adds the clause or group of a line to the formula.
 fn add_line(alloc: Global, line: &str, f: &mut Formula) -> Result<(), Memory> {
-    let mut lits = List::new(alloc);
-    let mut group = List::new(alloc);
+    let mut lits = Vec::new(alloc);
+    let mut group = Vec::new(alloc);
     for word in line.split_whitespace() {
         if let Some(lit) = lit_of(word) {
             f.variables = f.variables.max(lit.variable);
@@ -36,18 +36,18 @@ fn add_line(alloc: Global, line: &str, f: &mut Formula) -> Result<(), Memory> {
             group.push(lit.variable)?;
         }
     }
-    f.constraints.push(if line.starts_with("g") {
-        Constraint::AtMostOne(group)
+    if line.starts_with("g") {
+        f.constraints.push_group(group.as_slice())
     } else {
-        Constraint::Clause(lits)
-    })
+        f.constraints.push_clause(lits.as_slice())
+    }
 }
 
 /// The formula of a text.
 fn formula_of(alloc: Global, text: &str) -> Result<Formula, Memory> {
     let mut f = Formula {
         variables: 0,
-        constraints: List::new(alloc),
+        constraints: Constraints::new(alloc),
     };
     for line in text.lines() {
         if !line.starts_with("p") {

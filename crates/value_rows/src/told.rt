@@ -1,6 +1,6 @@
 //! What lines tell: the start and end tags of open elements, and a formula.
 use std::alloc::Global;
-use zi_formula::{Constraint, Formula, Lit};
+use zi_formula::{Constraints, Formula, Lit};
 use zi_lines::{Sheet, halves, take_numbers};
 use zi_names::{Entered, Raw, Scopes, Started};
 use zi_text::{List, Memory, Text};
@@ -19,7 +19,7 @@ impl Told {
             scopes: Scopes::new(alloc)?,
             formula: Formula {
                 variables: 0,
-                constraints: List::new(alloc),
+                constraints: Constraints::new(alloc),
             },
         })
     }
@@ -46,14 +46,14 @@ pub(crate) fn take_lits(lits: &mut List<Lit>, row: &str) -> Result<(), Memory> {
 fn take_clause(alloc: Global, formula: &mut Formula, row: &str) -> Result<(), Memory> {
     let mut lits = List::new(alloc);
     take_lits(&mut lits, row)?;
-    formula.constraints.push(Constraint::Clause(lits))
+    formula.constraints.push_clause(lits.as_slice())
 }
 
 /// Takes a group of which at most one is true.
 fn take_group(alloc: Global, formula: &mut Formula, row: &str) -> Result<(), Memory> {
     let mut numbers = List::new(alloc);
     take_numbers(&mut numbers, row)?;
-    formula.constraints.push(Constraint::AtMostOne(numbers))
+    formula.constraints.push_group(numbers.as_slice())
 }
 
 /// Takes what a line tells, and says whether it tells something.

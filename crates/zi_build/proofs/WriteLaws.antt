@@ -86,6 +86,22 @@ adds_as b u v w rs ss e f = subst (λ xs. Adds b u v xs w) e f
 pub puts_as : (b : Bool) (u : List Interface) (v w : Writer) (c : Constraint) (r : Rule) → c ≡ constraint_of u r → Puts b v (c ∷ []) w → Adds b u v (r ∷ []) w
 puts_as b u v w c r e f = subst (λ d. Puts b v (d ∷ []) w) e f
 
+-- what else a writer has doesn't matter
+pub puts_beside : (b : Bool) (v x y w : Writer) (ds : List Constraint) → v.size ≡ x.size → v.constraints ≡ x.constraints → y.size ≡ w.size → y.constraints ≡ w.constraints → Puts b x ds y → Puts b v ds w
+puts_beside b v x y w ds s t p q f cs h =
+    let g : Holds b y (cs ++ ds) = f cs (record {
+      few = λ l. (let r = h.few (subst (λ n. n ≤ 8000000) (sym s) l) in (r.0 ∙ s, λ k. sym t ∙ r.1 k));
+      many = λ l. h.many (subst (λ n. 8000000 < n) (sym s) l);
+    }) in
+    record {
+      few = λ l. (let r = g.few (subst (λ n. n ≤ 8000000) (sym p) l) in (r.0 ∙ p, λ k. sym q ∙ r.1 k));
+      many = λ l. g.many (subst (λ n. 8000000 < n) (sym p) l);
+    }
+
+-- a clause that was written in the writer's room
+pub wrote : (b : Bool) (u : List Interface) (v x w : Writer) (ls : List Lit) (r : Rule) → v.size ≡ x.size → v.constraints ≡ x.constraints → Clause ls ≡ constraint_of u r → Puts b x (Clause ls ∷ []) w → Adds b u v (r ∷ []) w
+wrote b u v x w ls r s t e f = puts_as b u v w (Clause ls) r e (puts_beside b v x w w (Clause ls ∷ []) s t refl refl f)
+
 -- one item more of a list that is gone through
 each_next : {A B : Type 0} (n : ℕ) (f : ℕ → A → List B) (xs : List A) (i : ℕ) (x : A) → i < length xs → x ≡ get_or xs i x → each n f (take (suc i) xs) ≡ each n f (take i xs) ++ f (n + i) x
 each_next n f [] i x l e = absurd (omega (arith, l))
@@ -248,6 +264,12 @@ against_is u y j e o l m n p a f g h k q =
     let all : p ≡ map (lit_of u) (no y ∷ (x ++ having j e o)) =
     q ∙ ap (λ z. z ++ map (lit_of u) (having j e o)) (k ∙ ap (λ z. z ++ map (lit_of u) x) first) ∙ ap (λ z. lit_of u (no y) ∷ z) (sym (map-append (lit_of u) x (having j e o))) in
     ap (λ z. Clause z) (all ∙ ap (map (lit_of u)) (sym (once_against y (Cand j e) j e o)))
+
+pub wanted_is : (u : List Interface) (e : ℕ) (o : Option ℕ) (l m n : List Lit) (a : Lit) → l ≡ [] → a ≡ lit_of u (no (Cand 0 e)) → m ≡ l ++ a ∷ [] → n ≡ m ++ map (lit_of u) (having 0 e o) → Clause n ≡ constraint_of u (clause (no (Cand 0 e) ∷ having 0 e o))
+wanted_is u e o l m n a f g h k =
+    let first : m ≡ lit_of u (no (Cand 0 e)) ∷ [] = h ∙ ap (λ z. z ++ a ∷ []) f ∙ ap (λ b. b ∷ []) g in
+    let all : n ≡ map (lit_of u) (no (Cand 0 e) ∷ having 0 e o) = k ∙ ap (λ z. z ++ map (lit_of u) (having 0 e o)) first in
+    ap (λ z. Clause z) (all ∙ ap (map (lit_of u)) (sym (once_wanted (Cand 0 e) 0 e o)))
 
 pub kept : {A : Type 0} (b : Bool) (x : A) → b ≡ true → x ∷ [] ≡ keep b x
 kept b x e = ap (λ c. keep c x) (sym e)

@@ -6,11 +6,11 @@ ghost use Rattle.zi_build.specs.Answers.{IsBuilt, FaultMeans, AreKept};
 
 use crate::kinds::add_rules;
 use crate::variables::table_of;
-use crate::writing::{MOST_LITERALS, Plan, Writer, is_full};
+use crate::writing::{MOST_LITERALS, Plan, is_full, no_constraints};
 use std::alloc::Global;
 use zi_choice::Names;
-use zi_formula::{Constraint, Formula};
-use zi_text::{List, Memory};
+use zi_formula::{Constraints, Formula};
+use zi_text::Memory;
 use zi_universe::{Requirement, Universe};
 
 /// Why there is no formula.
@@ -26,15 +26,12 @@ pub enum BuildFault {
 }
 
 // The constraints, where they have few enough literals. They are counted as they are kept, and behind the limit none is kept any more.
-fn constraints_of(plan: &Plan, req: &Requirement) -> Result<Option<List<Constraint>>, Memory>
+fn constraints_of(plan: &Plan, req: &Requirement) -> Result<Option<Constraints>, Memory>
     requires plan { IsPlan plan.now }
     requires keeps { plan.now.keeps ≡ true }
     ensures { IfOk result (AreKept (plan_of plan.now) req.now) }
 {
-    let mut w = Writer {
-        size: 0,
-        constraints: List::new(plan.alloc),
-    };
+    let mut w = no_constraints(plan.alloc);
     add_rules(plan, req, &mut w)?;
     if is_full(&w) {
         return Ok(None);

@@ -1,5 +1,5 @@
 //! The constraints, a function for each kind.
-ghost use Rattle.std.specs.Prelude.{◌≡◌, ◌≤◌, ◌<◌, ◌++◌, ◌∷◌, [], true, false, not, length, map, option_map, slice_get, Some, IfOk, IfSome, OnOk, Option, ℕ};
+ghost use Rattle.std.specs.Prelude.{◌≡◌, ◌≤◌, ◌<◌, ◌++◌, ◌∷◌, [], true, false, not, length, map, option_map, slice_get, Some, IfSome, OnOk, Option, ℕ};
 ghost use Rattle.zi_universe.specs.Candidates.{asks};
 ghost use Rattle.zi_choice.specs.Choice.{number, needs_of};
 ghost use Rattle.zi_choice.specs.Valid.{group};
@@ -10,12 +10,12 @@ ghost use Rattle.zi_build.specs.Writing.{as_var, plan_of, IsPlan, Adds};
 ghost use Rattle.zi_build.specs.There.{Listed};
 
 use crate::variables::Variable;
-use crate::writing::{Plan, Writer, is_full, lit, number, put, put_two};
+use crate::writing::{Plan, Writer, is_full, lit, number, put, put_clause, put_two};
 use zi_feed::{Command, Dep, DepKind};
-use zi_formula::{Constraint, Lit};
+use zi_formula::{Lent, Lit};
 use zi_inherited::Inherited;
 use zi_policy::Width;
-use zi_text::{List, Memory, Text};
+use zi_text::{Memory, Text};
 use zi_universe::{Candidate, Interface, Requirement};
 
 // Whether a candidate's version is admitted.
@@ -69,15 +69,16 @@ fn candidates<'u>(plan: &Plan<'u>, j: u32) -> &'u [Candidate]
 }
 
 // The literal that a candidate isn't chosen, where it isn't said already.
-fn push_other(plan: &Plan, y: Variable, j: u32, e: u32, lits: &mut List<Lit>) -> Result<(), Memory>
+fn push_other(plan: &Plan, y: Variable, j: u32, e: u32, lits: &mut Vec<Lit>) -> Result<(), Memory>
     requires plan { IsPlan plan.now }
     requires there { Listed (plan_of plan.now) (Cand j e) }
-    ensures { OnOk result (lits.new ≡ lits.old ++ map (lit_of (plan_of plan.now)) (without (no (as_var y)) (no (Cand j e) ∷ []))) }
+    ensures { OnOk result (lits.new.items ≡ lits.old.items ++ map (lit_of (plan_of plan.now)) (without (no (as_var y)) (no (Cand j e) ∷ []))) }
 {
     if is_choosing(y, j, e) {
         return Ok(());
     }
-    lits.push(lit(plan, Variable::Choosing(j, e), false))
+    lits.push(lit(plan, Variable::Choosing(j, e), false))?;
+    Ok(())
 }
 
 // Whether a variable says that a candidate is chosen.
@@ -97,16 +98,17 @@ fn push_having(
     j: u32,
     e: u32,
     place: Option<u32>,
-    lits: &mut List<Lit>,
+    lits: &mut Vec<Lit>,
 ) -> Result<(), Memory>
     requires plan { IsPlan plan.now }
     requires used { IfSome place (λ m. Listed (plan_of plan.now) (Cmd j e m)) }
-    ensures { OnOk result (lits.new ≡ lits.old ++ map (lit_of (plan_of plan.now)) (having j e place)) }
+    ensures { OnOk result (lits.new.items ≡ lits.old.items ++ map (lit_of (plan_of plan.now)) (having j e place)) }
 {
-    match place {
-        None => Ok(()),
-        Some(m) => lits.push(lit(plan, Variable::Using(j, e, m), true)),
-    }
+    let Some(m) = place else {
+        return Ok(());
+    };
+    lits.push(lit(plan, Variable::Using(j, e, m), true))?;
+    Ok(())
 }
 
 // The clause that says of two variables that not both hold, where the command of a name isn't used.
@@ -124,11 +126,11 @@ fn put_against(
     requires used { IfSome place (λ m. Listed (plan_of plan.now) (Cmd j e m)) }
     ensures { OnOk result (Adds plan.now.keeps (plan_of plan.now) w.old (clause (no (as_var y) ∷ no (Cand j e) ∷ having j e place) ∷ []) w.new) }
 {
-    let mut lits = List::new(plan.alloc);
-    lits.push(lit(plan, y, false))?;
-    push_other(plan, y, j, e, &mut lits)?;
-    push_having(plan, j, e, place, &mut lits)?;
-    put(plan, w, Constraint::Clause(lits))?;
+    w.lits.clear();
+    w.lits.push(lit(plan, y, false))?;
+    push_other(plan, y, j, e, &mut w.lits)?;
+    push_having(plan, j, e, place, &mut w.lits)?;
+    put_clause(plan, w)?;
     Ok(())
 }
 
@@ -223,10 +225,10 @@ fn add_all_named(
 }
 
 // The literals of the admitted candidates.
-fn push_admitted(plan: &Plan, dep: &Dep, j: u32, lits: &mut List<Lit>) -> Result<(), Memory>
+fn push_admitted(plan: &Plan, dep: &Dep, j: u32, lits: &mut Vec<Lit>) -> Result<(), Memory>
     requires plan { IsPlan plan.now }
     requires there { j < length (plan_of plan.now) }
-    ensures { OnOk result (lits.new ≡ lits.old ++ map (lit_of (plan_of plan.now)) (each 0 (admitted_one dep.now j) (candidates_of (plan_of plan.now) j))) }
+    ensures { OnOk result (lits.new.items ≡ lits.old.items ++ map (lit_of (plan_of plan.now)) (each 0 (admitted_one dep.now j) (candidates_of (plan_of plan.now) j))) }
 {
     for (e, k) in candidates(plan, j).iter().enumerate() {
         push_if_admitted(plan, dep, j, e as u32, k, lits)?;
@@ -241,29 +243,17 @@ fn push_if_admitted(
     j: u32,
     e: u32,
     k: &Candidate,
-    lits: &mut List<Lit>,
+    lits: &mut Vec<Lit>,
 ) -> Result<(), Memory>
     requires plan { IsPlan plan.now }
     requires there { slice_get (candidates_of (plan_of plan.now) j) e ≡ Some k.now }
-    ensures { OnOk result (lits.new ≡ lits.old ++ map (lit_of (plan_of plan.now)) (admitted_one dep.now j e k.now)) }
+    ensures { OnOk result (lits.new.items ≡ lits.old.items ++ map (lit_of (plan_of plan.now)) (admitted_one dep.now j e k.now)) }
 {
     if !is_admitted(dep, k) {
         return Ok(());
     }
     lits.push(lit(plan, Variable::Choosing(j, e), true))?;
     Ok(())
-}
-
-// No literals, with room for those of as many candidates as most interfaces have.
-fn with_room(plan: &Plan, j: Option<u32>) -> Result<List<Lit>, Memory>
-    requires there { IfSome j (λ j. j < length (plan_of plan.now)) }
-    ensures { IfOk result (λ lits. lits ≡ []) }
-{
-    let count = match j {
-        Some(j) => candidates(plan, j).len(),
-        None => 0,
-    };
-    Ok(List::from_vec(Vec::with_capacity(plan.alloc, count.min(15) + 1)?))
 }
 
 // One of the admitted candidates is to be chosen.
@@ -279,18 +269,18 @@ fn put_admitted(
     requires there { IfSome j (λ j. j < length (plan_of plan.now)) }
     ensures { OnOk result (Adds plan.now.keeps (plan_of plan.now) w.old (clause (no (as_var y) ∷ at_target (plan_of plan.now) (admitted_one dep.now) j) ∷ []) w.new) }
 {
-    let mut lits = with_room(plan, j)?;
-    lits.push(lit(plan, y, false))?;
-    push_target(plan, dep, j, &mut lits)?;
-    put(plan, w, Constraint::Clause(lits))?;
+    w.lits.clear();
+    w.lits.push(lit(plan, y, false))?;
+    push_target(plan, dep, j, &mut w.lits)?;
+    put_clause(plan, w)?;
     Ok(())
 }
 
 // The literals of the admitted candidates, where there is an interface.
-fn push_target(plan: &Plan, dep: &Dep, j: Option<u32>, lits: &mut List<Lit>) -> Result<(), Memory>
+fn push_target(plan: &Plan, dep: &Dep, j: Option<u32>, lits: &mut Vec<Lit>) -> Result<(), Memory>
     requires plan { IsPlan plan.now }
     requires there { IfSome j (λ j. j < length (plan_of plan.now)) }
-    ensures { OnOk result (lits.new ≡ lits.old ++ map (lit_of (plan_of plan.now)) (at_target (plan_of plan.now) (admitted_one dep.now) j)) }
+    ensures { OnOk result (lits.new.items ≡ lits.old.items ++ map (lit_of (plan_of plan.now)) (at_target (plan_of plan.now) (admitted_one dep.now) j)) }
 {
     let Some(j) = j else {
         return Ok(());
@@ -480,10 +470,10 @@ fn add_interfaces(plan: &Plan, w: &mut Writer) -> Result<(), Memory>
 }
 
 // The numbers of an interface's candidates.
-fn push_numbers(plan: &Plan, i: u32, variables: &mut List<u32>) -> Result<(), Memory>
+fn push_numbers(plan: &Plan, i: u32, variables: &mut Vec<u32>) -> Result<(), Memory>
     requires plan { IsPlan plan.now }
     requires there { i < length (plan_of plan.now) }
-    ensures { OnOk result (variables.new ≡ variables.old ++ map (var_number (plan_of plan.now)) (each 0 (one_var i) (candidates_of (plan_of plan.now) i))) }
+    ensures { OnOk result (variables.new.items ≡ variables.old.items ++ map (var_number (plan_of plan.now)) (each 0 (one_var i) (candidates_of (plan_of plan.now) i))) }
 {
     for (c, _k) in candidates(plan, i).iter().enumerate() {
         push_number(plan, i, c as u32, variables)?;
@@ -492,10 +482,10 @@ fn push_numbers(plan: &Plan, i: u32, variables: &mut List<u32>) -> Result<(), Me
 }
 
 // The number of a candidate.
-fn push_number(plan: &Plan, i: u32, c: u32, variables: &mut List<u32>) -> Result<(), Memory>
+fn push_number(plan: &Plan, i: u32, c: u32, variables: &mut Vec<u32>) -> Result<(), Memory>
     requires plan { IsPlan plan.now }
     requires there { Listed (plan_of plan.now) (Cand i c) }
-    ensures { OnOk result (variables.new ≡ variables.old ++ var_number (plan_of plan.now) (Cand i c) ∷ []) }
+    ensures { OnOk result (variables.new.items ≡ variables.old.items ++ var_number (plan_of plan.now) (Cand i c) ∷ []) }
 {
     variables.push(number(plan, Variable::Choosing(i, c)))?;
     Ok(())
@@ -510,9 +500,9 @@ fn add_group(plan: &Plan, i: u32, w: &mut Writer) -> Result<(), Memory>
     if candidates(plan, i).len() < 2 {
         return Ok(());
     }
-    let mut variables = List::new(plan.alloc);
+    let mut variables = Vec::new(plan.alloc);
     push_numbers(plan, i, &mut variables)?;
-    put(plan, w, Constraint::AtMostOne(variables))?;
+    put(plan, w, Lent::AtMostOne(variables.as_slice()))?;
     Ok(())
 }
 
@@ -528,9 +518,9 @@ fn add_groups(plan: &Plan, w: &mut Writer) -> Result<(), Memory>
 }
 
 // The literals of the root's candidates.
-fn push_roots(plan: &Plan, lits: &mut List<Lit>) -> Result<(), Memory>
+fn push_roots(plan: &Plan, lits: &mut Vec<Lit>) -> Result<(), Memory>
     requires { IsPlan plan.now }
-    ensures { OnOk result (lits.new ≡ lits.old ++ map (lit_of (plan_of plan.now)) (each 0 root_one (candidates_of (plan_of plan.now) 0))) }
+    ensures { OnOk result (lits.new.items ≡ lits.old.items ++ map (lit_of (plan_of plan.now)) (each 0 root_one (candidates_of (plan_of plan.now) 0))) }
 {
     let _root = plan.universe.root();
     for (c, _k) in candidates(plan, 0).iter().enumerate() {
@@ -540,10 +530,10 @@ fn push_roots(plan: &Plan, lits: &mut List<Lit>) -> Result<(), Memory>
 }
 
 // The literal of a candidate of the root.
-fn push_root(plan: &Plan, c: u32, lits: &mut List<Lit>) -> Result<(), Memory>
+fn push_root(plan: &Plan, c: u32, lits: &mut Vec<Lit>) -> Result<(), Memory>
     requires plan { IsPlan plan.now }
     requires there { Listed (plan_of plan.now) (Cand 0 c) }
-    ensures { OnOk result (lits.new ≡ lits.old ++ lit_of (plan_of plan.now) (yes (Cand 0 c)) ∷ []) }
+    ensures { OnOk result (lits.new.items ≡ lits.old.items ++ lit_of (plan_of plan.now) (yes (Cand 0 c)) ∷ []) }
 {
     lits.push(lit(plan, Variable::Choosing(0, c), true))?;
     Ok(())
@@ -554,9 +544,9 @@ fn put_root(plan: &Plan, w: &mut Writer) -> Result<(), Memory>
     requires { IsPlan plan.now }
     ensures { OnOk result (Adds plan.now.keeps (plan_of plan.now) w.old (clause (each 0 root_one (candidates_of (plan_of plan.now) 0)) ∷ []) w.new) }
 {
-    let mut lits = List::new(plan.alloc);
-    push_roots(plan, &mut lits)?;
-    put(plan, w, Constraint::Clause(lits))?;
+    w.lits.clear();
+    push_roots(plan, &mut w.lits)?;
+    put_clause(plan, w)?;
     Ok(())
 }
 
@@ -580,10 +570,10 @@ fn put_wanted(plan: &Plan, c: u32, place: Option<u32>, w: &mut Writer) -> Result
     requires used { IfSome place (λ m. Listed (plan_of plan.now) (Cmd 0 c m)) }
     ensures { OnOk result (Adds plan.now.keeps (plan_of plan.now) w.old (clause (no (Cand 0 c) ∷ having 0 c place) ∷ []) w.new) }
 {
-    let mut lits = List::new(plan.alloc);
-    lits.push(lit(plan, Variable::Choosing(0, c), false))?;
-    push_having(plan, 0, c, place, &mut lits)?;
-    put(plan, w, Constraint::Clause(lits))?;
+    w.lits.clear();
+    w.lits.push(lit(plan, Variable::Choosing(0, c), false))?;
+    push_having(plan, 0, c, place, &mut w.lits)?;
+    put_clause(plan, w)?;
     Ok(())
 }
 

@@ -1,6 +1,7 @@
 //! Constraints, counted or written one after another.
 ghost use Rattle.std.specs.Prelude.{◌≡◌, ◌≤◌, ◌<◌, ◌∷◌, ◌++◌, [], true, length, IfOk, OnOk};
 ghost use Rattle.zi_formula.specs.declared.formula.Constraint.TheVariants.{Clause};
+ghost use Rattle.zi_formula.specs.Lent.{shows};
 ghost use Rattle.zi_choice.specs.Vars.{var_number};
 ghost use Rattle.zi_build.specs.Clauses.{size_of, most_literals, lit_of};
 ghost use Rattle.zi_build.specs.There.{Listed};
@@ -8,9 +9,10 @@ ghost use Rattle.zi_build.specs.Writing.{as_var, is_full, IsTable, Puts};
 
 use crate::variables::{Variable, VariableTable};
 use std::alloc::Global;
+use std::mem;
 use zi_choice::Names;
-use zi_formula::{Constraint, Lit};
-use zi_text::{List, Memory};
+use zi_formula::{Constraints, Lent, Lit};
+use zi_text::Memory;
 use zi_universe::Universe;
 
 /// The most literals that a formula may have.
@@ -30,16 +32,30 @@ pub(crate) struct Plan<'u> {
 #[derive(Drop)]
 pub(crate) struct Writer {
     pub size: usize,
-    pub constraints: List<Constraint>,
+    pub constraints: Constraints,
+    /// Those of the clause that comes next. Each clause is written in the same room.
+    pub lits: Vec<Lit>,
+}
+
+/// No constraints, and none of a clause's literals.
+pub(crate) fn no_constraints(alloc: Global) -> Writer
+    ensures size { result.size ≡ 0 }
+    ensures constraints { result.constraints ≡ [] }
+{
+    Writer {
+        size: 0,
+        constraints: Constraints::new(alloc),
+        lits: Vec::new(alloc),
+    }
 }
 
 // The number of literals that are counted.
-fn size_of(c: &Constraint) -> usize
-    ensures { result ≡ size_of c.now }
+fn size_of(c: Lent<'_>) -> usize
+    ensures { result ≡ size_of (shows c.entry) }
 {
     match c {
-        Constraint::Clause(lits) => lits.len(),
-        Constraint::AtMostOne(variables) => variables.len(),
+        Lent::Clause(lits) => lits.len(),
+        Lent::AtMostOne(variables) => variables.len(),
     }
 }
 
@@ -51,9 +67,9 @@ pub(crate) fn is_full(w: &Writer) -> bool
 }
 
 // Keeps a constraint, where they are kept.
-fn keep(plan: &Plan, w: &mut Writer, c: Constraint) -> Result<(), Memory>
+fn keep(plan: &Plan, w: &mut Writer, c: Lent<'_>) -> Result<(), Memory>
     ensures size { OnOk result (w.new.size ≡ w.old.size) }
-    ensures kept { OnOk result (plan.now.keeps ≡ true → w.new.constraints ≡ w.old.constraints ++ c ∷ []) }
+    ensures kept { OnOk result (plan.now.keeps ≡ true → w.new.constraints ≡ w.old.constraints ++ shows c.entry ∷ []) }
 {
     if !plan.keeps {
         return Ok(());
@@ -63,13 +79,13 @@ fn keep(plan: &Plan, w: &mut Writer, c: Constraint) -> Result<(), Memory>
 }
 
 /// Counts a constraint, and keeps it where they are kept.
-pub(crate) fn put(plan: &Plan, w: &mut Writer, c: Constraint) -> Result<(), Memory>
-    ensures { OnOk result (Puts plan.now.keeps w.old (c ∷ []) w.new) }
+pub(crate) fn put(plan: &Plan, w: &mut Writer, c: Lent<'_>) -> Result<(), Memory>
+    ensures { OnOk result (Puts plan.now.keeps w.old (shows c.entry ∷ []) w.new) }
 {
     if is_full(w) {
         return Ok(());
     }
-    let more = size_of(&c);
+    let more = size_of(c);
     if more > MOST_LITERALS - w.size {
         w.size = MOST_LITERALS + 1;
         return Ok(());
@@ -111,9 +127,16 @@ pub(crate) fn lit(plan: &Plan, x: Variable, positive: bool) -> Lit
 pub(crate) fn put_two(plan: &Plan, a: Lit, b: Lit, w: &mut Writer) -> Result<(), Memory>
     ensures { OnOk result (Puts plan.now.keeps w.old (Clause (a ∷ b ∷ []) ∷ []) w.new) }
 {
-    let mut lits = List::new(plan.alloc);
-    lits.push(a)?;
-    lits.push(b)?;
-    put(plan, w, Constraint::Clause(lits))?;
+    put(plan, w, Lent::Clause(&[a, b]))?;
+    Ok(())
+}
+
+/// Counts the clause whose literals were written, and keeps it where they are kept.
+pub(crate) fn put_clause(plan: &Plan, w: &mut Writer) -> Result<(), Memory>
+    ensures { OnOk result (Puts plan.now.keeps w.old (Clause w.old.lits.items ∷ []) w.new) }
+{
+    let lits = mem::replace(&mut w.lits, Vec::new(plan.alloc));
+    put(plan, w, Lent::Clause(lits.as_slice()))?;
+    w.lits = lits;
     Ok(())
 }

@@ -4,9 +4,10 @@
 
 ghost use Rattle.std.specs.Prelude.{◌≡◌, ◌≤◌, ◌↔◌, IsTrue};
 ghost use Rattle.zi_formula.specs.Form.{has_lit, has_variable, LitsWithin, VarsWithin, ConstraintWithin, Once, OnceVars, ItemsOnce, OnceAll, WellFormed};
+ghost use Rattle.zi_formula.specs.Lent.{shows};
 ghost use Rattle.std.specs.List.{All};
 
-use crate::{Constraint, Formula, Lit};
+use crate::{Constraints, Formula, Lent, Lit};
 
 fn has(lits: &[Lit], l: Lit) -> bool
     ensures { result ≡ has_lit lits.now l }
@@ -48,12 +49,12 @@ fn group_is_within(group: &[u32], variables: u32) -> bool
     group.iter().all(|x| is_in(*x, variables))
 }
 
-fn is_within(c: &Constraint, variables: u32) -> bool
-    ensures { IsTrue result ↔ ConstraintWithin variables c.now }
+fn is_within(c: Lent<'_>, variables: u32) -> bool
+    ensures { IsTrue result ↔ ConstraintWithin variables (shows c.entry) }
 {
     match c {
-        Constraint::Clause(lits) => lits_are_within(lits.as_slice(), variables),
-        Constraint::AtMostOne(group) => group_is_within(group.as_slice(), variables),
+        Lent::Clause(lits) => lits_are_within(lits, variables),
+        Lent::AtMostOne(group) => group_is_within(group, variables),
     }
 }
 
@@ -83,26 +84,31 @@ fn group_is_once(group: &[u32]) -> bool
     true
 }
 
-fn is_once(c: &Constraint) -> bool
-    ensures { IsTrue result ↔ ItemsOnce c.now }
+fn is_once(c: Lent<'_>) -> bool
+    ensures { IsTrue result ↔ ItemsOnce (shows c.entry) }
 {
     match c {
-        Constraint::Clause(lits) => lits_are_once(lits.as_slice()),
-        Constraint::AtMostOne(group) => group_is_once(group.as_slice()),
+        Lent::Clause(lits) => lits_are_once(lits),
+        Lent::AtMostOne(group) => group_is_once(group),
     }
 }
 
-fn all_are_within(constraints: &[Constraint], variables: u32) -> bool
+fn all_are_within(constraints: &Constraints, variables: u32) -> bool
     ensures { IsTrue result ↔ All (λ c. ConstraintWithin variables c) constraints.now }
 {
-    constraints.iter().all(|c| is_within(c, variables))
+    for i in 0..constraints.len() {
+        if !is_within(constraints.at(i), variables) {
+            return false;
+        }
+    }
+    true
 }
 
-fn all_are_once(constraints: &[Constraint]) -> bool
+fn all_are_once(constraints: &Constraints) -> bool
     ensures { IsTrue result ↔ OnceAll constraints.now }
 {
-    for c in constraints {
-        if !is_once(c) {
+    for i in 0..constraints.len() {
+        if !is_once(constraints.at(i)) {
             return false;
         }
     }
@@ -115,7 +121,7 @@ fn all_are_once(constraints: &[Constraint]) -> bool
 pub fn is_well_formed(f: &Formula) -> bool
     ensures { IsTrue result ↔ WellFormed f.now }
 {
-    let constraints = f.constraints.as_slice();
+    let constraints = &f.constraints;
     if constraints.len() >= u32::MAX as usize {
         return false;
     }

@@ -5,6 +5,7 @@
 ghost use Rattle.std.specs.Prelude.{◌≡◌};
 ghost use Rattle.zi_formula.specs.Truth.{opposite};
 
+use crate::Constraints;
 use zi_text::List;
 
 /// A literal: a variable, by its number from 1 on, or its opposite.
@@ -16,8 +17,7 @@ pub struct Lit {
     pub positive: bool,
 }
 
-/// What a formula asks of an assignment.
-#[derive(Debug, Drop, PartialEq, Eq)]
+/// What a formula asks of an assignment, as contracts speak of it: `Constraints` holds a list of these, and `Lent` shows one.
 pub enum Constraint {
     /// At least one of these literals is true.
     Clause(List<Lit>),
@@ -26,12 +26,12 @@ pub enum Constraint {
 }
 
 /// Constraints over the variables 1 to `variables`.
-#[derive(Debug, Drop, PartialEq, Eq)]
+#[derive(Debug, Drop)]
 pub struct Formula {
     /// How many variables there are.
     pub variables: u32,
     /// The constraints, of which the first has the number 1 where a proof cites it.
-    pub constraints: List<Constraint>,
+    pub constraints: Constraints,
 }
 
 impl Lit {

@@ -4,9 +4,10 @@
 
 ghost use Rattle.std.specs.Prelude.{◌≡◌, ◌≤◌, length};
 ghost use Rattle.zi_formula.specs.Truth.{lit_true, clause_true, none_true, group_true, constraint_true, all_true, assigned};
+ghost use Rattle.zi_formula.specs.Lent.{shows};
 ghost use Rattle.zi_formula.specs.Form.{LitsWithin, VarsWithin, ConstraintWithin, WellFormed};
 
-use crate::{Constraint, Formula, Lit};
+use crate::{Formula, Lent, Lit};
 
 fn is_true(values: &[bool], l: Lit) -> bool
     requires low { 1 ≤ l.variable }
@@ -44,13 +45,13 @@ fn group_is_true(variables: &[u32], values: &[bool]) -> bool
     true
 }
 
-fn constraint_is_true(c: &Constraint, values: &[bool]) -> bool
-    requires { ConstraintWithin (length values.now) c.now }
-    ensures { result ≡ constraint_true (assigned values.now) c.now }
+fn constraint_is_true(c: Lent<'_>, values: &[bool]) -> bool
+    requires { ConstraintWithin (length values.now) (shows c) }
+    ensures { result ≡ constraint_true (assigned values.now) (shows c.entry) }
 {
     match c {
-        Constraint::Clause(lits) => clause_is_true(lits.as_slice(), values),
-        Constraint::AtMostOne(variables) => group_is_true(variables.as_slice(), values),
+        Lent::Clause(lits) => clause_is_true(lits, values),
+        Lent::AtMostOne(variables) => group_is_true(variables, values),
     }
 }
 
@@ -61,8 +62,8 @@ pub fn models(f: &Formula, values: &[bool]) -> bool
     requires each { length values.now ≡ f.now.variables }
     ensures { result ≡ all_true (assigned values.now) f.now.constraints }
 {
-    for c in f.constraints.as_slice() {
-        if !constraint_is_true(c, values) {
+    for i in 0..f.constraints.len() {
+        if !constraint_is_true(f.constraints.at(i), values) {
             return false;
         }
     }

@@ -1,17 +1,19 @@
 -- What a hint cites, and the ranges of cited literals.
-use Rattle.std.proofs.Common.{◌≡◌, ℕ, zero, suc, ◌+◌, ◌-◌, ◌<◌, ◌≤◌, Bool, true, false, ◌&&◌, leb, List, [], ◌∷◌, ◌++◌, map, length, get_or, take, drop, refl, sym, ap, ◌∙◌, subst, arith, Some, None}
+use Rattle.std.proofs.Common.{◌≡◌, ℕ, zero, suc, ◌+◌, ◌-◌, ◌<◌, ◌≤◌, Bool, true, false, ◌&&◌, leb, List, [], ◌∷◌, ◌++◌, map, length, get_or, take, drop, refl, sym, ap, ◌∙◌, subst, arith, Option, Some, None}
 use Rattle.std.specs.List.{All, slice_get}
-use Rattle.std.proofs.lemmas.List.Elements.{All-nil, All-cons}
+use Rattle.std.proofs.lemmas.List.Elements.{All-nil, All-cons, All-get_or}
+use Rattle.std.proofs.lemmas.Option.{slice_get_within, get_or_from_slice_get}
 use Rattle.std.proofs.lemmas.Bool.Decides.{nat_tests}
 use Rattle.zi_formula.specs.declared.formula.Lit.{Lit}
 use Rattle.zi_formula.specs.declared.formula.Constraint.{Constraint}
-use Rattle.zi_formula.specs.declared.formula.Constraint.TheVariants.{Clause}
+use Rattle.zi_formula.specs.declared.formula.Constraint.TheVariants.{Clause, AtMostOne}
 use Rattle.zi_proof.specs.declared.proof.Lemma.{Lemma}
 use Rattle.zi_proof.specs.Accepted.{citable, cited, lemma_clause, lits_within, lemmas_within, lemma_accepted, walk_from, assume, follows_after, follows, proves}
-use Rattle.zi_formula.specs.Form.{has_all}
+use Rattle.zi_formula.specs.Form.{has_all, ConstraintWithin}
 use Rattle.zi_formula.specs.Truth.{opposite}
 use Rattle.zi_formula.specs.declared.formula.Formula.{Formula}
 use Rattle.zi_proof.specs.Known.{nothing}
+use Rattle.zi_proof.specs.Taken.{Held}
 use Rattle.std.proofs.lemmas.List.{take_more, at_drop_more}
 
 pub and_left : (a b : Bool) → a && b ≡ true → a ≡ true
@@ -83,13 +85,33 @@ lemma_lits n [] k d h q = absurd (omega arith)
 lemma_lits n (m ∷ ms) zero d h q = and_left (lits_within n m.lits) (lemmas_within n ms) h
 lemma_lits n (m ∷ ms) (suc k) d h q = lemma_lits n ms k d (and_right (lits_within n m.lits) (lemmas_within n ms) h) (omega arith)
 
-pub lemma_cited : (cs xs : List Constraint) (ms : List Lemma) (hint : ℕ) (d : Lemma) → xs ≡ cs → 0 < hint → length xs ≤ hint - 1 → hint - 1 - length xs < length ms → cited (citable cs ms) hint ≡ Some (Clause (get_or ms (hint - 1 - length xs) d).lits)
-lemma_cited cs xs ms hint d e =
-    subst (λ ys. 0 < hint → length ys ≤ hint - 1 → hint - 1 - length ys < length ms → cited (citable cs ms) hint ≡ Some (Clause (get_or ms (hint - 1 - length ys) d).lits)) (sym e) (λ z p q. cited_lemma cs ms hint (hint - 1) d refl z p q)
+pub lemma_cited : (cs : List Constraint) (ms : List Lemma) (hint n : ℕ) (d : Lemma) → n ≡ length cs → 0 < hint → n ≤ hint - 1 → hint - 1 - n < length ms → cited (citable cs ms) hint ≡ Some (Clause (get_or ms (hint - 1 - n) d).lits)
+lemma_cited cs ms hint n d e =
+    subst (λ k. 0 < hint → k ≤ hint - 1 → hint - 1 - k < length ms → cited (citable cs ms) hint ≡ Some (Clause (get_or ms (hint - 1 - k) d).lits)) (sym e) (λ z p q. cited_lemma cs ms hint (hint - 1) d refl z p q)
 
-pub none_cited : (cs xs : List Constraint) (ms : List Lemma) (hint : ℕ) → xs ≡ cs → 0 < hint → length xs ≤ hint - 1 → length ms ≤ hint - 1 - length xs → cited (citable cs ms) hint ≡ None
-none_cited cs xs ms hint e =
-    subst (λ ys. 0 < hint → length ys ≤ hint - 1 → length ms ≤ hint - 1 - length ys → cited (citable cs ms) hint ≡ None) (sym e) (λ z p q. cited_none cs ms hint (hint - 1) refl z p q)
+pub none_cited : (cs : List Constraint) (ms : List Lemma) (hint n : ℕ) → n ≡ length cs → 0 < hint → n ≤ hint - 1 → length ms ≤ hint - 1 - n → cited (citable cs ms) hint ≡ None
+none_cited cs ms hint n e =
+    subst (λ k. 0 < hint → k ≤ hint - 1 → length ms ≤ hint - 1 - k → cited (citable cs ms) hint ≡ None) (sym e) (λ z p q. cited_none cs ms hint (hint - 1) refl z p q)
+
+pub get_before : (cs ds : List Constraint) (i : ℕ) (c : Constraint) → slice_get cs i ≡ Some c → slice_get (cs ++ ds) i ≡ Some c
+get_before [] ds i c e = let z : ◌≡◌ {A = Option Constraint} None (Some c) = e in cc
+get_before (x ∷ cs) ds zero c e = e
+get_before (x ∷ cs) ds (suc i) c e = get_before cs ds i c e
+
+-- a hint that cites a constraint
+pub constraint_cited : (cs : List Constraint) (ms : List Lemma) (hint : ℕ) (c : Constraint) → 0 < hint → slice_get cs (hint - 1) ≡ Some c → cited (citable cs ms) hint ≡ Some c
+constraint_cited cs ms zero c z e = absurd (omega (arith, z))
+constraint_cited cs ms (suc h) c z e =
+    let same : suc h - 1 ≡ h = omega arith in
+    get_before cs (map lemma_clause ms) h c (ap (slice_get cs) (sym same) ∙ e)
+
+-- a constraint of a formula is over its variables
+pub within_at : (n : ℕ) (cs : List Constraint) (i : ℕ) (c : Constraint) → All (λ d. ConstraintWithin n d) cs → slice_get cs i ≡ Some c → ConstraintWithin n c
+within_at n cs i c a e = subst (ConstraintWithin n) (get_or_from_slice_get cs i c c e) (All-get_or (λ d. ConstraintWithin n d) cs i c (slice_get_within cs i c e) a)
+
+pub held_at : (n m : ℕ) (c : Constraint) → m ≡ n + 1 → ConstraintWithin n c → Held m c
+held_at n m (Clause ls) e w = λ k d l. (let p = w k d l in (p.0, omega (arith, p.1, e)))
+held_at n m (AtMostOne xs) e w = λ k d l. (let p = w k d l in omega (arith, p.1, e))
 
 pub within_opposite : (n : ℕ) (ls : List Lit) → lits_within n (map opposite ls) ≡ lits_within n ls
 within_opposite n [] = refl

@@ -1,18 +1,16 @@
 -- What a line is, by its words; which line may come next; and where lines stop being those of a proof text.
-use Rattle.std.proofs.Common.{◌≡◌, ◌≢◌, ℕ, zero, suc, ◌+◌, ◌-◌, ◌^◌, ◌<◌, ◌≤◌, Bool, true, false, List, [], ◌∷◌, ◌++◌, map, length, get_or, take, refl, sym, ap, ap₂, ◌∙◌, subst, arith, append_assoc, inl, inr, ◌⊎◌, Option, Some, None, length-append}
+use Rattle.std.proofs.Common.{◌≡◌, ◌≢◌, ℕ, suc, ◌+◌, ◌-◌, ◌<◌, List, [], ◌∷◌, ◌++◌, map, length, take, refl, sym, ap, ◌∙◌, subst, arith, append_assoc, inl, inr, ◌⊎◌, Option, Some, None, length-append}
 use Rattle.std.specs.List.{All}
-use Rattle.std.proofs.lemmas.List.{append-nil, take_all, take_more, map_push}
-use Rattle.std.proofs.lemmas.List.Elements.{All-nil, All-push}
+use Rattle.std.proofs.lemmas.List.{append-nil}
+use Rattle.std.proofs.lemmas.List.Elements.{All-nil}
 use Rattle.std.proofs.Math.Seq.{take-append_seam}
 use Rattle.zi_text.specs.Front.{BeginsRight, StopsAt, stops_before, stops_at_end}
 use Rattle.zi_proof.specs.declared.proof.Lemma.{Lemma}
 use Rattle.zi_proof.specs.declared.proof.Block.{Block}
 use Rattle.zi_proof.specs.declared.proof.Certificate.{Certificate}
-use Rattle.zi_proof.specs.declared.line.Line.{Line}
 use Rattle.zi_proof.specs.declared.line.Line.TheVariants as line
-use Rattle.zi_proof.specs.declared.fault.ProofFault.{ProofFault}
-use Rattle.zi_proof.specs.declared.fault.ProofFault.TheVariants.{Bad, Memory}
-use Rattle.zi_proof.specs.ProofText.{all_pieces, but_last, whole_lines, behind, LemmaNumbered, BlockNumbered, Numbered, lemma_words, block_words, lemma_line, block_line, header, end_line, certificate_lines, certificate_text, IsProofText, RightLines, FaultMeans}
+use Rattle.zi_proof.specs.declared.fault.ProofFault.TheVariants.{Bad}
+use Rattle.zi_proof.specs.ProofText.{all_pieces, but_last, whole_lines, behind, LemmaNumbered, BlockNumbered, lemma_words, block_words, lemma_line, block_line, header, end_line, certificate_lines, IsProofText, RightLines, FaultMeans}
 use Rattle.zi_proof.specs.Reading.{lemma_of, block_of, Says, front_lines, PartsNumbered, Next}
 use Rattle.zi_proof.proofs.NumberLaws.{lemma_told, lemma_read, block_told, block_read}
 use Rattle.zi_proof.proofs.FreeLaws.{text_of_pieces, text_of_lines, lemma_pieces, block_pieces, certificate_pieces}

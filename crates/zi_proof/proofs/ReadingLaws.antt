@@ -1,5 +1,5 @@
 -- What the reader's loops keep.
-use Rattle.std.proofs.Common.{◌≡◌, ℕ, zero, suc, ◌+◌, ◌<◌, ◌≤◌, Bool, true, false, cond, List, [], ◌∷◌, ◌++◌, refl, sym, ap, ◌∙◌, subst, append_assoc, Option, Some, None}
+use Rattle.std.proofs.Common.{◌≡◌, ℕ, true, false, cond, List, [], ◌∷◌, ◌++◌, refl, sym, ap, ◌∙◌, append_assoc, Option, Some, None}
 use Rattle.zi_formula.specs.declared.formula.Lit.{Lit}
 use Rattle.zi_proof.specs.Reading.{number_of, lit_of, is_zero, last_hint, hints_of, more_hints, lits_of, more_lits}
 

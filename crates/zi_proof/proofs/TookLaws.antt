@@ -1,12 +1,11 @@
 -- What one more line comes to.
-use Rattle.std.proofs.Common.{◌≡◌, ℕ, ◌<◌, List, [], ◌∷◌, ◌++◌, map, length, refl, sym, ap, ap₂, ◌∙◌, subst, arith, append_assoc, inl, inr, ◌⊎◌}
+use Rattle.std.proofs.Common.{◌≡◌, ℕ, List, [], ◌∷◌, ◌++◌, map, sym, ap, ◌∙◌, subst, append_assoc, inl, inr}
 use Rattle.std.proofs.lemmas.List.{append-nil, map_push}
 use Rattle.std.proofs.lemmas.List.Elements.{All-push}
 use Rattle.zi_proof.specs.declared.proof.Lemma.{Lemma}
 use Rattle.zi_proof.specs.declared.proof.Block.{Block}
-use Rattle.zi_proof.specs.declared.line.Line.{Line}
 use Rattle.zi_proof.specs.declared.line.Line.TheVariants as line
-use Rattle.zi_proof.specs.ProofText.{LemmaNumbered, BlockNumbered, lemma_line, block_line, header, end_line}
+use Rattle.zi_proof.specs.ProofText.{LemmaNumbered, BlockNumbered, lemma_line, block_line, header}
 use Rattle.zi_proof.specs.Reading.{Says, front_lines, PartsNumbered, Next}
 use Rattle.zi_proof.proofs.LineLaws.{not_block, lemma_not_end}
 

@@ -6,7 +6,7 @@ use Rattle.zi_formula.specs.Truth.{Models, lit_true, all_true}
 use Rattle.zi_proof.specs.declared.proof.Lemma.{Lemma}
 use Rattle.zi_proof.specs.declared.proof.Certificate.{Certificate}
 use Rattle.zi_proof.specs.Accepted.{follows, accepted, lemma_clause}
-use Rattle.zi_proof.specs.ProofText.{Numbered, IsProofText, certificate_text}
+use Rattle.zi_proof.specs.ProofText.{IsProofText}
 
 -- the assignment makes every literal of the list true
 abbrev pub MakesTrue : (ℕ → Bool) → List Lit → Type 0

@@ -5,7 +5,7 @@
 --   e                       the last line
 -- A literal is its variable's number, with - before it where it is negative, as in DIMACS CNF; `LIT..` and `HINT..` are zero or
 -- more items. Numbers are decimal, from 1 to 2^32 - 1, without leading zeros.
-use Rattle.std.specs.Prelude.{◌≡◌, ℕ, ◌-◌, ◌<◌, ◌≤◌, ◌^◌, Bool, cond, List, [], ◌∷◌, ◌++◌, map, codes, decimal, Result, Ok, Err}
+use Rattle.std.specs.Prelude.{◌≡◌, ℕ, ◌-◌, ◌<◌, ◌≤◌, ◌^◌, cond, List, [], ◌∷◌, ◌++◌, map, codes, decimal}
 use Rattle.std.specs.List.{All}
 use Rattle.zi_text.specs.Front.{StopsAt}
 use Rattle.zi_text.specs.Pieces.{pieces}

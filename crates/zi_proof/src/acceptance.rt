@@ -30,11 +30,11 @@ fn take_hint(f: &Formula, lemmas: &[Lemma], hint: u32, marks: &mut Marks) -> Tak
         return Taken::Fails;
     }
     let place = hint as usize - 1;
-    let constraints = f.constraints.as_slice();
-    if place < constraints.len() {
-        return take_constraint(&constraints[place], marks);
+    let count = f.constraints.len();
+    if place < count {
+        return take_constraint(f.constraints.at(place), marks);
     }
-    let place = place - constraints.len();
+    let place = place - count;
     if place < lemmas.len() {
         return take_clause(lemmas[place].lits.as_slice(), marks);
     }

@@ -4,12 +4,13 @@
 
 ghost use Rattle.std.specs.Prelude.{◌≡◌, ◌<◌, ◌≤◌, true, length};
 ghost use Rattle.std.specs.List.{All};
+ghost use Rattle.zi_formula.specs.Lent.{shows};
 ghost use Rattle.zi_proof.specs.Cells.{known_by};
 ghost use Rattle.zi_proof.specs.Known.{is_open, clause_step, group_step, by_true_ones, true_ones, deny, deny_all, step};
 ghost use Rattle.zi_proof.specs.Taken.{outcome_of, taken_as, known_after, Held, many_of, AtOne};
 
 use crate::marks::Marks;
-use zi_formula::{Constraint, Lit};
+use zi_formula::{Lent, Lit};
 
 /// What a hint came to.
 #[derive(Clone, Copy, Debug)]
@@ -148,14 +149,14 @@ pub fn take_group(variables: &[u32], marks: &mut Marks) -> Taken
 }
 
 /// Takes a constraint as a hint.
-pub fn take_constraint(c: &Constraint, marks: &mut Marks) -> Taken
-    requires { Held (length marks.old) c.now }
-    ensures kind { result ≡ taken_as (step (known_by marks.old) c.now) }
-    ensures after { known_by marks.new ≡ known_after (known_by marks.old) (step (known_by marks.old) c.now) }
+pub fn take_constraint(c: Lent<'_>, marks: &mut Marks) -> Taken
+    requires { Held (length marks.old) (shows c) }
+    ensures kind { result ≡ taken_as (step (known_by marks.old) (shows c.entry)) }
+    ensures after { known_by marks.new ≡ known_after (known_by marks.old) (step (known_by marks.old) (shows c.entry)) }
     ensures len { length marks.new ≡ length marks.old }
 {
     match c {
-        Constraint::Clause(lits) => take_clause(lits.as_slice(), marks),
-        Constraint::AtMostOne(variables) => take_group(variables.as_slice(), marks),
+        Lent::Clause(lits) => take_clause(lits, marks),
+        Lent::AtMostOne(variables) => take_group(variables, marks),
     }
 }

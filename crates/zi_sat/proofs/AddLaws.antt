@@ -1,12 +1,13 @@
 -- One constraint more.
-use Rattle.std.proofs.Common.{◌≡◌, ◌≢◌, ℕ, zero, suc, ◌<◌, ◌≤◌, ◌+◌, ◌-◌, ◌*◌, Bool, true, false, cond, List, [], ◌∷◌, ◌++◌, length, length-append, map, take, get_or, refl, sym, ap, ◌∙◌, subst, arith, Option, Some, None, ◌⊎◌, inl, inr}
+use Rattle.std.proofs.Common.{◌≡◌, ℕ, zero, suc, ◌<◌, ◌≤◌, ◌+◌, ◌-◌, ◌*◌, Bool, true, false, cond, List, [], ◌∷◌, ◌++◌, length, length-append, map, take, get_or, refl, sym, ap, ◌∙◌, subst, arith, Option, Some, None, ◌⊎◌, inl, inr}
 use Rattle.std.specs.List.{slice_get}
 use Rattle.std.proofs.lemmas.Bool.{false≢true}
 use Rattle.std.proofs.lemmas.List.{get_or_append_left, get_or_push}
+use Rattle.std.proofs.lemmas.Option.{slice_get_within, get_or_from_slice_get}
 use Rattle.zi_formula.specs.declared.formula.Lit.{Lit}
 use Rattle.zi_formula.specs.declared.formula.Constraint.{Constraint}
 use Rattle.zi_formula.specs.declared.formula.Constraint.TheVariants.{Clause, AtMostOne}
-use Rattle.zi_formula.specs.Form.{same_lit, has_lit, Once, OnceAll, ItemsOnce}
+use Rattle.zi_formula.specs.Form.{same_lit, has_lit, Once, OnceAll}
 use Rattle.zi_formula.specs.declared.formula.Formula.{Formula}
 use Rattle.zi_proof.specs.declared.proof.Lemma.{Lemma}
 use Rattle.zi_proof.specs.Accepted.{citable, lemma_clause}
@@ -19,11 +20,11 @@ use Rattle.zi_sat.proofs.MoveLaws.{citable_push}
 use Rattle.zi_sat.specs.declared.pair.Pair.{Pair}
 use Rattle.zi_sat.specs.declared.watches.Watches.{Watches as Lists}
 use Rattle.zi_sat.specs.Rows.{In, Has}
-use Rattle.zi_sat.specs.Guard.{row_of, pair_at, HeldPair, Held, Each, AllHeld, AllCalm, LastTwo, Adds, Guard, Fitting, Ready}
+use Rattle.zi_sat.specs.Guard.{row_of, pair_at, Held, AllHeld, AllCalm, Adds, Guard, Fitting, Ready}
 use Rattle.zi_sat.specs.Watching.{Watches}
 use Rattle.zi_sat.proofs.FreshStep.{lit_self}
 use Rattle.zi_sat.proofs.WatchLaws.{or_first, or_later}
-use Rattle.zi_sat.proofs.VisitLaws.{place_low, citable_length}
+use Rattle.zi_sat.proofs.VisitLaws.{citable_length}
 use Rattle.zi_sat.proofs.CalmLaws.{calm_start}
 
 pub has_at : (ls : List Lit) (i : ℕ) (d : Lit) → i < length ls → has_lit ls (get_or ls i d) ≡ true
@@ -123,16 +124,11 @@ take_all [] (suc i) h = refl
 take_all (c ∷ cs) zero h = absurd (omega arith)
 take_all (c ∷ cs) (suc i) h = ap (λ x. c ∷ x) (take_all cs i (omega arith))
 
-pub next_held : (w v : Lists) (cs xs : List Constraint) (i : ℕ) (c d : Constraint) → xs ≡ cs → i < length xs → c ≡ get_or xs i d → length w.pairs.items ≡ i → Adds w v c → AllHeld w (take i cs) → AllHeld v (take (i + 1) cs)
-next_held w v cs xs i c d e low f n a h =
-    let k : i < length cs = omega (arith, low, ap length e) in
-    let same : take i cs ++ c ∷ [] ≡ take (i + 1) cs = ap (λ x. take i cs ++ x ∷ []) (f ∙ ap (λ ys. get_or ys i d) e) ∙ sym (take_next cs i d k) in
+pub next_held : (w v : Lists) (cs : List Constraint) (i : ℕ) (c : Constraint) → slice_get cs i ≡ Some c → length w.pairs.items ≡ i → Adds w v c → AllHeld w (take i cs) → AllHeld v (take (i + 1) cs)
+next_held w v cs i c e n a h =
+    let k : i < length cs = slice_get_within cs i c e in
+    let same : take i cs ++ c ∷ [] ≡ take (i + 1) cs = ap (λ x. take i cs ++ x ∷ []) (sym (get_or_from_slice_get cs i c c e)) ∙ sym (take_next cs i c k) in
     subst (AllHeld v) same (added_held w v (take i cs) c (n ∙ sym (take_length cs i (omega (arith, k)))) a h)
-
-pub once_in : (cs : List Constraint) (i : ℕ) (d : Constraint) → OnceAll cs → i < length cs → ItemsOnce (get_or cs i d)
-once_in [] i d o h = absurd (omega arith)
-once_in (c ∷ cs) zero d o h = o.0
-once_in (c ∷ cs) (suc i) d o h = once_in cs i d o.1 (omega arith)
 
 once_both : (cs ds : List Constraint) → OnceAll cs → OnceAll ds → OnceAll (cs ++ ds)
 once_both [] ds a b = b

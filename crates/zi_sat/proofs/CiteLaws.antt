@@ -28,10 +28,10 @@ get_clause [] k d h = absurd (omega arith)
 get_clause (m ∷ ms) zero d h = refl
 get_clause (m ∷ ms) (suc k) d h = get_clause ms k d (omega arith)
 
-pub cited_at : (cs xs : List Constraint) (ms : List Lemma) (i : ℕ) (d : Lemma) → xs ≡ cs → i < length ms → cited (citable cs ms) (length xs + i + 1) ≡ Some (Clause (get_or ms i d).lits)
-cited_at cs xs ms i d e h =
-    let n : length xs + i + 1 ≡ suc (length cs + i) = omega (arith, ap length e) in
-    ap (cited (citable cs ms)) n ∙ (get_after cs (map lemma_clause ms) i ∙ get_clause ms i d h)
+pub cited_at : (cs : List Constraint) (ms : List Lemma) (i n : ℕ) (d : Lemma) → n ≡ length cs → i < length ms → cited (citable cs ms) (n + i + 1) ≡ Some (Clause (get_or ms i d).lits)
+cited_at cs ms i n d e h =
+    let same : n + i + 1 ≡ suc (length cs + i) = omega (arith, e) in
+    ap (cited (citable cs ms)) same ∙ (get_after cs (map lemma_clause ms) i ∙ get_clause ms i d h)
 
 head_ok : (n : ℕ) (l : Lit) (b : Bool) → leb 1 l.variable && (leb l.variable n && b) ≡ true → (1 ≤ l.variable) × (l.variable ≤ n)
 head_ok n l b h =
@@ -80,5 +80,5 @@ went_more all k c h es fs e g =
 pub lemma_ok_zs : (n : ℕ) (ms : List Lemma) (k : ℕ) (x : Lemma) (ys : List Lit) → lemmas_within n ms ≡ true → k < length ms → ys ≡ (get_or ms k x).lits → LitsWithin n ys
 lemma_ok_zs n ms k x ys h q f = subst (LitsWithin n) (sym f) (lemma_ok n ms k x h q)
 
-pub cited_zs : (cs xs : List Constraint) (ms : List Lemma) (i : ℕ) (x : Lemma) (ys : List Lit) → xs ≡ cs → i < length ms → ys ≡ (get_or ms i x).lits → cited (citable cs ms) (length xs + i + 1) ≡ Some (Clause ys)
-cited_zs cs xs ms i x ys e h f = cited_at cs xs ms i x e h ∙ ap (λ zs. Some (Clause zs)) (sym f)
+pub cited_zs : (cs : List Constraint) (ms : List Lemma) (i n : ℕ) (x : Lemma) (ys : List Lit) → n ≡ length cs → i < length ms → ys ≡ (get_or ms i x).lits → cited (citable cs ms) (n + i + 1) ≡ Some (Clause ys)
+cited_zs cs ms i n x ys e h f = cited_at cs ms i n x e h ∙ ap (λ zs. Some (Clause zs)) (sym f)

@@ -1,17 +1,17 @@
 -- After a conflict: the trail is cut at a decision, and nothing need be looked at again but for what the new lemma makes true.
-use Rattle.std.proofs.Common.{◌≡◌, ℕ, zero, suc, ◌<◌, ◌≤◌, ◌+◌, ◌-◌, ◌*◌, Bool, true, false, cond, if◌then◌else◌, is_ok, OnOk, Result, Ok, Err, List, [], ◌∷◌, ◌++◌, length, length-append, get_or, take, refl, sym, ap, ◌∙◌, subst, arith, append_assoc, Option, Some, None, ◌⊎◌, inl, inr}
+use Rattle.std.proofs.Common.{◌≡◌, ℕ, ◌<◌, ◌≤◌, ◌-◌, Bool, true, false, if◌then◌else◌, is_ok, OnOk, Result, Ok, Err, List, [], ◌∷◌, ◌++◌, length, length-append, get_or, take, refl, sym, ap, ◌∙◌, subst, arith, append_assoc, Option, Some, None, inl, inr}
 use Rattle.std.specs.List.{slice_get}
 use Rattle.std.proofs.lemmas.List.{append_cancel_right, get_or_append_left, get_or_push, take-append-le}
 use Rattle.zi_formula.specs.declared.formula.Lit.{Lit}
 use Rattle.zi_formula.specs.declared.formula.Formula.{Formula}
 use Rattle.zi_formula.specs.Form.{LitsWithin, has_lit}
 use Rattle.zi_formula.specs.declared.formula.Constraint.{Constraint}
-use Rattle.zi_formula.specs.declared.formula.Constraint.TheVariants.{Clause, AtMostOne}
+use Rattle.zi_formula.specs.declared.formula.Constraint.TheVariants.{Clause}
 use Rattle.zi_proof.specs.declared.proof.Lemma.{Lemma}
 use Rattle.zi_proof.specs.Known.{Known, nothing, is_true}
 use Rattle.zi_proof.specs.Accepted.{citable, cited}
 use Rattle.zi_sat.specs.declared.entry.Entry.{Entry}
-use Rattle.zi_sat.specs.declared.entry.Why.TheVariants.{Decision, Hint}
+use Rattle.zi_sat.specs.declared.entry.Why.TheVariants.{Hint}
 use Rattle.zi_sat.specs.declared.pair.Pair.{Pair}
 use Rattle.zi_sat.specs.declared.watches.Watches.{Watches as Lists}
 use Rattle.zi_sat.specs.Trail.{lits_of, known_from, OpenAll, silent}
@@ -19,8 +19,7 @@ use Rattle.zi_sat.specs.Moves.{Added, hinted}
 use Rattle.zi_sat.specs.Fresh.{Hushed}
 use Rattle.zi_sat.specs.Marking.{Inside}
 use Rattle.zi_sat.specs.Watching.{QuietAt}
-use Rattle.zi_sat.specs.Rows.{Has}
-use Rattle.zi_sat.specs.Guard.{pair_at, Held, Guard, Each, AllGuard, Calm, AllCalm, Firm, ShortSet, Fitting, Steady, Ready, LastTwo, Adds}
+use Rattle.zi_sat.specs.Guard.{pair_at, Guard, Each, AllGuard, Calm, AllCalm, Firm, ShortSet, Steady, Ready, LastTwo, Adds}
 use Rattle.zi_sat.specs.Chain.{Speaks, Cut, Spoke}
 use Rattle.zi_sat.proofs.FreshLaws.{hushed_at, last_in}
 use Rattle.zi_sat.proofs.EndLaws.{some_entry}

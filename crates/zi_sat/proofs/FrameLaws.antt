@@ -1,15 +1,11 @@
 -- A hint makes the same literals true where more is known of other variables.
-use Rattle.std.proofs.Common.{◌≡◌, ℕ, Bool, true, false, not, eqb, cond, List, [], ◌∷◌, refl, sym, ap, ◌∙◌, subst, arith, Option, Some, None, inl, inr}
+use Rattle.std.proofs.Common.{◌≡◌, ℕ, Bool, true, false, eqb, cond, refl, sym, ap, ◌∙◌, arith, Some}
 use mathlib.Core.Path.{fun_ext}
 use Rattle.std.proofs.lemmas.Bool.{false≢true}
 use Rattle.std.proofs.lemmas.Bool.Decides.{nat_tests}
 use Rattle.zi_formula.specs.declared.formula.Lit.{Lit}
-use Rattle.zi_formula.specs.declared.formula.Constraint.{Constraint}
-use Rattle.zi_formula.specs.declared.formula.Constraint.TheVariants.{Clause, AtMostOne}
-use Rattle.zi_proof.specs.Known.{Known, put, says, is_open, is_true, is_false, Outcome, Fails, Contradiction, Goes, standing, by_standing, clause_step, deny, deny_all, true_ones, by_true_ones, group_step, step}
-use Rattle.zi_proof.specs.Accepted.{step_cited}
-use Rattle.zi_sat.specs.Trail.{learn, OpenAll}
-use Rattle.zi_sat.proofs.GroupLaws.{not_x, In, denied_decided}
+use Rattle.zi_proof.specs.Known.{Known, put, is_open, deny}
+use Rattle.zi_sat.proofs.GroupLaws.{not_x}
 
 pub eqb_flip : (a b : ℕ) → eqb a b ≡ false → eqb b a ≡ false
 eqb_flip a b h = grind (arith, nat_tests)

@@ -7,7 +7,7 @@ use Rattle.std.proofs.Common.{length-append}
 use Rattle.std.proofs.Common.{append_assoc}
 use Rattle.zi_sat.proofs.CountLaws.{eqb_self}
 use Rattle.zi_formula.specs.declared.formula.Lit.{Lit}
-use Rattle.zi_proof.specs.Known.{Known, put, says, is_open, Contradiction, Goes, deny, deny_all, true_ones, by_true_ones, group_step}
+use Rattle.zi_proof.specs.Known.{Known, put, says, is_open, Goes, deny, deny_all, true_ones, by_true_ones, group_step}
 use Rattle.zi_proof.specs.Taken.{many_of}
 use Rattle.zi_proof.specs.declared.steps.Many.{Many}
 use Rattle.zi_proof.specs.declared.steps.Many.TheVariants as many

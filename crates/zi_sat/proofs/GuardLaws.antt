@@ -1,5 +1,5 @@
 -- What a look at a constraint leaves: what it holds, and why it needn't be looked at.
-use Rattle.std.proofs.Common.{◌≡◌, ◌≢◌, ℕ, zero, suc, ◌<◌, ◌≤◌, ◌+◌, ◌-◌, ◌*◌, Bool, true, false, cond, List, [], ◌∷◌, ◌++◌, length, get_or, refl, sym, ap, ◌∙◌, subst, arith, Option, Some, None, Result, Ok, Err, IfOk, ◌⊎◌, inl, inr}
+use Rattle.std.proofs.Common.{◌≡◌, ℕ, zero, suc, ◌<◌, ◌≤◌, ◌+◌, ◌-◌, ◌*◌, Bool, true, false, cond, List, [], ◌∷◌, ◌++◌, length, get_or, refl, sym, ap, ◌∙◌, subst, arith, Option, Some, None, Result, Ok, Err, IfOk, ◌⊎◌, inl, inr}
 use Rattle.std.specs.List.{slice_get}
 use Rattle.std.proofs.lemmas.Bool.{false≢true}
 use Rattle.zi_formula.specs.declared.formula.Lit.{Lit}
@@ -75,11 +75,6 @@ makes_visited ls l k has q p o e b h t =
 
 -- the constraint at a place
 
-pub front_at : (cs ds : List Constraint) (i : ℕ) (d c : Constraint) → i < length cs → get_or cs i d ≡ c → slice_get (cs ++ ds) i ≡ Some c
-front_at [] ds i d c low e = absurd (omega arith)
-front_at (x ∷ cs) ds zero d c low e = ap (λ y. Some y) e
-front_at (x ∷ cs) ds (suc i) d c low e = front_at cs ds i d c (omega arith) e
-
 pub once_at : (all : List Constraint) (i : ℕ) (c : Constraint) → OnceAll all → slice_get all i ≡ Some c → ItemsOnce c
 once_at [] i c o e = let z : ◌≡◌ {A = Option Constraint} None (Some c) = e in cc
 once_at (x ∷ all) zero c o e = subst ItemsOnce (same_Some x c e) o.0
@@ -96,14 +91,9 @@ place_of all h i c n e = ap (cited all) (sym n) ∙ e
 pub looks_at : (all : List Constraint) (i : ℕ) (c : Constraint) (P : Constraint → Type 0) → slice_get all i ≡ Some c → P c → (d : Constraint) → slice_get all i ≡ Some d → P d
 looks_at all i c P e h d f = subst P (same_Some c d (sym e ∙ f)) h
 
-pub lemma_place : (cs xs : List Constraint) (ms : List Lemma) (i : ℕ) (x : Lemma) (ys : List Lit) → xs ≡ cs → length xs ≤ i → i < length cs + length ms → ys ≡ (get_or ms (i - length xs) x).lits → slice_get (citable cs ms) i ≡ Some (Clause ys)
-lemma_place cs xs ms i x ys e h low f =
-    let n : length xs ≡ length cs = ap length e in
-    place_of (citable cs ms) (length xs + (i - length xs) + 1) i (Clause ys) (omega (arith, n, h)) (cited_zs cs xs ms (i - length xs) x ys e (omega (arith, n, low, h)) f)
-
-pub front_place : (cs xs ds : List Constraint) (i : ℕ) (r c : Constraint) → xs ≡ cs → i < length xs → r ≡ get_or xs i r → r ≡ c → slice_get (cs ++ ds) i ≡ Some c
-front_place cs xs ds i r c e low f g =
-    front_at cs ds i r c (omega (arith, low, ap length e)) (ap (λ zs. get_or zs i r) (sym e) ∙ (sym f ∙ g))
+pub lemma_place : (cs : List Constraint) (ms : List Lemma) (i n : ℕ) (x : Lemma) (ys : List Lit) → n ≡ length cs → n ≤ i → i < length cs + length ms → ys ≡ (get_or ms (i - n) x).lits → slice_get (citable cs ms) i ≡ Some (Clause ys)
+lemma_place cs ms i n x ys e h low f =
+    place_of (citable cs ms) (n + (i - n) + 1) i (Clause ys) (omega (arith, h)) (cited_zs cs ms (i - n) n x ys e (omega (arith, e, low, h)) f)
 
 pub group_looks : (c : Constraint) (xs : List ℕ) (l : Lit) (k : Known) (has : ℕ → Type 0) (p : Option Pair) (r : Result Bool Memory) → c ≡ AtMostOne xs → Exhausted k c r → IfOk r (λ b. b ≡ false → has (row_of l)) → Looks c l k has p p r
 group_looks c xs l k has p (Ok true) e x h = (x, refl)

@@ -1,5 +1,5 @@
 -- Going over the trail: what was looked at stays so, and all is silent once all was.
-use Rattle.std.proofs.Common.{◌≡◌, ◌≢◌, ℕ, zero, suc, ◌<◌, ◌≤◌, ◌+◌, ◌&&◌, Bool, true, false, not, cond, eqb, List, [], ◌∷◌, ◌++◌, length, length-append, get_or, drop, take, refl, sym, ap, ◌∙◌, subst, arith, Option, Some, None, ◌⊎◌, inl, inr}
+use Rattle.std.proofs.Common.{◌≡◌, ℕ, suc, ◌<◌, ◌≤◌, ◌+◌, ◌&&◌, Bool, true, false, cond, eqb, List, [], ◌∷◌, ◌++◌, length, length-append, get_or, drop, take, refl, sym, ap, ◌∙◌, subst, arith, Option, Some, None, ◌⊎◌, inl, inr}
 use Rattle.std.specs.List.{slice_get}
 use Rattle.std.proofs.lemmas.Bool.{false≢true}
 use Rattle.std.proofs.lemmas.List.{take-append-le}
@@ -8,22 +8,21 @@ use Rattle.zi_formula.specs.declared.formula.Lit.{Lit}
 use Rattle.zi_formula.specs.declared.formula.Formula.{Formula}
 use Rattle.zi_formula.specs.declared.formula.Constraint.{Constraint}
 use Rattle.zi_formula.specs.declared.formula.Constraint.TheVariants.{Clause, AtMostOne}
-use Rattle.zi_formula.specs.Truth.{opposite}
-use Rattle.zi_formula.specs.Form.{same_lit, has_lit, OnceAll, OnceVars}
+use Rattle.zi_formula.specs.Form.{has_lit, OnceAll}
 use Rattle.zi_proof.specs.declared.proof.Lemma.{Lemma}
 use Rattle.zi_proof.specs.Accepted.{citable}
-use Rattle.zi_proof.specs.Known.{Known, nothing, put, says, is_true, is_false, Fails, Goes, standing, by_standing}
+use Rattle.zi_proof.specs.Known.{Known, nothing, put, is_true, is_false, Fails, Goes, by_standing}
 use Rattle.zi_sat.specs.declared.entry.Entry.{Entry}
 use Rattle.zi_sat.specs.declared.pair.Pair.{Pair}
 use Rattle.zi_sat.specs.declared.watches.Watches.{Watches as Lists}
-use Rattle.zi_sat.specs.Trail.{lits_of, learn, known_from, OpenAll, fails, silent, all_silent}
+use Rattle.zi_sat.specs.Trail.{lits_of, known_from, OpenAll, fails, silent, all_silent}
 use Rattle.zi_sat.specs.Moves.{Added, entries_of}
 use Rattle.zi_sat.specs.Marking.{Inside}
 use Rattle.zi_sat.specs.Rows.{In, Has}
-use Rattle.zi_sat.specs.Guard.{pair_at, HeldPair, Held, Looked, GuardPair, Guard, Each, AllGuard, AllCalm, Firm, ShortSet, Ready}
+use Rattle.zi_sat.specs.Guard.{pair_at, Held, Looked, Guard, Each, AllGuard, AllCalm, Firm, ShortSet, Ready}
 use Rattle.zi_sat.proofs.GroupLaws.{In as InGroup}
 use Rattle.zi_sat.proofs.FreshStep.{lit_self}
-use Rattle.zi_sat.proofs.FreshLaws.{put_self, false_opposite, learn_extends, open_back}
+use Rattle.zi_sat.proofs.FreshLaws.{put_self, learn_extends, open_back}
 use Rattle.zi_sat.proofs.TrailLaws.{known-append, lits-append}
 use Rattle.zi_sat.proofs.LessLaws.{says_within}
 use Rattle.zi_sat.proofs.ReachLaws.{known_next, front_inside, take_whole}

@@ -8,6 +8,7 @@ ghost use Rattle.std.specs.Prelude.{◌≡◌, ◌≢◌, ◌<◌, ◌≤◌, �
 ghost use Rattle.zi_formula.specs.declared.formula.Constraint.{Constraint as AnyConstraint};
 ghost use Rattle.zi_formula.specs.declared.formula.Lit.{Lit as AnyLit};
 ghost use Rattle.std.specs.List.{slice_get};
+ghost use Rattle.zi_formula.specs.Lent.{shows};
 ghost use Rattle.zi_formula.specs.Form.{Within, ItemsOnce, ConstraintWithin, LitsWithin, VarsWithin, Once, OnceAll};
 ghost use Rattle.zi_proof.specs.Known.{Known, Contradiction, step, put, is_false};
 ghost use Rattle.zi_proof.specs.Accepted.{citable, cited, step_cited, lemmas_within};
@@ -31,7 +32,7 @@ use crate::rows::{add, empty_rows, put_back, take_row};
 use crate::trail::Trail;
 use crate::watch::{Look, look_at};
 use std::alloc::Global;
-use zi_formula::{Constraint, Formula, Lit};
+use zi_formula::{Formula, Lent, Lit};
 use zi_proof::Lemma;
 use zi_text::Memory;
 
@@ -48,11 +49,11 @@ pub(crate) struct Watches {
 }
 
 // Takes what the constraint says, until it is silent; or tells that it is the contradiction.
-pub(crate) fn exhaust(c: &Constraint, hint: u32, t: &mut Trail) -> Result<bool, Memory>
-    requires within { ConstraintWithin t.old.variables c.now }
+pub(crate) fn exhaust(c: Lent<'_>, hint: u32, t: &mut Trail) -> Result<bool, Memory>
+    requires within { ConstraintWithin t.old.variables (shows c) }
     ensures variables { t.new.variables ≡ t.old.variables }
-    ensures added { (all : List AnyConstraint) → cited all hint ≡ Some c.now → Added all t.old.entries t.new.entries }
-    ensures end { Exhausted (known_from t.new.entries) c.now result }
+    ensures added { (all : List AnyConstraint) → cited all hint ≡ Some (shows c.entry) → Added all t.old.entries t.new.entries }
+    ensures end { Exhausted (known_from t.new.entries) (shows c.entry) result }
 {
     t.are_new();
     while !is_silent(c, t) {
@@ -120,21 +121,21 @@ fn visit_clause(
 // Looks at a group where the literal became false.
 fn visit_group(
     rows: &mut Vec<Vec<u32>>,
-    c: &Constraint,
+    c: Lent<'_>,
     i: u32,
     l: Lit,
     t: &mut Trail,
 ) -> Result<bool, Memory>
-    requires within { ConstraintWithin t.old.variables c.now }
+    requires within { ConstraintWithin t.old.variables (shows c) }
     requires few { i + 1 < 2 ^ 32 }
     requires rows { t.old.variables * 2 + 2 ≤ length rows.old.items }
     requires high { l.variable ≤ t.old.variables }
     ensures variables { t.new.variables ≡ t.old.variables }
     ensures len { length rows.new.items ≡ length rows.old.items }
     ensures grows { (q m : ℕ) → Has rows.old.items q m → Has rows.new.items q m }
-    ensures added { (all : List AnyConstraint) → cited all (i + 1) ≡ Some c.now → Added all t.old.entries t.new.entries }
+    ensures added { (all : List AnyConstraint) → cited all (i + 1) ≡ Some (shows c.entry) → Added all t.old.entries t.new.entries }
     ensures has { IfOk result (λ b. b ≡ false → Has rows.new.items (row_of l) i) }
-    ensures end { Exhausted (known_from t.new.entries) c.now result }
+    ensures end { Exhausted (known_from t.new.entries) (shows c.entry) result }
 {
     if exhaust(c, i + 1, t)? {
         return Ok(true);
@@ -171,16 +172,16 @@ fn visit_one(
     ensures added { Added (citable f.now.constraints lemmas.now) t.old.entries t.new.entries }
     ensures looks { (c : AnyConstraint) → slice_get (citable f.now.constraints lemmas.now) i ≡ Some c → Looks c l (known_from t.new.entries) (λ r. Has rows.new.items r i) (pair_at pairs.old.items i) (pair_at pairs.new.items i) result }
 {
-    let constraints = f.constraints.as_slice();
+    let count = f.constraints.len();
     let place = i as usize;
-    if place >= constraints.len() {
-        let lits = lemmas[place - constraints.len()].lits.as_slice();
+    if place >= count {
+        let lits = lemmas[place - count].lits.as_slice();
         return visit_clause(rows, pairs, lits, i, l, t);
     }
-    let c = &constraints[place];
+    let c = f.constraints.at(place);
     match c {
-        Constraint::Clause(lits) => visit_clause(rows, pairs, lits.as_slice(), i, l, t),
-        Constraint::AtMostOne(_) => visit_group(rows, c, i, l, t),
+        Lent::Clause(lits) => visit_clause(rows, pairs, lits, i, l, t),
+        Lent::AtMostOne(_) => visit_group(rows, c, i, l, t),
     }
 }
 
@@ -260,13 +261,13 @@ fn exhaust_one(f: &Formula, lemmas: &[Lemma], i: u32, t: &mut Trail) -> Result<b
     ensures added { Added (citable f.now.constraints lemmas.now) t.old.entries t.new.entries }
     ensures end { (c : AnyConstraint) → slice_get (citable f.now.constraints lemmas.now) i ≡ Some c → Exhausted (known_from t.new.entries) c result }
 {
-    let constraints = f.constraints.as_slice();
+    let count = f.constraints.len();
     let place = i as usize;
-    if place >= constraints.len() {
-        let lits = lemmas[place - constraints.len()].lits.as_slice();
+    if place >= count {
+        let lits = lemmas[place - count].lits.as_slice();
         return exhaust_clause(lits, i + 1, t);
     }
-    exhaust(&constraints[place], i + 1, t)
+    exhaust(f.constraints.at(place), i + 1, t)
 }
 
 // Takes what the clauses with fewer than two literals say.
@@ -411,18 +412,18 @@ fn add_group(w: &mut Watches, n: u32, variables: &[u32]) -> Result<(), Memory>
 }
 
 // Adds a constraint.
-fn add_constraint(w: &mut Watches, n: u32, c: &Constraint) -> Result<(), Memory>
-    requires within { ConstraintWithin n c.now }
-    requires once { ItemsOnce c.now }
+fn add_constraint(w: &mut Watches, n: u32, c: Lent<'_>) -> Result<(), Memory>
+    requires within { ConstraintWithin n (shows c) }
+    requires once { ItemsOnce (shows c) }
     requires rows { n * 2 + 2 ≤ length w.old.rows.items }
     requires few { length w.old.pairs.items < 2 ^ 32 }
     ensures len { length w.new.rows.items ≡ length w.old.rows.items }
     ensures seen { w.new.seen ≡ w.old.seen }
-    ensures adds { OnOk result (Adds w.old w.new c.now) }
+    ensures adds { OnOk result (Adds w.old w.new (shows c.entry)) }
 {
     match c {
-        Constraint::Clause(lits) => add_clause(w, n, lits.as_slice()),
-        Constraint::AtMostOne(variables) => add_group(w, n, variables.as_slice()),
+        Lent::Clause(lits) => add_clause(w, n, lits),
+        Lent::AtMostOne(variables) => add_group(w, n, variables),
     }
 }
 
@@ -435,8 +436,8 @@ pub(crate) fn watch_all(alloc: Global, f: &Formula) -> Result<Watches, Memory>
     ensures seen { IfOk result (λ w. w.seen ≡ 0) }
 {
     let mut w = no_watches(alloc, f.variables)?;
-    for c in f.constraints.as_slice() {
-        add_constraint(&mut w, f.variables, c)?;
+    for i in 0..f.constraints.len() {
+        add_constraint(&mut w, f.variables, f.constraints.at(i))?;
     }
     Ok(w)
 }
@@ -479,8 +480,8 @@ pub(crate) fn say_last(f: &Formula, lemmas: &[Lemma], t: &mut Trail) -> Result<(
     ensures added { Added (citable f.now.constraints lemmas.now) t.old.entries t.new.entries }
     ensures spoke { OnOk result ((d : AnyLemma) → Spoke t.old.entries t.new.entries (slice_index_or lemmas.now (length lemmas.now - 1) d).lits) }
 {
-    let constraints = f.constraints.as_slice();
+    let count = f.constraints.len();
     let last = lemmas.len() - 1;
     let lits = lemmas[last].lits.as_slice();
-    say(lits, (constraints.len() + last) as u32 + 1, t)
+    say(lits, (count + last) as u32 + 1, t)
 }

@@ -3,7 +3,7 @@
 //! It decides as the tests' decider does: the first open variable, as false.
 
 use std::alloc::Global;
-use zi_formula::{Constraint, Formula, Lit};
+use zi_formula::{Formula, Lent, Lit};
 use zi_text::Memory;
 
 // What is known of each variable, by its number.
@@ -79,10 +79,10 @@ fn group_says(variables: &[u32], values: &Values) -> Says {
 
 // What the first constraint that says something says.
 fn all_say(f: &Formula, values: &Values) -> Says {
-    for c in f.constraints.as_slice() {
-        let says = match c {
-            Constraint::Clause(lits) => clause_says(lits.as_slice(), values),
-            Constraint::AtMostOne(variables) => group_says(variables.as_slice(), values),
+    for i in 0..f.constraints.len() {
+        let says = match f.constraints.at(i) {
+            Lent::Clause(lits) => clause_says(lits, values),
+            Lent::AtMostOne(variables) => group_says(variables, values),
         };
         match says {
             Says::Nothing => {}

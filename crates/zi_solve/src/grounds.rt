@@ -2,7 +2,7 @@
 //! Nothing is promised of what is found: it is offered to the check of blocks, which decides.
 
 use std::alloc::Global;
-use zi_formula::{Constraint, Formula, Lit};
+use zi_formula::{Formula, Lent, Lit};
 use zi_proof::Lemma;
 use zi_sat::{Trail, Why};
 use zi_text::{List, Memory};
@@ -128,16 +128,17 @@ impl Grounds {
             return Ok(());
         }
         let place = hint as usize - 1;
-        let constraints = by.formula.constraints.as_slice();
-        if let Some(m) = by.lemmas.get(place.saturating_sub(constraints.len())) {
-            if place >= constraints.len() {
-                return self.meet_others(own, m.lits.as_slice(), found);
-            }
+        let constraints = &by.formula.constraints;
+        let count = constraints.len();
+        if place < count {
+            return match constraints.at(place) {
+                Lent::Clause(lits) => self.meet_others(own, lits, found),
+                Lent::AtMostOne(xs) => self.meet_true(by.trail, xs, found),
+            };
         }
-        match constraints.get(place) {
+        match by.lemmas.get(place - count) {
             None => Ok(()),
-            Some(Constraint::Clause(lits)) => self.meet_others(own, lits.as_slice(), found),
-            Some(Constraint::AtMostOne(xs)) => self.meet_true(by.trail, xs.as_slice(), found),
+            Some(m) => self.meet_others(own, m.lits.as_slice(), found),
         }
     }
 

@@ -1,7 +1,3 @@
-use Rattle.std.proofs.Common.{◌≡◌, sym, ◌∙◌, subst, ap, List, ◌++◌, ◌∷◌, [], ℕ, arith, ◌+◌, length}
-use Rattle.zi_proof.specs.declared.proof.Lemma.{Lemma}
-use Rattle.zi_proof.specs.declared.proof.Block.{Block}
-use Rattle.zi_proof.specs.Reading.{Took, front_lines, PartsNumbered}
 use Rattle.zi_proof.proofs.BodyLaws.{took_more, took_end, took_bad, body_early}
 use Rattle.zi_proof.proofs.reader.read_body.Goals as goal
 

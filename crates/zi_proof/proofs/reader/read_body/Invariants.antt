@@ -1,6 +1,4 @@
-use Rattle.std.proofs.Common.{◌≡◌, ◌+◌, ◌<◌, ◌≤◌, ◌++◌, length}
-use Rattle.zi_proof.specs.ProofText.{all_pieces}
-use Rattle.zi_proof.specs.Reading.{front_lines, PartsNumbered}
+use Rattle.std.proofs.Common.{length}
 use Rattle.zi_proof.proofs.BodyLaws.{Body}
 use Rattle.zi_proof.proofs.reader.read_body.Given as goal
 

@@ -1,7 +1,5 @@
-use Rattle.std.proofs.Common.{◌≡◌, refl, sym, ◌∙◌, subst, ap, List, ◌++◌, ◌∷◌, []}
-use Rattle.zi_proof.specs.declared.proof.Lemma.{Lemma}
-use Rattle.zi_proof.specs.declared.proof.Block.{Block}
-use Rattle.zi_proof.specs.Reading.{Says, front_lines, PartsNumbered}
+use Rattle.std.proofs.Common.{refl, subst}
+use Rattle.zi_proof.specs.Reading.{Says}
 use Rattle.zi_proof.proofs.TookLaws.{lemma_took, block_took}
 use Rattle.zi_proof.proofs.reader.take_line.Goals as goal
 

@@ -1,6 +1,6 @@
-use Rattle.std.proofs.Common.{map, ◌++◌, ◌∷◌, []}
+use Rattle.std.proofs.Common.{map, ◌∷◌, []}
 use Rattle.std.specs.Fmt.{decimal}
-use Rattle.zi_proof.specs.ProofText.{behind, hint_words}
+use Rattle.zi_proof.specs.ProofText.{behind}
 use Rattle.zi_proof.proofs.WriteLaws.{put_both, puts_as, hints_end}
 use Rattle.zi_proof.proofs.writer.put_hints.Goals as goal
 

@@ -1,6 +1,6 @@
 use Rattle.std.proofs.Common.{◌≡◌, ◌++◌, map, take}
 use Rattle.std.specs.Prelude.{decimal}
-use Rattle.zi_proof.specs.ProofText.{behind, lines_text, lit_word, lemma_line, block_line}
+use Rattle.zi_proof.specs.ProofText.{behind}
 use Rattle.zi_proof.proofs.writer.put_items.Given as goal
 
 abbrev pub invariant-loop-n : goal.invariant-loop-n

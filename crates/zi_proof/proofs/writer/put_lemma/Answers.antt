@@ -1,4 +1,4 @@
-use Rattle.std.proofs.Common.{map, ◌++◌, ◌∷◌, [], sym, ◌∙◌, ap, subst, List, ℕ}
+use Rattle.std.proofs.Common.{map, ◌++◌, ◌∷◌, [], ◌∙◌, ap, subst, List, ℕ}
 use Rattle.zi_formula.specs.declared.formula.Lit.{Lit}
 use Rattle.zi_proof.specs.Writing.{Puts}
 use Rattle.zi_proof.specs.ProofText.{behind, lit_word, zero_word, hint_words, lemma_line}

@@ -1,6 +1,5 @@
 use Rattle.std.proofs.Common.{◌≡◌, ◌++◌, map, take}
-use Rattle.std.specs.Prelude.{decimal}
-use Rattle.zi_proof.specs.ProofText.{behind, lines_text, lit_word, lemma_line, block_line}
+use Rattle.zi_proof.specs.ProofText.{lines_text, lemma_line}
 use Rattle.zi_proof.proofs.writer.put_lemmas.Given as goal
 
 abbrev pub invariant-loop-m : goal.invariant-loop-m

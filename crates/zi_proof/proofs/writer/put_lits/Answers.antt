@@ -1,5 +1,4 @@
-use Rattle.std.proofs.Common.{refl, get_or, false}
-use Rattle.zi_formula.specs.declared.formula.Lit.{Lit}
+use Rattle.std.proofs.Common.{refl}
 use Rattle.zi_proof.specs.ProofText.{lit_word}
 use Rattle.zi_proof.proofs.WriteLaws.{item_more}
 use Rattle.zi_proof.proofs.writer.put_lits.Goals as goal

@@ -1,4 +1,4 @@
-use Rattle.std.proofs.Common.{map, ◌++◌, ◌∷◌, []}
+use Rattle.std.proofs.Common.{map, ◌∷◌, []}
 use Rattle.zi_proof.specs.ProofText.{behind, lit_word}
 use Rattle.zi_proof.proofs.WriteLaws.{put_both, puts_as, lits_end}
 use Rattle.zi_proof.proofs.writer.put_lits_end.Goals as goal

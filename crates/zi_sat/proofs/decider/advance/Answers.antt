@@ -1,4 +1,4 @@
-use Rattle.std.proofs.Common.{◌≡◌, ◌∙◌, sym, subst, true, ap, map, Some, [], ◌∷◌}
+use Rattle.std.proofs.Common.{◌≡◌, ◌∙◌, sym, subst, true, ap, map, Some}
 use Rattle.zi_sat.proofs.SettleLaws.{ready_decided}
 use Rattle.zi_proof.specs.Accepted.{citable, lemma_clause}
 use Rattle.zi_sat.specs.Moves.{Lawful}

@@ -1,5 +1,5 @@
-use Rattle.std.proofs.Common.{◌≡◌, ◌∙◌, ◌⊎◌, ◌+◌, ℕ, inl, inr, arith, subst, sym, drop}
-use Rattle.zi_sat.specs.Rows.{In, Has}
+use Rattle.std.proofs.Common.{◌∙◌, inl, inr, arith, subst, sym}
+use Rattle.zi_sat.specs.Rows.{Has}
 use Rattle.zi_sat.proofs.RowLaws.{in_drop, in_end}
 use Rattle.zi_sat.proofs.rows.put_back.Goals as goal
 

@@ -1,4 +1,4 @@
-use Rattle.std.proofs.Common.{rules, ◌≡◌, ◌∙◌, ◌<◌, ◌≤◌, length, ◌++◌, ◌∷◌, [], sym, ap, subst, refl, arith, None, false, get_or, ◌-◌}
+use Rattle.std.proofs.Common.{rules, ◌≡◌, length, ◌++◌, ◌∷◌, [], sym, subst, refl, arith, None, false, get_or, ◌-◌}
 use Rattle.zi_sat.specs.Guard.{row_of}
 use Rattle.zi_sat.specs.Rows.{In, Has}
 use Rattle.zi_sat.proofs.RowLaws.{in_front, in_last}

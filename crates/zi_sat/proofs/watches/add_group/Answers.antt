@@ -1,5 +1,5 @@
-use Rattle.std.proofs.Common.{◌≡◌, ◌∙◌, ◌⊎◌, inl, inr, sym, ap, subst}
-use Rattle.zi_sat.specs.Rows.{In, Has}
+use Rattle.std.proofs.Common.{◌∙◌, inl, inr, sym, subst}
+use Rattle.zi_sat.specs.Rows.{Has}
 use Rattle.zi_sat.specs.Guard.{row_of, denied}
 use Rattle.zi_sat.proofs.RowLaws.{in_drop}
 use Rattle.zi_sat.proofs.watches.add_group.Goals as goal

@@ -1,5 +1,5 @@
 use Rattle.zi_formula.specs.declared.formula.Constraint.TheVariants.{Clause}
-use Rattle.std.proofs.Common.{◌≡◌, ◌∙◌, ◌<◌, length, arith}
+use Rattle.std.proofs.Common.{◌∙◌, ◌<◌, length, arith}
 use Rattle.zi_sat.specs.Trail.{known_from}
 use Rattle.zi_sat.proofs.CiteLaws.{went_more}
 use Rattle.zi_sat.proofs.MoveLaws.{longer, added_more}

@@ -1,4 +1,4 @@
-use Rattle.std.proofs.Common.{◌-◌, ◌<◌, length, arith}
+use Rattle.std.proofs.Common.{◌-◌, length, arith}
 use Rattle.zi_proof.specs.Accepted.{citable}
 use Rattle.zi_sat.proofs.CiteLaws.{cited_zs, lemma_ok_zs}
 use Rattle.zi_sat.proofs.watches.say_last.Goals as goal
@@ -9,4 +9,4 @@ say-requires-clause-within c =
 
 pub returns-clause-added : goal.returns-clause-added
 returns-clause-added c =
-    c.say.ensures.added (citable c.args.f.now.constraints c.args.lemmas.now) (cited_zs c.args.f.now.constraints c.as_slice-constraints.result.now c.args.lemmas.now (length c.args.lemmas.now - 1) c.index-lemmas-last.result c.as_slice-lits.result.now c.as_slice-constraints.ensures (omega (arith, c.requires.some)) c.as_slice-lits.ensures)
+    c.say.ensures.added (citable c.args.f.now.constraints c.args.lemmas.now) (cited_zs c.args.f.now.constraints c.args.lemmas.now (length c.args.lemmas.now - 1) c.len-count.result c.index-lemmas-last.result c.as_slice-lits.result.now c.len-count.ensures (omega (arith, c.requires.some)) c.as_slice-lits.ensures)

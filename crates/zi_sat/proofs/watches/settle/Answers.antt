@@ -1,4 +1,4 @@
-use Rattle.std.proofs.Common.{rules, ◌≡◌, ◌∙◌, ◌<◌, ◌≤◌, ◌+◌, length, length-append, get_or, take, sym, ap, subst, refl, arith, Some, inr, true}
+use Rattle.std.proofs.Common.{◌≡◌, ◌∙◌, ◌<◌, ◌≤◌, ◌+◌, length, length-append, get_or, take, sym, ap, subst, arith, Some, inr, true}
 use Rattle.zi_formula.specs.Truth.{opposite}
 use Rattle.zi_proof.specs.Accepted.{citable}
 use Rattle.zi_proof.specs.Known.{put, is_false}

@@ -1,13 +1,12 @@
-use Rattle.std.proofs.Common.{rules, ◌≡◌, ◌≢◌, ◌∙◌, ◌<◌, ◌≤◌, ◌+◌, ℕ, length, sym, ap, subst, refl, arith, Some, not, true}
+use Rattle.std.proofs.Common.{rules, ◌≡◌, ◌∙◌, ◌<◌, ◌≤◌, ℕ, length, subst, refl, arith, Some, not, true}
 use Rattle.std.specs.List.{slice_get}
-use Rattle.zi_formula.specs.Truth.{opposite}
 use Rattle.zi_formula.specs.declared.formula.Constraint.TheVariants.{Clause}
-use Rattle.zi_proof.specs.Known.{Known, put, is_false}
+use Rattle.zi_proof.specs.Known.{is_false}
 use Rattle.zi_proof.specs.Accepted.{citable}
 use Rattle.zi_sat.specs.Trail.{known_from}
 use Rattle.zi_sat.specs.Marking.{Inside}
 use Rattle.zi_sat.specs.Rows.{In, Has}
-use Rattle.zi_sat.specs.Guard.{Held, Guard, pair_at, HasOr, AllGuard, Visited}
+use Rattle.zi_sat.specs.Guard.{pair_at, HasOr, Visited}
 use Rattle.zi_sat.proofs.LessLaws.{says_within}
 use Rattle.zi_sat.proofs.CiteLaws.{contradicts}
 use Rattle.zi_sat.proofs.GuardLaws.{cited_next}

@@ -1,11 +1,11 @@
-use Rattle.std.proofs.Common.{◌≡◌, ◌⊎◌, ℕ, length, List}
+use Rattle.std.proofs.Common.{◌≡◌, ◌⊎◌, length}
 use Rattle.zi_formula.specs.Truth.{opposite}
 use Rattle.zi_proof.specs.Known.{Known, put}
 use Rattle.zi_proof.specs.Accepted.{citable}
 use Rattle.zi_sat.specs.Trail.{known_from}
 use Rattle.zi_sat.specs.Moves.{Added}
 use Rattle.zi_sat.specs.Marking.{Inside}
-use Rattle.zi_sat.specs.Rows.{In, Has}
+use Rattle.zi_sat.specs.Rows.{In}
 use Rattle.zi_sat.specs.Guard.{Held, Guard, pair_at, Each, AllGuard, AllCalm, HasOr}
 use Rattle.zi_sat.proofs.watches.visit.Given as goal
 
