@@ -1,13 +1,13 @@
 //! What documents, elements and addresses mean.
 use crate::spelling;
 use std::alloc::Global;
+use zi_address::resolve;
 use zi_doc::{DocFault, Document, read};
 use zi_elements::Element;
-use zi_feed::{
-    Feed, FeedFault, Impl, binding_of, command_of, counts_as, counts_as_binding, dep_of,
-    digests_of, resolve,
-};
+use zi_faults::FeedFault;
+use zi_feed::{Feed, binding_of, command_of, counts_as, counts_as_binding, dep_of, digests_of};
 use zi_lines::{Sheet, halves};
+use zi_parts::Impl;
 use zi_text::{Memory, Text};
 
 /// What stands before and behind the inside of a feed's document. The start tag has 79 bytes.

@@ -1,8 +1,8 @@
 //! What is loaded of the feeds that were told.
 use crate::telling::Told;
 use std::alloc::Global;
-use zi_feed::{Command, Impl};
 use zi_lines::Sheet;
+use zi_parts::{Command, Impl};
 use zi_text::{Memory, Text};
 use zi_universe::{Candidate, Interface, LoadFault, Universe, load};
 

@@ -2,8 +2,9 @@
 //! binding, and what is absent left out.
 use std::alloc::Global;
 use zi_digest::DigestName;
-use zi_feed::{Binding, Command, Dep, Extra, Feed, Impl, Import, Method, Runner, Step, Word};
+use zi_feed::Feed;
 use zi_lines::Sheet;
+use zi_parts::{Binding, Command, Dep, Extra, Impl, Import, Method, Runner, Step, Word};
 use zi_policy::Arch;
 use zi_text::{List, Text};
 use zi_tree::RelPath;

@@ -69,15 +69,7 @@ fn number(word: &str) -> u32 {
 
 /// The stability that a word names.
 fn stability(word: &str) -> Stability {
-    match word {
-        "insecure" => Stability::Insecure,
-        "buggy" => Stability::Buggy,
-        "developer" => Stability::Developer,
-        "testing" => Stability::Testing,
-        "packaged" => Stability::Packaged,
-        "preferred" => Stability::Preferred,
-        _ => Stability::Stable,
-    }
+    Stability::named(word).unwrap_or(Stability::Stable)
 }
 
 /// How far the network that a word names is used.

@@ -8,15 +8,7 @@ use zi_text::{List, Memory, Text};
 
 /// The stability that a word names.
 pub(crate) fn stability(word: &str) -> Stability {
-    match word {
-        "insecure" => Stability::Insecure,
-        "buggy" => Stability::Buggy,
-        "developer" => Stability::Developer,
-        "testing" => Stability::Testing,
-        "packaged" => Stability::Packaged,
-        "preferred" => Stability::Preferred,
-        _ => Stability::Stable,
-    }
+    Stability::named(word).unwrap_or(Stability::Stable)
 }
 
 /// A policy without a host, which asks for nothing.

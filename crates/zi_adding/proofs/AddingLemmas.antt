@@ -8,7 +8,7 @@ use Rattle.zi_manifest.specs.Manifest.{first_bad, digest_of}
 use Rattle.zi_shelf.specs.Names.{Name}
 use Rattle.zi_shelf.specs.Shelved.{Reply, Did, Exists, Failed, Memory as NoRoom}
 use Rattle.zi_shelf.specs.Shelving.{Shelving, IsSure}
-use Rattle.zi_shelf.specs.Told.{Rose}
+use Rattle.zi_text.specs.Count.{Rose}
 use Rattle.zi_session.specs.Begun.{IsBegun}
 use Rattle.zi_session.specs.Keeping.{CountFits, KeepsShelf}
 use Rattle.zi_session.specs.Machine.{Phase, Making, Filling, Settling, Renaming, Storing, Removing, Leaving, Ended, Stopped, Stored, Present, Crowded as FullOf, Fault}

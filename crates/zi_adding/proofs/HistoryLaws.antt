@@ -7,7 +7,8 @@ use Rattle.zi_tree.specs.Dir.{Dir}
 use Rattle.zi_shelf.specs.Names.{Name}
 use Rattle.zi_shelf.specs.Shelved.{Top, Shelved}
 use Rattle.zi_shelf.specs.Shelving.{Shelving, Stays}
-use Rattle.zi_shelf.specs.Told.{Told, Rose}
+use Rattle.zi_text.specs.Count.{Rose}
+use Rattle.zi_shelf.specs.Told.{Told}
 use Rattle.zi_shelf.specs.declared.call.ShelfCall.{ShelfCall}
 use Rattle.zi_shelf.specs.declared.call.CallKind.{CallKind}
 use Rattle.zi_shelf.specs.declared.call.CallKind.TheVariants as kind

@@ -5,7 +5,8 @@ use Rattle.zi_digest.specs.Name.{spelling, algorithm_of}
 use Rattle.zi_tree.specs.Dir.{Dir}
 use Rattle.zi_manifest.specs.Manifest.{first_bad, digest_of}
 use Rattle.zi_shelf.specs.Shelving.{Shelving, Stays}
-use Rattle.zi_shelf.specs.Told.{Told, Rose}
+use Rattle.zi_text.specs.Count.{Rose}
+use Rattle.zi_shelf.specs.Told.{Told}
 use Rattle.zi_session.specs.Begun.{at_start}
 use Rattle.zi_session.specs.Standing.{Standing}
 use Rattle.zi_session.specs.Stepping.{HasGone, CallsToEnd}

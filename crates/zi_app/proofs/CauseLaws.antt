@@ -3,10 +3,10 @@ use Rattle.std.proofs.Common.{◌≡◌, ℕ, ◌⊎◌, inl, inr, List, refl, s
 use Rattle.zi_elements.specs.declared.element.Element.{Element}
 use Rattle.zi_doc.specs.Documents as documents
 use Rattle.zi_doc.specs.Laws.{IsSettled}
-use Rattle.zi_forest.specs.Forest.{element_view}
+use Rattle.zi_elements.specs.Forest.{element_view}
 use Rattle.zi_feed.specs.Feeds.{feed_fault, feed_of}
-use Rattle.zi_feed.specs.declared.fault.Fault.{Fault}
-use Rattle.zi_feed.specs.declared.fault.FeedKind.{FeedKind}
+use Rattle.zi_faults.specs.declared.fault.Fault.{Fault}
+use Rattle.zi_faults.specs.declared.fault.FeedKind.{FeedKind}
 use Rattle.zi_feed.specs.declared.feed.Feed.{Feed}
 use Rattle.zi_feed.specs.IdLaws.{AreDistinct, ids_distinct}
 use Rattle.zi_universe.specs.declared.fault.BadFeed.{BadFeed}

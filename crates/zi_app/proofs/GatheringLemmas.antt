@@ -8,7 +8,7 @@ use Rattle.std.proofs.lemmas.Option.{slice_get_read}
 use Rattle.std.proofs.lemmas.Slice.Eq.{bytes_eq-Decides}
 use Rattle.std.proofs.lemmas.List.{map-append, take_more, take-map, take_all}
 use Rattle.std.proofs.lemmas.Bool.{and_parts, and_from}
-use Rattle.zi_outside.specs.Count.{Rose}
+use Rattle.zi_text.specs.Count.{Rose}
 use Rattle.zi_outside.specs.Outside.{Asks}
 use Rattle.zi_outside.specs.Views.{Holding, Feeding, holding}
 use Rattle.zi_outside.proofs.AskingLemmas.{asks_none, asks_more, holding_asked}
@@ -25,7 +25,8 @@ use Rattle.zi_app.specs.declared.gathering.Held.{Held}
 use Rattle.zi_app.specs.declared.gathering.Part.{Part}
 use Rattle.zi_app.specs.declared.gathering.GatherFault.{GatherFault}
 use Rattle.zi_app.specs.declared.gathering.GatherFault.TheVariants.{Read, Absent, TooLong, Twice, TooLarge, Memory}
-use Rattle.zi_app.specs.Gathering.{AreParts, IsPart, part_name, names_of, is_among, are_apart, plain, file_named, PutsPart, MakesTree, part_size, size_limit, file_limit, AsksCalmly, GetsAll, Gathers, GetsSome, GetsHeld, Holds, Refuses, GetsPart, IsFirstTwice, IsTreeOf}
+use Rattle.zi_tree.specs.Limits.{size_limit}
+use Rattle.zi_app.specs.Gathering.{AreParts, IsPart, part_name, names_of, is_among, are_apart, plain, file_named, PutsPart, MakesTree, part_size, file_limit, AsksCalmly, GetsAll, Gathers, GetsSome, GetsHeld, Holds, Refuses, GetsPart, IsFirstTwice, IsTreeOf}
 use Rattle.zi_tree.specs.declared.change.TreeLimit.TheVariants.{Size, Nodes}
 
 -- one more got

@@ -4,7 +4,8 @@ use Rattle.std.proofs.lemmas.List.{map-append}
 use Rattle.std.proofs.lemmas.List.Sums.{sum-map, sum_by_push}
 use Rattle.zi_app.specs.declared.gathering.Held.{Held}
 use Rattle.zi_app.specs.declared.gathering.Part.{Part}
-use Rattle.zi_app.specs.Gathering.{Holds, names_of, part_name, part_size, size_limit}
+use Rattle.zi_tree.specs.Limits.{size_limit}
+use Rattle.zi_app.specs.Gathering.{Holds, names_of, part_name, part_size}
 
 pub holds_none : (h : Held) → h.parts ≡ [] → h.left ≡ 268435456 → h.large ≡ false → Holds [] h
 holds_none h parts left large = record {

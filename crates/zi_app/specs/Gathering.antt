@@ -1,10 +1,11 @@
 -- The files of `store add`: what is got of them, and the tree that they make.
 use Rattle.std.specs.Prelude.{◌≡◌, ℕ, ◌+◌, ◌<◌, ◌≤◌, ◌⊎◌, Bool, true, false, not, ◌&&◌, List, [], ◌∷◌, take, length, map, sum, Option, Some, None, IfSome, IsSomeAnd, IsSome, Result, Ok, Err, bytes_eq, if◌then◌else◌, slice_get, pos}
 use Rattle.std.specs.List.{list_any}
-use Rattle.zi_outside.specs.Count.{Rose}
+use Rattle.zi_text.specs.Count.{Rose}
 use Rattle.zi_outside.specs.Outside.{Asks}
 use Rattle.zi_outside.specs.Views.{Holding, Feeding, holding}
 use Rattle.zi_tree.specs.Dir.{Dir}
+use Rattle.zi_tree.specs.Limits.{nodes_limit, size_limit}
 use Rattle.zi_tree.specs.Order.{is_tree}
 use Rattle.zi_tree.specs.Paths.{items, node_in, placed}
 use Rattle.zi_tree.specs.Views.{dir}
@@ -19,16 +20,9 @@ use Rattle.zi_app.specs.declared.gathering.Part.{Part}
 use Rattle.zi_app.specs.declared.gathering.GatherFault.{GatherFault}
 use Rattle.zi_app.specs.declared.gathering.GatherFault.TheVariants.{Read, Absent, TooLong, Twice, TooLarge, Memory}
 
--- so many bytes a file may have, and so many all files together
+-- so many bytes a file may have
 abbrev pub file_limit : ℕ
 file_limit = 67108864
-
-abbrev pub size_limit : ℕ
-size_limit = 268435456
-
--- so many nodes the tree may have
-abbrev pub nodes_limit : ℕ
-nodes_limit = 100000
 
 abbrev pub part_name : Part → List ℕ
 part_name p = p.name

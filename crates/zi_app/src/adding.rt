@@ -112,7 +112,10 @@ pub fn add<F: Feeds, K: Shelf, O: Sink>(
     out: &mut O,
 ) -> Outcome
     requires { list_all is_file files ≡ true }
-    ensures { Adds name files (record { feeds = F.seen feeds.old; shelf = K.seen shelf.old; out = O.seen out.old }) (record { feeds = F.seen feeds.new; shelf = K.seen shelf.new; out = O.seen out.new }) result }
+    ensures { Adds name files
+        (record { feeds = F.seen feeds.old; shelf = K.seen shelf.old; out = O.seen out.old })
+        (record { feeds = F.seen feeds.new; shelf = K.seen shelf.new; out = O.seen out.new })
+        result }
 {
     match gather(alloc, files.as_slice(), feeds) {
         Ok(tree) => add_tree(alloc, name, tree, shelf, out),

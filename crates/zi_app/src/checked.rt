@@ -2,7 +2,7 @@
 ghost use Rattle.std.specs.Prelude.{◌≡◌, Ok, Err, IfOk};
 ghost use Rattle.zi_digest.specs.Name.{spelling};
 ghost use Rattle.zi_outside.specs.Views.{Feeding};
-ghost use Rattle.zi_shelf.specs.Told.{Rose};
+ghost use Rattle.zi_text.specs.Count.{Rose};
 ghost use Rattle.zi_store.specs.Keeping.{Keeps, is_reading};
 ghost use Rattle.zi_store.specs.declared.verdicts.Verdict.TheVariants.{Damaged};
 ghost use Rattle.zi_store.specs.Verdicts.{Verifies};
@@ -150,7 +150,10 @@ pub fn verify_tree<K: Shelf, O: Sink>(
     shelf: &mut K,
     out: &mut O,
 ) -> Outcome
-    ensures { (feeds : Feeding) → VerifiesTree name (record { feeds = feeds; shelf = K.seen shelf.old; out = O.seen out.old }) (record { feeds = feeds; shelf = K.seen shelf.new; out = O.seen out.new }) result }
+    ensures { (feeds : Feeding) → VerifiesTree name
+        (record { feeds = feeds; shelf = K.seen shelf.old; out = O.seen out.old })
+        (record { feeds = feeds; shelf = K.seen shelf.new; out = O.seen out.new })
+        result }
 {
     let Ok(top) = name.text(alloc) else {
         return Outcome::Memory;

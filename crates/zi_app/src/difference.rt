@@ -2,7 +2,7 @@
 ghost use Rattle.std.specs.Prelude.{◌≡◌, ◌∷◌, [], List, ℕ, Err, Some, IfOk, MatchOption};
 ghost use Rattle.zi_manifest.specs.Manifest.{own_name};
 ghost use Rattle.zi_manifest.specs.Listing.{IsManifest};
-ghost use Rattle.zi_shelf.specs.Told.{Rose};
+ghost use Rattle.zi_text.specs.Count.{Rose};
 ghost use Rattle.zi_store.specs.Keeping.{Keeps, is_reading};
 ghost use Rattle.zi_world.specs.Shelves.{Held};
 ghost use Rattle.zi_app.specs.StoreVerify.{HasOwnManifest, HasDigest, HasComputed, Compares, DiffersBy};

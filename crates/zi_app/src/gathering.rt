@@ -8,17 +8,11 @@ ghost use Rattle.zi_app.specs.declared.gathering.Part.{Part as APart};
 use std::alloc::Global;
 use zi_outside::{Feeds, FeedsFault, Got};
 use zi_text::{Bytes, List, Memory, Text};
-use zi_tree::{InsertFault, RelPath, Tree, TreeLimit, TreeNode};
+use zi_tree::{InsertFault, NODES_LIMIT, RelPath, SIZE_LIMIT, Tree, TreeLimit, TreeNode};
 use zi_words::last_part;
 
 /// How many bytes a file may have: 64 MiB.
 pub(crate) const FILE_LIMIT: u64 = 67_108_864;
-
-/// How many bytes all files may have together: 256 MiB.
-pub(crate) const SIZE_LIMIT: u64 = 268_435_456;
-
-/// How many nodes the tree may have.
-pub(crate) const NODES_LIMIT: u64 = 100_000;
 
 /// A file as it goes into the tree: its name there, and its bytes.
 #[derive(Debug, Drop)]

@@ -53,7 +53,10 @@ pub fn manifest<K: Shelf, O: Sink>(
     shelf: &mut K,
     out: &mut O,
 ) -> Outcome
-    ensures { (feeds : Feeding) → Manifests algorithm name (record { feeds = feeds; shelf = K.seen shelf.old; out = O.seen out.old }) (record { feeds = feeds; shelf = K.seen shelf.new; out = O.seen out.new }) result }
+    ensures { (feeds : Feeding) → Manifests algorithm name
+        (record { feeds = feeds; shelf = K.seen shelf.old; out = O.seen out.old })
+        (record { feeds = feeds; shelf = K.seen shelf.new; out = O.seen out.new })
+        result }
 {
     match manifest_of(alloc, name.as_str(), algorithm, shelf) {
         Ok(ManifestRead::Read(text)) => put_digested(alloc, algorithm, text.into_vec(), out),

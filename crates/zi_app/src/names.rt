@@ -46,7 +46,10 @@ fn put_names<O: Sink>(alloc: Global, names: &[DigestName], out: &mut O) -> Outco
 
 /// Writes the digest names in the store, in byte order, each on a line.
 pub fn list<K: Shelf, O: Sink>(alloc: Global, shelf: &mut K, out: &mut O) -> Outcome
-    ensures { (feeds : Feeding) → Lists (record { feeds = feeds; shelf = K.seen shelf.old; out = O.seen out.old }) (record { feeds = feeds; shelf = K.seen shelf.new; out = O.seen out.new }) result }
+    ensures { (feeds : Feeding) → Lists
+        (record { feeds = feeds; shelf = K.seen shelf.old; out = O.seen out.old })
+        (record { feeds = feeds; shelf = K.seen shelf.new; out = O.seen out.new })
+        result }
 {
     match stored_names(alloc, shelf) {
         Ok(names) => put_names(alloc, names.as_slice(), out),

@@ -41,7 +41,10 @@ pub fn run<F: Feeds, K: Shelf, W: Web, P: Spawner, O: Sink, E: Sink>(
     out: &mut O,
     err: &mut E,
 ) -> Outcome
-    ensures { Runs words.now vars.now (record { feeds = F.seen feeds.old; shelf = K.seen shelf.old; web = W.seen web.old; spawner = P.seen spawner.old; out = O.seen out.old }) (record { feeds = F.seen feeds.new; shelf = K.seen shelf.new; web = W.seen web.new; spawner = P.seen spawner.new; out = O.seen out.new }) (E.seen err.old) (E.seen err.new) result }
+    ensures { Runs words.now vars.now
+        (record { feeds = F.seen feeds.old; shelf = K.seen shelf.old; web = W.seen web.old; spawner = P.seen spawner.old; out = O.seen out.old })
+        (record { feeds = F.seen feeds.new; shelf = K.seen shelf.new; web = W.seen web.new; spawner = P.seen spawner.new; out = O.seen out.new })
+        (E.seen err.old) (E.seen err.new) result }
 {
     let outcome = work(alloc, words, vars, feeds, shelf, web, spawner, out);
     told(outcome, err)
@@ -69,7 +72,10 @@ fn work<F: Feeds, K: Shelf, W: Web, P: Spawner, O: Sink>(
     spawner: &mut P,
     out: &mut O,
 ) -> Outcome
-    ensures { Works words.now vars.now (record { feeds = F.seen feeds.old; shelf = K.seen shelf.old; web = W.seen web.old; spawner = P.seen spawner.old; out = O.seen out.old }) (record { feeds = F.seen feeds.new; shelf = K.seen shelf.new; web = W.seen web.new; spawner = P.seen spawner.new; out = O.seen out.new }) result }
+    ensures { Works words.now vars.now
+        (record { feeds = F.seen feeds.old; shelf = K.seen shelf.old; web = W.seen web.old; spawner = P.seen spawner.old; out = O.seen out.old })
+        (record { feeds = F.seen feeds.new; shelf = K.seen shelf.new; web = W.seen web.new; spawner = P.seen spawner.new; out = O.seen out.new })
+        result }
 {
     match Request::read(alloc, words) {
         Ok(request) => answer(alloc, request, vars, feeds, shelf, web, spawner, out),
@@ -100,7 +106,10 @@ fn answer<F: Feeds, K: Shelf, W: Web, P: Spawner, O: Sink>(
     out: &mut O,
 ) -> Outcome
     requires { IsInForm request }
-    ensures { Does request vars.now (record { feeds = F.seen feeds.old; shelf = K.seen shelf.old; web = W.seen web.old; spawner = P.seen spawner.old; out = O.seen out.old }) (record { feeds = F.seen feeds.new; shelf = K.seen shelf.new; web = W.seen web.new; spawner = P.seen spawner.new; out = O.seen out.new }) result }
+    ensures { Does request vars.now
+        (record { feeds = F.seen feeds.old; shelf = K.seen shelf.old; web = W.seen web.old; spawner = P.seen spawner.old; out = O.seen out.old })
+        (record { feeds = F.seen feeds.new; shelf = K.seen shelf.new; web = W.seen web.new; spawner = P.seen spawner.new; out = O.seen out.new })
+        result }
 {
     match request {
         Request::Select { ask, proof } => select(alloc, ask, proof, feeds, shelf, out),

@@ -4,7 +4,7 @@ use Rattle.std.specs.Option.{option_or}
 use Rattle.std.proofs.lemmas.List.{take_more}
 use Rattle.std.proofs.lemmas.List.Sums.{take_while-cons}
 use Rattle.zi_outside.specs.declared.var.Var.{Var}
-use Rattle.zi_feed.specs.declared.feed.Binding.{Binding}
+use Rattle.zi_parts.specs.declared.types.Binding.{Binding}
 use Rattle.zi_bind.specs.Bound.{bound, with_binding, first_fault, fault_of, can_be_applied, before_fault}
 use Rattle.zi_bind.specs.declared.fault.ApplyFault.{ApplyFault}
 use Rattle.zi_bind.specs.declared.fault.ApplyFault.TheVariants as fault

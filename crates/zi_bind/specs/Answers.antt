@@ -1,8 +1,8 @@
 -- What the calls answer.
 use Rattle.std.specs.Prelude.{◌≡◌, ℕ, ◌-◌, Bool, true, false, List, [], ◌∷◌, ◌++◌, take, Option, Some, None, Result, Ok, Err}
 use Rattle.zi_outside.specs.declared.var.Var.{Var}
-use Rattle.zi_feed.specs.declared.feed.Binding.{Binding}
-use Rattle.zi_feed.specs.declared.feed.Extra.{Extra}
+use Rattle.zi_parts.specs.declared.types.Binding.{Binding}
+use Rattle.zi_parts.specs.declared.types.Extra.{Extra}
 use Rattle.zi_bind.specs.Bound.{bound, with_binding, first_fault, before_fault, fault_of, fault_of_extra, extra_text}
 use Rattle.zi_bind.specs.Expansion.{Values, referred}
 use Rattle.zi_bind.specs.declared.fault.ApplyFault.{ApplyFault}

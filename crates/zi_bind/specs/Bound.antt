@@ -4,12 +4,12 @@ use Rattle.std.specs.Option.{option_or}
 use Rattle.zi_tree.specs.Parts.{parts_of}
 use Rattle.zi_outside.specs.Vars.{value_of, with_var}
 use Rattle.zi_outside.specs.declared.var.Var.{Var}
-use Rattle.zi_feed.specs.declared.feed.Binding.{Binding}
-use Rattle.zi_feed.specs.declared.feed.Binding.TheVariants.{Env, Unbuilt}
-use Rattle.zi_feed.specs.declared.feed.Extra.{Extra}
-use Rattle.zi_feed.specs.declared.feed.Extra.TheVariants.{Insert, Value}
-use Rattle.zi_feed.specs.declared.feed.Mode.{Mode}
-use Rattle.zi_feed.specs.declared.feed.Mode.TheVariants.{Prepend, Append, Replace}
+use Rattle.zi_parts.specs.declared.types.Binding.{Binding}
+use Rattle.zi_parts.specs.declared.types.Binding.TheVariants.{Env, Unbuilt}
+use Rattle.zi_parts.specs.declared.types.Extra.{Extra}
+use Rattle.zi_parts.specs.declared.types.Extra.TheVariants.{Insert, Value}
+use Rattle.zi_parts.specs.declared.types.Mode.{Mode}
+use Rattle.zi_parts.specs.declared.types.Mode.TheVariants.{Prepend, Append, Replace}
 use Rattle.zi_bind.specs.declared.fault.ApplyFault.{ApplyFault}
 use Rattle.zi_bind.specs.declared.fault.ApplyFault.TheVariants as fault
 

@@ -2,8 +2,8 @@
 use Rattle.std.specs.Prelude.{ℕ, zero, suc, Bool, false, ◌&&◌, ◌||◌, ◌+◌, ◌-◌, ◌==◌, List, [], ◌∷◌, ◌++◌, length, take, drop, Option, Some, None, Result, Ok, Err, codes, bytes_eq, nat_eq, if◌then◌else◌}
 use Rattle.std.specs.List.{list_all, list_any, slice_split, prefix_len, before_first, after_first, onto_first, starts_with}
 use Rattle.std.specs.Char.{is_ascii_alphabetic, is_ascii_alphanumeric}
-use Rattle.zi_feed.specs.declared.feed.Word.{Word}
-use Rattle.zi_feed.specs.declared.feed.Word.TheVariants.{Arg, ForEach}
+use Rattle.zi_parts.specs.declared.types.Word.{Word}
+use Rattle.zi_parts.specs.declared.types.Word.TheVariants.{Arg, ForEach}
 use Rattle.zi_bind.specs.declared.fault.BindFault.{BindFault}
 use Rattle.zi_bind.specs.declared.fault.BindFault.TheVariants.{Unset, BadDollar}
 

@@ -1,14 +1,14 @@
 //! Bindings are applied to variables.
 ghost use Rattle.std.specs.Prelude.{◌≡◌, ◌++◌, IfOk, option_copied};
 ghost use Rattle.std.specs.Option.{option_or};
-ghost use Rattle.zi_feed.specs.declared.feed.Extra.TheVariants.{Insert};
+ghost use Rattle.zi_parts.specs.declared.types.Extra.TheVariants.{Insert};
 ghost use Rattle.zi_bind.specs.Bound.{standard_value, is_folder_itself, extra_text, old_value, new_value, with_binding, fault_of_extra};
 ghost use Rattle.zi_bind.specs.Answers.{Applies, AppliesOne, ExtraIs};
 
 use crate::ApplyFault;
 use std::alloc::Global;
-use zi_feed::{Binding, Extra, Mode};
 use zi_outside::Vars;
+use zi_parts::{Binding, Extra, Mode};
 use zi_text::{Memory, Text};
 use zi_tree::RelPath;
 

@@ -7,8 +7,8 @@ ghost use Rattle.zi_bind.specs.Answers.{Answers, Adds, PutsPiece};
 
 use crate::BindFault;
 use std::alloc::{AllocError, Global};
-use zi_feed::Word;
 use zi_outside::Vars;
+use zi_parts::Word;
 use zi_text::{List, Memory, Text};
 
 // Whether a name goes on with this byte.

@@ -1,7 +1,7 @@
 -- What a command adds, and clauses of candidates, each of which stands once.
 use Rattle.std.proofs.Common.{◌≡◌, ℕ, suc, ◌==◌, ◌<◌, Bool, true, false, cond, ◌&&◌, List, [], ◌∷◌, ◌++◌, length, map, refl, sym, ap, ◌∙◌, subst, arith, Option, Some, None, append_assoc, ne_eqb}
 use Rattle.std.specs.Prelude.{slice_get}
-use Rattle.zi_feed.specs.declared.feed.Dep.{Dep}
+use Rattle.zi_parts.specs.declared.types.Dep.{Dep}
 use Rattle.zi_choice.specs.Choice.{needs_of, with_runner}
 use Rattle.zi_formula.specs.declared.formula.Lit.{Lit}
 use Rattle.std.proofs.lemmas.List.{append-nil}
@@ -13,8 +13,8 @@ use Rattle.zi_choice.specs.Vars.{Var, Cand, Cmd, candidates_of}
 use Rattle.zi_build.specs.Clauses.{Rule, constraint_of, each, yes, no, without, once, clause, lit_of, need, needs, at_target, keep, admitted_one, is_admitted, of_command, root_one}
 use Rattle.zi_build.specs.There.{Listed}
 use Rattle.zi_build.specs.Writing.{Puts, Adds}
-use Rattle.zi_feed.specs.declared.feed.Command.{Command}
-use Rattle.zi_feed.specs.declared.feed.Runner.{Runner}
+use Rattle.zi_parts.specs.declared.types.Command.{Command}
+use Rattle.zi_parts.specs.declared.types.Runner.{Runner}
 use Rattle.zi_build.proofs.WriteLaws.{adds_both, adds_as, puts_as, item_at, no_yes, without_app}
 
 -- what a command needs

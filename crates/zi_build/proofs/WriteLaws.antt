@@ -3,7 +3,7 @@ use Rattle.std.proofs.Common.{◌≡◌, ℕ, zero, suc, ◌+◌, ◌-◌, ◌<�
 use Rattle.std.specs.Prelude.{slice_get, option_and_then, nat_lt}
 use Rattle.std.proofs.lemmas.Bool.{false≢true, cases_lt, lt-ltb}
 use Rattle.std.proofs.lemmas.Option.{slice_get-get_or}
-use Rattle.zi_feed.specs.declared.feed.Dep.{Dep}
+use Rattle.zi_parts.specs.declared.types.Dep.{Dep}
 use Rattle.zi_universe.specs.Whole.{IsWhole}
 use Rattle.zi_choice.specs.Choice.{number, command_place, candidate_at}
 use Rattle.zi_formula.specs.declared.formula.Lit.{Lit}
@@ -29,15 +29,16 @@ pub literals_app : (cs ds : List Constraint) → literals (cs ++ ds) ≡ literal
 literals_app [] ds = omega arith
 literals_app (c ∷ cs) ds = let h = literals_app cs ds in omega (arith, h)
 
--- one constraint more
-pub put_past : (b : Bool) (v : Writer) (c : Constraint) → 8000000 < v.size → Puts b v (c ∷ []) v
-put_past b v c l cs h =
-    let e = literals_app cs (c ∷ []) in
+-- nothing comes behind those that are too many
+pub put_past : (b : Bool) (v : Writer) (ds : List Constraint) → 8000000 < v.size → Puts b v ds v
+put_past b v ds l cs h =
+    let e = literals_app cs ds in
     record {
       few = λ f. absurd (omega (arith, l, f));
       many = λ m. let k = h.many m in omega (arith, e, k);
     }
 
+-- one constraint more
 pub put_over : (b : Bool) (v w : Writer) (c : Constraint) → v.size ≤ 8000000 → 8000000 - v.size < size_of c → w.size ≡ 8000001 → Puts b v (c ∷ []) w
 put_over b v w c l m e cs h =
     let a = literals_app cs (c ∷ []) in

@@ -11,9 +11,9 @@ ghost use Rattle.zi_build.specs.There.{Listed};
 
 use crate::variables::Variable;
 use crate::writing::{Plan, Writer, is_full, lit, number, put, put_clause, put_two};
-use zi_feed::{Command, Dep, DepKind};
 use zi_formula::{Lent, Lit};
 use zi_inherited::Inherited;
+use zi_parts::{Command, Dep, DepKind};
 use zi_policy::Width;
 use zi_text::{Memory, Text};
 use zi_universe::{Candidate, Interface, Requirement};
@@ -434,12 +434,15 @@ fn add_inherited(
     Ok(())
 }
 
-// What a candidate needs.
+// What a candidate needs. Behind the limit it takes one step.
 fn add_candidate(plan: &Plan, i: u32, c: u32, k: &Candidate, w: &mut Writer) -> Result<(), Memory>
     requires plan { IsPlan plan.now }
     requires there { slice_get (candidates_of (plan_of plan.now) i) c ≡ Some k.now }
     ensures { OnOk result (Adds plan.now.keeps (plan_of plan.now) w.old (of_candidate (plan_of plan.now) i c k.now) w.new) }
 {
+    if is_full(w) {
+        return Ok(());
+    }
     add_width(plan, i, c, group(k), w)?;
     add_inherited(plan, Variable::Choosing(i, c), &k.imp.deps, w)?;
     add_commands(plan, i, c, k, w)?;

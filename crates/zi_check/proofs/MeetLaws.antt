@@ -12,10 +12,10 @@ use Rattle.std.proofs.lemmas.Option.{slice_get_within, get_or_from_slice_get}
 use Rattle.std.proofs.lemmas.List.Elements.{All-head, All-tail, All-nil, All-cons, All-push}
 use Rattle.zi_version.specs.Range.{admits}
 use Rattle.zi_policy.specs.declared.types.Width.{Width}
-use Rattle.zi_feed.specs.declared.feed.Dep.{Dep}
-use Rattle.zi_feed.specs.declared.feed.Runner.{Runner}
-use Rattle.zi_feed.specs.declared.feed.Command.{Command}
-use Rattle.zi_feed.specs.declared.feed.DepKind.TheVariants.{Essential}
+use Rattle.zi_parts.specs.declared.types.Dep.{Dep}
+use Rattle.zi_parts.specs.declared.types.Runner.{Runner}
+use Rattle.zi_parts.specs.declared.types.Command.{Command}
+use Rattle.zi_parts.specs.declared.types.DepKind.TheVariants.{Essential}
 use Rattle.zi_universe.specs.declared.types.Candidate.{Candidate}
 use Rattle.zi_universe.specs.declared.types.Interface.{Interface}
 use Rattle.zi_universe.specs.Candidates.{asks}

@@ -9,8 +9,8 @@ ghost use Rattle.zi_choice.specs.Traces.{as_use};
 ghost use Rattle.zi_check.specs.Parts.{universe_of, picks_of, IsEssential, IsUseMet, IsCandidateMet, IsOf, SomeAre};
 
 use zi_choice::{Names, Used};
-use zi_feed::{Command, Dep, DepKind};
 use zi_inherited::Inherited;
+use zi_parts::{Command, Dep, DepKind};
 use zi_policy::Width;
 use zi_text::Text;
 use zi_universe::{Candidate, Requirement};

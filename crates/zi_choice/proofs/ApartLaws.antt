@@ -3,7 +3,7 @@ use Rattle.std.proofs.Common.{◌≡◌, ◌≢◌, ℕ, zero, suc, ◌==◌, �
 use Rattle.std.specs.Prelude.{IsSome, option_and_then, slice_index_or, length}
 use Rattle.std.specs.List.{list_any}
 use Rattle.std.proofs.lemmas.Bool.{false≢true}
-use Rattle.zi_feed.specs.declared.feed.Dep.{Dep}
+use Rattle.zi_parts.specs.declared.types.Dep.{Dep}
 use Rattle.zi_universe.specs.declared.types.Requirement.{Requirement}
 use Rattle.zi_universe.specs.declared.types.Interface.{Interface}
 use Rattle.zi_choice.specs.Choice.{Choice, pick, chosen, candidate_at, command_of, command_at, deps_of, needs_of}

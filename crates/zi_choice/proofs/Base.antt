@@ -4,7 +4,7 @@ use Rattle.std.specs.Prelude.{slice_get, All, IsSome, IfSome, option_and_then, f
 use Rattle.std.specs.List.{position_from, list_any}
 use Rattle.std.proofs.lemmas.Bool.{false≢true, or_left, or_right}
 use Rattle.std.proofs.lemmas.Option.{slice_get_within, slice_get-get_or, get_or_from_slice_get}
-use Rattle.zi_feed.specs.declared.feed.Command.{Command}
+use Rattle.zi_parts.specs.declared.types.Command.{Command}
 use Rattle.zi_universe.specs.declared.types.Candidate.{Candidate}
 use Rattle.zi_universe.specs.declared.types.Interface.{Interface}
 use Rattle.zi_choice.specs.Choice.{Choice, pick, candidate_at, chosen, command_of, command_place}

@@ -8,9 +8,9 @@ use Rattle.std.proofs.lemmas.List.Elements.{All-head, All-tail, All-nil, All-con
 use Rattle.zi_version.specs.Range.{admits}
 use Rattle.zi_policy.specs.declared.types.Width.{Width}
 use Rattle.zi_policy.specs.declared.types.Width.TheVariants.{Any, Bits32, Bits64}
-use Rattle.zi_feed.specs.declared.feed.Dep.{Dep}
-use Rattle.zi_feed.specs.declared.feed.DepKind.{DepKind}
-use Rattle.zi_feed.specs.declared.feed.DepKind.TheVariants.{Essential, Recommended, Restricts}
+use Rattle.zi_parts.specs.declared.types.Dep.{Dep}
+use Rattle.zi_parts.specs.declared.types.DepKind.{DepKind}
+use Rattle.zi_parts.specs.declared.types.DepKind.TheVariants.{Essential, Recommended, Restricts}
 use Rattle.zi_universe.specs.declared.types.Requirement.{Requirement}
 use Rattle.zi_universe.specs.declared.types.Candidate.{Candidate}
 use Rattle.zi_universe.specs.declared.types.Interface.{Interface}

@@ -4,8 +4,8 @@ use Rattle.std.proofs.Common.{◌≡◌, ℕ, zero, suc, ◌==◌, ◌<◌, ◌�
 use Rattle.std.specs.Prelude.{bytes_eq, find, option_and_then}
 use Rattle.std.specs.Cmp.Lexicographic.{bytes_decides}
 use Rattle.std.proofs.lemmas.Bool.{and_from}
-use Rattle.zi_feed.specs.declared.feed.Command.{Command}
-use Rattle.zi_feed.specs.declared.feed.Dep.{Dep}
+use Rattle.zi_parts.specs.declared.types.Command.{Command}
+use Rattle.zi_parts.specs.declared.types.Dep.{Dep}
 use Rattle.zi_universe.specs.declared.types.Candidate.{Candidate}
 use Rattle.zi_universe.specs.declared.types.Interface.{Interface}
 use Rattle.zi_choice.specs.Choice.{Choice, pick, chosen, candidate_at, command_of, command_at, deps_of, needs_of}

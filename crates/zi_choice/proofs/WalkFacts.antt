@@ -5,8 +5,8 @@ use Rattle.std.specs.Prelude.{bytes_eq, slice_get, IsSome}
 use Rattle.std.proofs.lemmas.Option.{slice_get_within, slice_get-get_or, get_or_from_slice_get}
 use Rattle.std.specs.Cmp.Lexicographic.{bytes_decides}
 use Rattle.std.proofs.lemmas.Bool.{and_parts}
-use Rattle.zi_feed.specs.declared.feed.Dep.{Dep}
-use Rattle.zi_feed.specs.declared.feed.Command.{Command}
+use Rattle.zi_parts.specs.declared.types.Dep.{Dep}
+use Rattle.zi_parts.specs.declared.types.Command.{Command}
 use Rattle.zi_universe.specs.declared.types.Requirement.{Requirement}
 use Rattle.zi_universe.specs.declared.types.Interface.{Interface}
 use Rattle.zi_choice.specs.Choice.{Choice, pick, chosen, command_at, deps_of, needs_of}

@@ -1,7 +1,7 @@
 -- A choice has one walk at most.
 use Rattle.std.proofs.Common.{◌≡◌, ℕ, Bool, true, false, List, refl, sym, subst, ◌∙◌, Option, Some, None}
 use Rattle.std.proofs.lemmas.Bool.{false≢true}
-use Rattle.zi_feed.specs.declared.feed.Dep.{Dep}
+use Rattle.zi_parts.specs.declared.types.Dep.{Dep}
 use Rattle.zi_universe.specs.declared.types.Interface.{Interface}
 use Rattle.zi_choice.specs.Choice.{Choice, needs_of}
 use Rattle.zi_choice.specs.Walk.{Walk, Visits, Needs, NeedsEach, Follows, listed, comes, lacks, again, uses, no_more, one_more, ends, passes, goes, with_use, wanted}

@@ -1,6 +1,6 @@
 -- A walk as tasks that are done one after another: what each does, and what a step of them must keep.
 use Rattle.std.specs.Prelude.{◌≡◌, ℕ, ◌+◌, ◌<◌, List, [], ◌∷◌, length, map, Option}
-use Rattle.zi_feed.specs.declared.feed.Dep.{Dep}
+use Rattle.zi_parts.specs.declared.types.Dep.{Dep}
 use Rattle.zi_universe.specs.declared.types.Interface.{Interface}
 use Rattle.zi_choice.specs.Choice.{Choice, pick}
 use Rattle.zi_choice.specs.Walk.{Walk, Visits, Follows, NeedsEach, nothing, wanted}

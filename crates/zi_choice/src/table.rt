@@ -5,8 +5,8 @@ ghost use Rattle.zi_choice.specs.Tables.{IsAdded, AreTheirPlaces};
 
 use indexmap::IndexMap;
 use std::alloc::Global;
-use zi_feed::Command;
 use zi_inherited::{Inherited, Shared};
+use zi_parts::Command;
 use zi_text::{Memory, Text};
 
 /// The places of a candidate's commands by their names; of commands that share a name the first one's.

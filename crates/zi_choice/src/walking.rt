@@ -10,8 +10,8 @@ use crate::names::Names;
 use crate::traced::{Used, picked};
 use indexmap::IndexSet;
 use std::alloc::Global;
-use zi_feed::{Command, Dep, DepKind};
 use zi_inherited::Inherited;
+use zi_parts::{Command, Dep, DepKind};
 use zi_text::{Memory, Text};
 use zi_universe::{Candidate, Universe};
 

@@ -18,25 +18,25 @@ use Rattle.zi_policy.specs.declared.types.Condition.{Condition}
 use Rattle.zi_digest.specs.declared.DigestName.{DigestName}
 use Rattle.zi_digest.specs.declared.DigestName.TheVariants.{Sha1new, Sha256, Sha256new}
 use Rattle.zi_digest.specs.contracts.DigestNamePartialEq.TheImpl as digest
-use Rattle.zi_feed.specs.declared.feed.Dep.{Dep}
-use Rattle.zi_feed.specs.declared.feed.DepKind.{DepKind}
-use Rattle.zi_feed.specs.declared.feed.Command.{Command}
-use Rattle.zi_feed.specs.declared.feed.Runner.{Runner}
-use Rattle.zi_feed.specs.declared.feed.Word.{Word}
-use Rattle.zi_feed.specs.declared.feed.Word.TheVariants.{Arg, ForEach}
-use Rattle.zi_feed.specs.declared.feed.Binding.{Binding}
-use Rattle.zi_feed.specs.declared.feed.Binding.TheVariants.{Env, Unbuilt}
-use Rattle.zi_feed.specs.declared.feed.Extra.{Extra}
-use Rattle.zi_feed.specs.declared.feed.Extra.TheVariants.{Insert, Value}
-use Rattle.zi_feed.specs.declared.feed.Mode.{Mode}
-use Rattle.zi_feed.specs.contracts.feed.DepKind.{the_type as kinds}
-use Rattle.zi_feed.specs.contracts.feed.Mode.{the_type as modes}
-use Rattle.zi_feed.specs.contracts.feed.DepPartialEq.TheImpl as dep
-use Rattle.zi_feed.specs.contracts.feed.CommandPartialEq.TheImpl as command
-use Rattle.zi_feed.specs.contracts.feed.RunnerPartialEq.TheImpl as runner
-use Rattle.zi_feed.specs.contracts.feed.WordPartialEq.TheImpl as word
-use Rattle.zi_feed.specs.contracts.feed.BindingPartialEq.TheImpl as binding
-use Rattle.zi_feed.specs.contracts.feed.ExtraPartialEq.TheImpl as extra
+use Rattle.zi_parts.specs.declared.types.Dep.{Dep}
+use Rattle.zi_parts.specs.declared.types.DepKind.{DepKind}
+use Rattle.zi_parts.specs.declared.types.Command.{Command}
+use Rattle.zi_parts.specs.declared.types.Runner.{Runner}
+use Rattle.zi_parts.specs.declared.types.Word.{Word}
+use Rattle.zi_parts.specs.declared.types.Word.TheVariants.{Arg, ForEach}
+use Rattle.zi_parts.specs.declared.types.Binding.{Binding}
+use Rattle.zi_parts.specs.declared.types.Binding.TheVariants.{Env, Unbuilt}
+use Rattle.zi_parts.specs.declared.types.Extra.{Extra}
+use Rattle.zi_parts.specs.declared.types.Extra.TheVariants.{Insert, Value}
+use Rattle.zi_parts.specs.declared.types.Mode.{Mode}
+use Rattle.zi_parts.specs.contracts.types.DepKind.{the_type as kinds}
+use Rattle.zi_parts.specs.contracts.types.Mode.{the_type as modes}
+use Rattle.zi_parts.specs.contracts.types.DepPartialEq.TheImpl as dep
+use Rattle.zi_parts.specs.contracts.types.CommandPartialEq.TheImpl as command
+use Rattle.zi_parts.specs.contracts.types.RunnerPartialEq.TheImpl as runner
+use Rattle.zi_parts.specs.contracts.types.WordPartialEq.TheImpl as word
+use Rattle.zi_parts.specs.contracts.types.BindingPartialEq.TheImpl as binding
+use Rattle.zi_parts.specs.contracts.types.ExtraPartialEq.TheImpl as extra
 use Rattle.zi_sels.specs.declared.types.Selection.{Selection}
 use Rattle.zi_sels.specs.declared.types.Selections.{Selections}
 use Rattle.zi_sels.specs.contracts.types.SelectionPartialEq.TheImpl as selection

@@ -1,7 +1,7 @@
 -- `refute`: whether a proof shows that no choice is valid.
 use Rattle.std.specs.Prelude.{◌≡◌, ◌≢◌, ℕ, ◌<◌, ◌≤◌, ◌⊎◌, List, [], ◌∷◌, length, codes, None, Some, IfSome, IsSomeAnd}
 use Rattle.zi_digest.specs.declared.DigestName.{DigestName}
-use Rattle.zi_outside.specs.Count.{Rose}
+use Rattle.zi_text.specs.Count.{Rose}
 use Rattle.zi_outside.specs.Views.{Feeding, holding}
 use Rattle.zi_outside.specs.Outside.{Asks, Writes, WritesFront}
 use Rattle.zi_words.specs.declared.request.Ask.{Ask}

@@ -114,7 +114,10 @@ fn check_by_file<F: Feeds, O: Sink>(
     out: &mut O,
 ) -> Outcome
     requires { BeginsWith universe.now req.now.interface }
-    ensures { ChecksBy universe.now req.now sels proof (record { feeds = F.seen feeds.old; out = O.seen out.old }) (record { feeds = F.seen feeds.new; out = O.seen out.new }) result }
+    ensures { ChecksBy universe.now req.now sels proof
+        (record { feeds = F.seen feeds.old; out = O.seen out.old })
+        (record { feeds = F.seen feeds.new; out = O.seen out.new })
+        result }
 {
     let mut bytes = Vec::new(alloc);
     match feeds.get(proof.as_str(), PROOF_LIMIT, &mut bytes) {
@@ -140,7 +143,10 @@ fn check_text<F: Feeds, O: Sink>(
     out: &mut O,
 ) -> Outcome
     requires { BeginsWith universe.now req.now.interface }
-    ensures { ChecksText universe.now req.now bytes.now proof (record { feeds = F.seen feeds.old; out = O.seen out.old }) (record { feeds = F.seen feeds.new; out = O.seen out.new }) result }
+    ensures { ChecksText universe.now req.now bytes.now proof
+        (record { feeds = F.seen feeds.old; out = O.seen out.old })
+        (record { feeds = F.seen feeds.new; out = O.seen out.new })
+        result }
 {
     match zi_sels::read(alloc, bytes) {
         Ok(sels) => check_by_file(alloc, universe, req, sels, proof, feeds, out),
@@ -160,7 +166,10 @@ fn check_file<F: Feeds, O: Sink>(
     out: &mut O,
 ) -> Outcome
     requires { BeginsWith universe.now req.now.interface }
-    ensures { ChecksFile universe.now req.now sels proof (record { feeds = F.seen feeds.old; out = O.seen out.old }) (record { feeds = F.seen feeds.new; out = O.seen out.new }) result }
+    ensures { ChecksFile universe.now req.now sels proof
+        (record { feeds = F.seen feeds.old; out = O.seen out.old })
+        (record { feeds = F.seen feeds.new; out = O.seen out.new })
+        result }
 {
     let mut bytes = Vec::new(alloc);
     match feeds.get(sels.as_str(), SELS_LIMIT, &mut bytes) {
@@ -185,7 +194,10 @@ fn check_over<F: Feeds, O: Sink>(
     feeds: &mut F,
     out: &mut O,
 ) -> Outcome
-    ensures over { ChecksOver ask sels proof stored.now (record { feeds = F.seen feeds.old; out = O.seen out.old }) (record { feeds = F.seen feeds.new; out = O.seen out.new }) result }
+    ensures over { ChecksOver ask sels proof stored.now
+        (record { feeds = F.seen feeds.old; out = O.seen out.old })
+        (record { feeds = F.seen feeds.new; out = O.seen out.new })
+        result }
     ensures feeds { FeedsStay (F.seen feeds.old) (F.seen feeds.new) }
 {
     let Ok(job) = into_job(alloc, ask) else {
@@ -210,7 +222,10 @@ pub fn check<F: Feeds, K: Shelf, O: Sink>(
     shelf: &mut K,
     out: &mut O,
 ) -> Outcome
-    ensures { ChecksBest ask sels proof (record { feeds = F.seen feeds.old; shelf = K.seen shelf.old; out = O.seen out.old }) (record { feeds = F.seen feeds.new; shelf = K.seen shelf.new; out = O.seen out.new }) result }
+    ensures { ChecksBest ask sels proof
+        (record { feeds = F.seen feeds.old; shelf = K.seen shelf.old; out = O.seen out.old })
+        (record { feeds = F.seen feeds.new; shelf = K.seen shelf.new; out = O.seen out.new })
+        result }
 {
     match stored_names(alloc, shelf) {
         Ok(stored) => check_over(alloc, ask, sels, proof, stored.as_slice(), feeds, out),

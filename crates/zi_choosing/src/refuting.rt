@@ -71,7 +71,10 @@ fn check_file<F: Feeds, O: Sink>(
     out: &mut O,
 ) -> Outcome
     requires { BeginsWith universe.now req.now.interface }
-    ensures { ChecksFile req.now universe.now name (record { feeds = F.seen feeds.old; out = O.seen out.old }) (record { feeds = F.seen feeds.new; out = O.seen out.new }) result }
+    ensures { ChecksFile req.now universe.now name
+        (record { feeds = F.seen feeds.old; out = O.seen out.old })
+        (record { feeds = F.seen feeds.new; out = O.seen out.new })
+        result }
 {
     let mut bytes = Vec::new(alloc);
     match feeds.get(name.as_str(), PROOF_LIMIT, &mut bytes) {
@@ -95,7 +98,10 @@ fn refute_over<F: Feeds, O: Sink>(
     feeds: &mut F,
     out: &mut O,
 ) -> Outcome
-    ensures over { RefutesOver ask name stored.now (record { feeds = F.seen feeds.old; out = O.seen out.old }) (record { feeds = F.seen feeds.new; out = O.seen out.new }) result }
+    ensures over { RefutesOver ask name stored.now
+        (record { feeds = F.seen feeds.old; out = O.seen out.old })
+        (record { feeds = F.seen feeds.new; out = O.seen out.new })
+        result }
     ensures feeds { FeedsStay (F.seen feeds.old) (F.seen feeds.new) }
 {
     let Ok(job) = into_job(alloc, ask) else {
@@ -117,7 +123,10 @@ pub fn refute<F: Feeds, K: Shelf, O: Sink>(
     shelf: &mut K,
     out: &mut O,
 ) -> Outcome
-    ensures { ChecksNone ask proof (record { feeds = F.seen feeds.old; shelf = K.seen shelf.old; out = O.seen out.old }) (record { feeds = F.seen feeds.new; shelf = K.seen shelf.new; out = O.seen out.new }) result }
+    ensures { ChecksNone ask proof
+        (record { feeds = F.seen feeds.old; shelf = K.seen shelf.old; out = O.seen out.old })
+        (record { feeds = F.seen feeds.new; shelf = K.seen shelf.new; out = O.seen out.new })
+        result }
 {
     match stored_names(alloc, shelf) {
         Ok(stored) => refute_over(alloc, ask, proof, stored.as_slice(), feeds, out),

@@ -170,7 +170,10 @@ fn select_over<F: Feeds, O: Sink>(
     out: &mut O,
 ) -> Outcome
     requires { ask.search ≤ 4000000000 }
-    ensures over { SelectsOver ask proof stored.now (record { feeds = F.seen feeds.old; out = O.seen out.old }) (record { feeds = F.seen feeds.new; out = O.seen out.new }) result }
+    ensures over { SelectsOver ask proof stored.now
+        (record { feeds = F.seen feeds.old; out = O.seen out.old })
+        (record { feeds = F.seen feeds.new; out = O.seen out.new })
+        result }
     ensures feeds { FeedsStay (F.seen feeds.old) (F.seen feeds.new) }
 {
     let budget = ask.search;
@@ -196,7 +199,10 @@ pub fn select<F: Feeds, K: Shelf, O: Sink>(
     out: &mut O,
 ) -> Outcome
     requires { ask.search ≤ 4000000000 }
-    ensures { Selects ask proof (record { feeds = F.seen feeds.old; shelf = K.seen shelf.old; out = O.seen out.old }) (record { feeds = F.seen feeds.new; shelf = K.seen shelf.new; out = O.seen out.new }) result }
+    ensures { Selects ask proof
+        (record { feeds = F.seen feeds.old; shelf = K.seen shelf.old; out = O.seen out.old })
+        (record { feeds = F.seen feeds.new; shelf = K.seen shelf.new; out = O.seen out.new })
+        result }
 {
     match stored_names(alloc, shelf) {
         Ok(stored) => select_over(alloc, ask, proof, stored.as_slice(), feeds, out),

@@ -4,7 +4,7 @@ use Rattle.std.specs.Prelude.{bytes_eq, codes, if◌then◌else◌, OnOk}
 use Rattle.std.proofs.lemmas.Fmt.{decimal_digit}
 use Rattle.std.proofs.lemmas.List.{map-append}
 use Rattle.zi_elements.specs.declared.element.Node.{Node}
-use Rattle.zi_forest.specs.Forest.{Forest, Elem, node_view, nodes_view}
+use Rattle.zi_elements.specs.Forest.{Forest, Elem, node_view, nodes_view}
 use Rattle.zi_docout.specs.Canonical.{document}
 use Rattle.zi_docout.specs.Amiss.{alone}
 use Rattle.zi_docout.specs.Elements.{Adds}

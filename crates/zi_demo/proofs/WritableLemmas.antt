@@ -7,10 +7,10 @@ use Rattle.std.proofs.lemmas.List.Folds.{list_any-append}
 use Rattle.std.proofs.lemmas.Slice.Eq.{bytes_eq-Decides}
 use Rattle.std.proofs.lemmas.Bool.{or_from, not_from_true, or_parts, and_parts}
 use Rattle.zi_elements.specs.declared.element.Node.{Node}
-use Rattle.zi_forest.specs.Forest.{Forest, none, Elem, gathered, joined, nodes_view}
+use Rattle.zi_elements.specs.Forest.{Forest, none, Elem, gathered, joined, nodes_view}
 use Rattle.zi_names.specs.Names.{has_twice}
 use Rattle.zi_xml.specs.Chars.{is_digit}
-use Rattle.zi_docout.specs.Canonical.{injector}
+use Rattle.zi_elements.specs.Namespace.{injector}
 use Rattle.zi_docout.specs.Amiss.{is_plain_name, is_carried, is_amiss_attr, is_amiss_text, same_name, texts, count, Standing, is_amiss, alone, standing, first_amiss}
 use Rattle.zi_docout.specs.Elements.{attr, nodes, Adds}
 use Rattle.zi_demo.specs.Feeds.{address, requires_elem, restricts_elem, restricting, version, two_versions, three_versions, numbers, numbered, p_q_r, needs, interface}

@@ -1,7 +1,8 @@
 -- The feeds of the demonstration: what stands in each, and under which address its text is held.
 use Rattle.std.specs.Prelude.{◌≡◌, ℕ, zero, suc, ◌+◌, ◌-◌, List, [], ◌∷◌, ◌++◌, map, codes, decimal, bytes_eq, Option, Some, None, if◌then◌else◌}
-use Rattle.zi_forest.specs.Forest.{Forest, none, Elem}
-use Rattle.zi_docout.specs.Canonical.{injector, document}
+use Rattle.zi_elements.specs.Forest.{Forest, none, Elem}
+use Rattle.zi_elements.specs.Namespace.{injector}
+use Rattle.zi_docout.specs.Canonical.{document}
 use Rattle.zi_docout.specs.Elements.{attr, nodes, elem}
 use Rattle.zi_outside.specs.Views.{Holding}
 

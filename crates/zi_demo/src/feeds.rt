@@ -1,6 +1,6 @@
 //! The feeds of the demonstration, each as its canonical text under its address.
 ghost use Rattle.std.specs.Prelude.{List as Items, ◌≡◌, ◌≤◌, ◌-◌, ◌∷◌, ◌++◌, [], map, codes, None, IfOk, OnOk};
-ghost use Rattle.zi_forest.specs.Forest.{nodes_view};
+ghost use Rattle.zi_elements.specs.Forest.{nodes_view};
 ghost use Rattle.zi_docout.specs.Canonical.{document};
 ghost use Rattle.zi_docout.specs.Amiss.{first_amiss};
 ghost use Rattle.zi_docout.specs.Elements.{Adds};

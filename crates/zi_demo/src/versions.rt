@@ -1,6 +1,6 @@
 //! Versions of the demonstration's interfaces, and what each says of other interfaces.
 ghost use Rattle.std.specs.Prelude.{◌≡◌, ◌∷◌, [], ◌++◌, map, codes, IfOk, OnOk};
-ghost use Rattle.zi_forest.specs.Forest.{none, element_view, nodes_view, node_view};
+ghost use Rattle.zi_elements.specs.Forest.{none, element_view, nodes_view, node_view};
 ghost use Rattle.zi_docout.specs.Amiss.{alone};
 ghost use Rattle.zi_docout.specs.Elements.{Adds};
 ghost use Rattle.zi_demo.specs.Feeds.{address, requires_elem, restricts_elem, version, two_versions, three_versions};

@@ -1,7 +1,7 @@
 -- A turn of the reader's loop, and its end.
 use Rattle.std.proofs.Common.{◌≡◌, ℕ, suc, zero, ◌+◌, Bool, true, false, List, [], ◌∷◌, ◌++◌, Option, Some, None, Result, Ok, Err, length, refl, sym, ap, ◌∙◌, subst, arith, inl, inr}
 use Rattle.std.specs.Prelude.{encode_utf8}
-use Rattle.zi_chars.specs.Answers as machines
+use Rattle.zi_xml.specs.Answers as machines
 use Rattle.zi_xml.specs.Chars.{width}
 use Rattle.zi_xml.specs.Meaning.{Level, Fault, Frame}
 use Rattle.zi_xml.specs.Machine.{Doing, State, state, go, step, at_of, found_of, shared, finish, finish_in, answer, Answer, has, inside, common, kin}

@@ -10,6 +10,7 @@ pub fn is_white(c: char) -> bool
     c == ' ' || c == '\t' || c == '\n' || c == '\r'
 }
 
+/// Whether XML can carry a character (XML 1.0, 2.2).
 #[tactic(auto, unfolding(zi_xml::specs::Chars::is_char))]
 pub fn is_char(c: char) -> bool
     ensures { result ≡ carried_char c }

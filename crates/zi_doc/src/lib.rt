@@ -1,5 +1,5 @@
 //! Documents: the tree that the bytes of a document spell, or the one fault that they have.
-//! `zi_forest::Document` and the types of the tree in `zi_elements` are named here once more.
+//! The types of the tree, which stand in `zi_elements`, are named here once more.
 //! A fault has its kind, with a number, and its place in bytes.
 //!
 //! What a document spells is said in `zi_xml`; specs/Documents.antt and Answers.antt here say what `read` answers. The reader
@@ -20,8 +20,8 @@ mod state;
 mod tags;
 mod texts;
 
+pub use chars::is_char;
 pub use fault::{DocFault, DocKind};
 pub use laws::one_answer;
 pub use reader::read;
-pub use zi_elements::{Attr, Element, Node};
-pub use zi_forest::Document;
+pub use zi_elements::{Attr, Document, Element, Node};

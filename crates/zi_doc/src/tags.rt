@@ -181,6 +181,7 @@ impl Reader {
             Err(e) => return Err(e),
         };
         let Started { space, name, attrs } = started;
+        let attrs = fitted(attrs);
         let open = Open {
             written: mem::replace(&mut self.written, Vec::new(alloc)),
             space,
@@ -209,6 +210,7 @@ impl Reader {
             Err(e) => return Err(e),
         };
         let Started { space, name, attrs } = started;
+        let attrs = fitted(attrs);
         self.leave_scope();
         let element = Element {
             space,
@@ -319,6 +321,7 @@ impl Reader {
         self.leave_scope();
         let mut children = mem::replace(&mut self.before, before);
         settle(&mut children, mem::replace(&mut self.letters, letters))?;
+        let children = fitted(children);
         let element = Element {
             space,
             name: local,
@@ -329,6 +332,15 @@ impl Reader {
         self.adopt(alloc, element)?;
         Ok(())
     }
+}
+
+// The same list, which takes no more room than its items.
+fn fitted<T>(list: List<T>) -> List<T>
+    ensures { result ≡ list }
+{
+    let mut items = list.into_vec();
+    items.shrink_to_fit();
+    List::from_vec(items)
 }
 
 fn letter_of(top: &Open, i: usize) -> Option<char>

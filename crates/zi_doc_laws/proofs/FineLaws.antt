@@ -7,10 +7,10 @@ use Rattle.zi_elements.specs.declared.element.Element.{Element, fold_out-Element
 use Rattle.zi_elements.specs.declared.element.Node.{Node, fold-roll-Node}
 use Rattle.zi_elements.specs.declared.element.Node.TheOpen.{Node-F}
 use Rattle.zi_elements.specs.declared.element.Node.TheVariants as kinds
-use Rattle.zi_forest.specs.Forest.{Forest, none, words, child, joined, node_step, element_step, node_view, nodes_view, depth}
+use Rattle.zi_elements.specs.Forest.{Forest, none, words, child, joined, node_step, element_step, node_view, nodes_view, depth}
 use Rattle.zi_xml.specs.Meaning.{Level, Frame, flush, settled, element_of, adopt}
 use Rattle.zi_xml.proofs.CharLemmas.{append_none}
-use Rattle.zi_forest.specs.Places.{places, IsBelow, AreRising}
+use Rattle.zi_elements.specs.Places.{places, IsBelow, AreRising}
 use Rattle.zi_doc_laws.specs.Trees.{has_text_first, HasWholeTexts, HasTag, HasTags, IsCarried, HasCarriedValues, HasCarriedTexts}
 use Rattle.zi_doc_laws.proofs.CarriedLaws.{none_carried}
 use Rattle.zi_doc_laws.proofs.PastLaws.{Past}

@@ -2,13 +2,13 @@
 use Rattle.std.proofs.Common.{◌≡◌, ℕ, true, false, List, [], ◌++◌, sym, ap, ◌∙◌, subst, arith}
 use Rattle.std.specs.Prelude.{codes, encode_utf8_all}
 use Rattle.zi_elements.specs.declared.element.Element.{Element}
-use Rattle.zi_forest.specs.Forest.{Forest, none, joined, nodes_view, whole}
+use Rattle.zi_elements.specs.Forest.{Forest, none, joined, nodes_view, whole}
 use Rattle.zi_names.specs.Names.{first_scope}
 use Rattle.zi_xml.specs.Syntax.{stop, void, pair, Root, alone, whole as of_content, doctype, root_text, IsRoot, Document, IsDocument, document_text, mark_text, declared_text, miscs_text}
 use Rattle.zi_xml.specs.Meaning.{Level, doctype_kind, passed, start, declared_told, root_told, document_told}
 use Rattle.zi_xml.proofs.CharLemmas.{append_none}
 use Rattle.zi_xml.specs.Documents.{SaysChars, Spells}
-use Rattle.zi_forest.specs.Places.{places, AreRising}
+use Rattle.zi_elements.specs.Places.{places, AreRising}
 use Rattle.zi_doc_laws.proofs.CarriedLaws.{none_carried}
 use Rattle.zi_doc_laws.proofs.PastLaws.{Past, past_both, past_passed, past_declared, not_blamed}
 use Rattle.zi_doc_laws.proofs.FineLaws.{child_alone, joined_none, Fine, fine_none, RisesFrom, rising, Good, goes_on, good_start}

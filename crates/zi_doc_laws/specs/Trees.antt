@@ -1,7 +1,7 @@
 -- What a tree keeps that a document spells: relations over the tree and the bytes (XML 1.0, Fifth Edition, and Namespaces in XML 1.0).
 use Rattle.std.specs.Prelude.{◌≡◌, ℕ, Bool, true, false, ◌||◌, ◌==◌, List, [], ◌∷◌, ◌++◌, length, encode_utf8_all}
 use Rattle.zi_elements.specs.declared.element.Attr.{Attr}
-use Rattle.zi_forest.specs.Forest.{Forest, none, words, child}
+use Rattle.zi_elements.specs.Forest.{Forest, none, words, child}
 use Rattle.zi_names.specs.Names.{is_empty, local as local_part}
 use Rattle.zi_xml.specs.Chars.{is_char, is_white}
 use Rattle.zi_xml.specs.Syntax.{AllAre, IsName}

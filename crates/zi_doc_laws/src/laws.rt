@@ -2,8 +2,8 @@
 //! The law is a function without parameters and with no work to do, whose clauses are what it says.
 ghost use Rattle.std.specs.Prelude.{ℕ, ◌≤◌, List};
 ghost use Rattle.zi_elements.specs.declared.element.Element.{Element};
-ghost use Rattle.zi_forest.specs.Forest.{whole, depth};
-ghost use Rattle.zi_forest.specs.Places.{places, AreRising};
+ghost use Rattle.zi_elements.specs.Forest.{whole, depth};
+ghost use Rattle.zi_elements.specs.Places.{places, AreRising};
 ghost use Rattle.zi_xml.specs.Documents.{Spells};
 ghost use Rattle.zi_doc_laws.specs.Trees.{HasWholeTexts, HasTags, HasCarriedTexts};
 

@@ -5,7 +5,7 @@ use Rattle.std.proofs.lemmas.List.{map-append}
 use Rattle.zi_elements.specs.declared.element.Element.{Element}
 use Rattle.zi_elements.specs.declared.element.Node.{Node}
 use Rattle.zi_elements.specs.declared.element.Node.TheVariants as nodes
-use Rattle.zi_forest.specs.Forest.{element_view, node_view}
+use Rattle.zi_elements.specs.Forest.{element_view, node_view}
 use Rattle.zi_docout.specs.Elements.{Adds}
 use Rattle.zi_docout.proofs.ForestLemmas.{child_view}
 

@@ -6,7 +6,7 @@ use Rattle.std.specs.Str.{chars}
 use Rattle.std.proofs.Math.Utf8.{encode}
 use Rattle.zi_elements.specs.declared.element.Element.{Element}
 use Rattle.zi_elements.specs.declared.element.Node.TheVariants.{Child}
-use Rattle.zi_forest.specs.Forest.{Forest, none, words, child, joined, nodes_view, Elem, element_view}
+use Rattle.zi_elements.specs.Forest.{Forest, none, words, child, joined, nodes_view, Elem, element_view}
 use Rattle.zi_names.specs.Names.{first_scope}
 use Rattle.zi_xml.specs.Chars.{is_white, is_quote, is_digit, is_encoding_first, is_encoding, small}
 use Rattle.zi_xml.specs.Syntax.{letter, Written, Content, stop, bit, text, all_text, Misc, white, miscs_text, Setting, Declaration, IsDeclaration, Root, alone as void_root, whole, root_text, IsRoot, Document, IsDocument, document_text}
@@ -14,7 +14,8 @@ use Rattle.zi_xml.specs.Meaning.{Level, passed, settled, root_told, told, declar
 use Rattle.zi_xml.specs.Documents as documents
 use Rattle.zi_doc.specs.Documents.{Spells}
 use Rattle.zi_doc.specs.Laws.{IsSettled}
-use Rattle.zi_docout.specs.Canonical.{injector, attr_text, tag_text, rest_text, lines_text, declaring, document}
+use Rattle.zi_elements.specs.Namespace.{injector}
+use Rattle.zi_docout.specs.Canonical.{attr_text, tag_text, rest_text, lines_text, declaring, document}
 use Rattle.zi_docout.specs.Amiss.{Standing, is_amiss, standing, alone, first_amiss}
 use Rattle.zi_docout.specs.Same.{has_child, bare, unplaced, IsSame, IsReadBack}
 use Rattle.zi_docout.proofs.FineLemmas.{Parts, parts}

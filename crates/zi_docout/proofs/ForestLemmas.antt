@@ -4,7 +4,7 @@ use Rattle.zi_elements.specs.declared.element.Element.{Element, fold-Element, fo
 use Rattle.zi_elements.specs.declared.element.Node.{Node, fold-roll-Node, fold_out-Node, out-Node, map-Node}
 use Rattle.zi_elements.specs.declared.element.Node.TheOpen.{Node-F}
 use Rattle.zi_elements.specs.declared.element.Node.TheVariants as nodes
-use Rattle.zi_forest.specs.Forest.{Forest, none, words, child, joined, node_step, element_step, node_view, nodes_view}
+use Rattle.zi_elements.specs.Forest.{Forest, none, words, child, joined, node_step, element_step, node_view, nodes_view}
 use Rattle.zi_docout.specs.Canonical.{lines_text, rest_text, indent, tag_text}
 use Rattle.zi_docout.specs.Amiss.{texts, count, Standing, standing}
 

@@ -19,7 +19,8 @@ use Rattle.zi_names.specs.Names as names
 use Rattle.zi_xml.specs.Chars.{is_letter, is_digit, is_char}
 use Rattle.zi_xml.specs.Syntax.{Written}
 use Rattle.zi_xml.specs.Meaning.{raw_of, value_of}
-use Rattle.zi_docout.specs.Canonical.{injector, declaring}
+use Rattle.zi_elements.specs.Namespace.{injector}
+use Rattle.zi_docout.specs.Canonical.{declaring}
 use Rattle.zi_docout.specs.Amiss.{is_name_byte, is_plain_name, is_amiss_attr, same_name}
 use Rattle.zi_docout.proofs.FineLemmas.{same_bytes, FineAttr, fine_attr, Carried}
 use Rattle.zi_docout.proofs.BitLemmas.{value_bit, value_bits_mean}

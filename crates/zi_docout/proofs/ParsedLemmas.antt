@@ -7,7 +7,7 @@ use Rattle.std.proofs.lemmas.Str.{encodes-chars, scalars-chars}
 use Rattle.std.proofs.lemmas.Bool.Decides.{nat_tests}
 use Rattle.std.proofs.lemmas.Bool.{or_parts, and_parts}
 use Rattle.zi_elements.specs.declared.element.Attr.{Attr}
-use Rattle.zi_forest.specs.Forest.{Forest, none, words, child}
+use Rattle.zi_elements.specs.Forest.{Forest, none, words, child}
 use Rattle.zi_xml.specs.Chars.{is_char, is_white, is_plain, is_letter, is_digit, is_first, is_name, is_quote}
 use Rattle.zi_xml.specs.Syntax.{letter, Written, Content, stop, bit, void, pair, bits_text, written_text, all_text, end_tag, text, AllAre, IsName, IsWritten, AreWritten, is_said, brackets_after}
 use Rattle.zi_docout.specs.Canonical.{words_text, value_text, attr_text, tag_text, end_text, indent, rest_text, lines_text}

@@ -3,7 +3,7 @@ use Rattle.std.proofs.Common.{◌≡◌, ℕ, Bool, true, false, ◌||◌, List,
 use Rattle.std.specs.List.{list_any}
 use Rattle.std.proofs.lemmas.List.Folds.{list_any-append}
 use Rattle.zi_elements.specs.declared.element.Node.{Node}
-use Rattle.zi_forest.specs.Forest.{Forest, joined, node_view, nodes_view}
+use Rattle.zi_elements.specs.Forest.{Forest, joined, node_view, nodes_view}
 use Rattle.zi_docout.specs.Amiss.{is_amiss_text, texts}
 use Rattle.zi_docout.proofs.ForestLemmas.{nodes_append, texts_joined}
 use Rattle.std.proofs.Math.Bool.{or-false}

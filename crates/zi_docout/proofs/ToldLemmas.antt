@@ -11,14 +11,14 @@ use Rattle.std.proofs.lemmas.Bool.{or_parts}
 use Rattle.zi_elements.specs.declared.element.Attr.{Attr}
 use Rattle.zi_elements.specs.declared.element.Element.{Element}
 use Rattle.zi_elements.specs.declared.element.Node.TheVariants.{Child, Words}
-use Rattle.zi_forest.specs.Forest.{Forest, none, words, child, joined, nodes_view}
+use Rattle.zi_elements.specs.Forest.{Forest, none, words, child, joined, nodes_view}
 use Rattle.zi_names.specs.declared.attributes.Raw.{Raw}
 use Rattle.zi_names.specs.declared.attributes.Binding.{Binding}
 use Rattle.zi_names.specs.Names.{is_empty, prefix, local, scope_in, address_of, attributes_of, has_bad_prefix, has_repeated, has_twice}
 use Rattle.zi_xml.specs.Chars.{is_white}
 use Rattle.zi_xml.specs.Syntax.{letter, Written, Content, stop, bit, end_tag}
 use Rattle.zi_xml.specs.Meaning.{Level, Kind, depth_kind, repeated_kind, prefix_kind, tick, passed, blame_if, heard, flush, settled, written_passed, all_passed, raw_of, tag_of, Frame, framed, judged, fresh, element_of, adopt, named_on, tag_passed, told}
-use Rattle.zi_docout.specs.Canonical.{injector}
+use Rattle.zi_elements.specs.Namespace.{injector}
 use Rattle.zi_docout.specs.Amiss.{is_plain_name, same_name, is_amiss_attr, is_amiss_text, texts, count, standing, is_amiss}
 use Rattle.zi_docout.specs.Same.{has_child, bare, unplaced}
 use Rattle.zi_docout.proofs.FineLemmas.{FineText, fine_text, parts}

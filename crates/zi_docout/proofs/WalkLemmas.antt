@@ -7,7 +7,7 @@ use Rattle.std.proofs.lemmas.List.{append-nil}
 use Rattle.zi_elements.specs.declared.element.Element.{Element}
 use Rattle.zi_elements.specs.declared.element.Node.{Node}
 use Rattle.zi_elements.specs.declared.element.Node.TheVariants.{Child, Words}
-use Rattle.zi_forest.specs.Forest.{Forest, none, words, child, joined, node_view, nodes_view, Elem, element_view}
+use Rattle.zi_elements.specs.Forest.{Forest, none, words, child, joined, node_view, nodes_view, Elem, element_view}
 use Rattle.zi_docout.specs.declared.fault.WriteFault.{WriteFault}
 use Rattle.zi_docout.specs.declared.fault.WriteFault.TheVariants as faults
 use Rattle.zi_docout.specs.Canonical.{indent, lines_text, rest_text, words_text, end_text}

@@ -3,10 +3,10 @@ use Rattle.std.specs.Prelude.{ℕ, suc, Bool, false, not, ◌||◌, ◌&&◌, �
 use Rattle.std.specs.List.{list_any, list_all, position_from}
 use Rattle.std.specs.Str.{bytes_eq, chars, is_utf8}
 use Rattle.zi_elements.specs.declared.element.Attr.{Attr}
-use Rattle.zi_forest.specs.Forest.{Forest, none, words, child, Elem}
+use Rattle.zi_elements.specs.Forest.{Forest, none, words, child, Elem}
 use Rattle.zi_names.specs.Names.{is_empty, has_twice}
 use Rattle.zi_xml.specs.Chars.{is_char, is_letter, is_digit}
-use Rattle.zi_docout.specs.Canonical.{injector}
+use Rattle.zi_elements.specs.Namespace.{injector}
 
 abbrev pub is_name_byte : ℕ → Bool
 is_name_byte c = is_letter c || is_digit c || c == 45 || c == 95

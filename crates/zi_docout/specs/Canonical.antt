@@ -1,11 +1,8 @@
 -- The canonical text of a tree, as XML 1.0 in UTF-8. Texts are lists of bytes; an ASCII character is its byte.
 use Rattle.std.specs.Prelude.{ℕ, zero, suc, ◌==◌, List, [], ◌∷◌, ◌++◌, if◌then◌else◌, codes, flat_map}
 use Rattle.zi_elements.specs.declared.element.Attr.{Attr}
-use Rattle.zi_forest.specs.Forest.{Forest, none, words, child, Elem}
-
--- the namespace of every element that is written
-unfoldable pub injector : List ℕ
-injector = codes "http://zero-install.sourceforge.net/2004/injector/interface"
+use Rattle.zi_elements.specs.Forest.{Forest, none, words, child, Elem}
+use Rattle.zi_elements.specs.Namespace.{injector}
 
 -- in a text: `&`, `<`, `>` and CR are written as references (4.1, 4.6), and the rest as it is
 unfoldable pub word_escaped : ℕ → List ℕ

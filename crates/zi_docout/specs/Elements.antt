@@ -2,8 +2,8 @@
 use Rattle.std.specs.Prelude.{◌≡◌, ℕ, List, [], ◌++◌, map}
 use Rattle.zi_elements.specs.declared.element.Attr.{Attr}
 use Rattle.zi_elements.specs.declared.element.Node.{Node}
-use Rattle.zi_forest.specs.Forest.{Forest, gathered, node_view, Elem}
-use Rattle.zi_docout.specs.Canonical.{injector}
+use Rattle.zi_elements.specs.Forest.{Forest, gathered, node_view, Elem}
+use Rattle.zi_elements.specs.Namespace.{injector}
 use Rattle.zi_docout.specs.Amiss.{alone}
 
 -- an attribute without a namespace

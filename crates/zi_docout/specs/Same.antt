@@ -3,7 +3,7 @@ use Rattle.std.specs.Prelude.{◌≡◌, Bool, true, false, ◌&&◌, if◌then�
 use Rattle.std.specs.List.{list_all}
 use Rattle.zi_xml.specs.Chars.{is_white}
 use Rattle.zi_elements.specs.declared.element.Element.{Element}
-use Rattle.zi_forest.specs.Forest.{Forest, none, words, child, Elem, element_view}
+use Rattle.zi_elements.specs.Forest.{Forest, none, words, child, Elem, element_view}
 use Rattle.zi_doc.specs.Documents.{Spells}
 use Rattle.zi_docout.specs.Canonical.{document}
 

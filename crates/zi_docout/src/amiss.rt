@@ -1,34 +1,25 @@
 ghost use Rattle.std.specs.Prelude.{◌≡◌, ◌||◌, not, nat_le, IfOk};
 ghost use Rattle.std.specs.List.{list_any, list_all};
-ghost use Rattle.zi_forest.specs.Forest.{node_view, nodes_view, element_view};
+ghost use Rattle.zi_elements.specs.Forest.{node_view, nodes_view, element_view};
 ghost use Rattle.zi_names.specs.Names.{has_twice};
 ghost use Rattle.zi_xml.specs.Chars.{is_char as carried_char, is_letter as letter_byte};
 ghost use Rattle.std.specs.Str.{bytes_eq};
-ghost use Rattle.zi_docout.specs.Canonical.{injector};
+ghost use Rattle.zi_elements.specs.Namespace.{injector};
 ghost use Rattle.zi_docout.specs.Amiss.{is_name_byte as name_byte, is_plain_name as plain_name, is_carried as carried, is_amiss_attr as amiss_attr, is_amiss_text as amiss_text, same_name, texts, count, is_amiss as amiss, standing_of};
 
 use std::alloc::Global;
 use std::collections::BTreeSet;
-use zi_elements::{Attr, Element, Node};
+use zi_elements::{Attr, Element, NAMESPACE, Node};
 use zi_text::Memory;
-
-/// The namespace of every element that is written.
-pub const NAMESPACE: &str = "http://zero-install.sourceforge.net/2004/injector/interface";
 
 /// How many elements may stand one in another.
 pub const DEEPEST: u64 = 64;
 
 // Whether XML can carry a character (XML 1.0, 2.2).
-#[tactic(auto, unfolding(zi_xml::specs::Chars::is_char))]
 fn is_char(c: char) -> bool
     ensures { result ≡ carried_char c }
 {
-    ' ' <= c && c <= '\u{D7FF}'
-        || c == '\t'
-        || c == '\n'
-        || c == '\r'
-        || '\u{E000}' <= c && c <= '\u{FFFD}'
-        || '\u{10000}' <= c && c <= '\u{10FFFF}'
+    zi_doc::is_char(c)
 }
 
 #[tactic(auto, unfolding(crate::specs::Amiss::is_carried))]
@@ -114,7 +105,7 @@ fn is_amiss_child(count: usize, child: &Node) -> bool
     }
 }
 
-#[tactic(auto, unfolding(crate::specs::Canonical::injector))]
+#[tactic(auto, unfolding(zi_elements::specs::Namespace::injector))]
 fn is_injector(space: &str) -> bool
     ensures { result ≡ bytes_eq space.now injector }
 {

@@ -1,14 +1,12 @@
 //! Elements of the injector's namespace, one by one: their attributes, and the elements in them.
 ghost use Rattle.std.specs.Prelude.{◌≡◌, ◌∷◌, [], ◌++◌, IfOk, OnOk};
-ghost use Rattle.zi_forest.specs.Forest.{element_view, nodes_view};
-ghost use Rattle.zi_docout.specs.Canonical.{injector};
+ghost use Rattle.zi_elements.specs.Forest.{element_view, nodes_view};
+ghost use Rattle.zi_elements.specs.Namespace.{injector};
 ghost use Rattle.zi_docout.specs.Elements.{attr, Adds};
 
 use std::alloc::Global;
-use zi_elements::{Attr, Element, Node};
+use zi_elements::{Attr, Element, NAMESPACE, Node};
 use zi_text::{List, Memory, Text};
-
-const NS: &str = "http://zero-install.sourceforge.net/2004/injector/interface";
 
 /// Adds an attribute without a namespace behind those that are there. Memory is its one refusal; what had been added then is
 /// in no element yet.
@@ -27,7 +25,7 @@ pub fn put_attr(
 }
 
 /// An element of the injector's namespace with these attributes and these nodes in it, at the place 0. Memory is its one refusal.
-#[tactic(auto, unfolding(crate::specs::Canonical::injector))]
+#[tactic(auto, unfolding(zi_elements::specs::Namespace::injector))]
 pub fn element(
     alloc: Global,
     name: &str,
@@ -36,7 +34,7 @@ pub fn element(
 ) -> Result<Element, Memory>
     ensures { IfOk result (λ e. element_view e ≡ record { space = injector; name = name.now; attrs = attrs; inside = nodes_view children; place = 0 }) }
 {
-    let space = Text::from_str(alloc, NS)?;
+    let space = Text::from_str(alloc, NAMESPACE)?;
     let name = Text::from_str(alloc, name)?;
     Ok(Element {
         space,

@@ -1,6 +1,6 @@
 ghost use Rattle.std.specs.Prelude.{◌≡◌, None};
 ghost use Rattle.zi_elements.specs.declared.element.Element.{Element as Tree};
-ghost use Rattle.zi_forest.specs.Forest.{element_view};
+ghost use Rattle.zi_elements.specs.Forest.{element_view};
 ghost use Rattle.zi_docout.specs.Amiss.{first_amiss};
 ghost use Rattle.zi_docout.specs.Same.{IsReadBack};
 

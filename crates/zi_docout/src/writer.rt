@@ -1,5 +1,5 @@
 ghost use Rattle.std.specs.Prelude.{◌≡◌, ◌++◌, suc, false, OnOk, OnErr};
-ghost use Rattle.zi_forest.specs.Forest.{nodes_view, element_view};
+ghost use Rattle.zi_elements.specs.Forest.{nodes_view, element_view};
 ghost use Rattle.zi_docout.specs.Canonical.{document, lines_text, rest_text, attr_text, declaring};
 ghost use Rattle.zi_docout.specs.Amiss.{first_amiss, standing, standing_of, alone, is_amiss as amiss};
 ghost use Rattle.zi_docout.specs.Answers.{IsFirst, Writes};
@@ -96,7 +96,7 @@ fn put_lines(
 }
 
 // Adds the declaration of the namespace.
-#[tactic(auto, unfolding(crate::specs::Canonical::injector, crate::specs::Canonical::value_escaped, crate::specs::Canonical::word_escaped))]
+#[tactic(auto, unfolding(zi_elements::specs::Namespace::injector, crate::specs::Canonical::value_escaped, crate::specs::Canonical::word_escaped))]
 fn put_declaring(text: &mut Vec<u8>) -> Result<(), Memory>
     ensures { OnOk result (text.new.items ≡ text.old.items ++ attr_text declaring) }
 {

@@ -1,5 +1,8 @@
 use zi_text::{List, Text};
 
+/// The namespace of feeds and of selections (the Zero Install feed format).
+pub const NAMESPACE: &str = "http://zero-install.sourceforge.net/2004/injector/interface";
+
 /// An attribute of an element (XML 1.0, 3.1). Declarations of namespaces aren't attributes of the tree.
 #[derive(Debug, Drop, PartialEq, Eq)]
 pub struct Attr {

@@ -1,28 +1,29 @@
 -- What is added along a path, and what is active of it.
 use Rattle.std.proofs.Common.{◌≡◌, ℕ, Bool, true, false, cond, ◌||◌, List, [], ◌∷◌, ◌++◌, map, Option, Some, None, codes, refl, sym, ap, subst, ◌∙◌, append-nil, append_assoc}
-use Rattle.std.specs.List.{list_any, fold, filter, flat_map}
+use Rattle.std.specs.List.{list_any, fold, flat_map}
 use Rattle.std.specs.Option.{option_map}
 use Rattle.std.specs.Prelude.{option_and_then}
 use Rattle.std.proofs.lemmas.List.{map-append}
 use Rattle.std.proofs.lemmas.List.Folds.{list_any-append, flat_map-map}
-use Rattle.zi_forest.specs.Forest.{Elem}
+use Rattle.zi_elements.specs.Forest.{Elem}
 use Rattle.zi_version.specs.Range.{a_version}
 use Rattle.zi_policy.specs.declared.types.Policy.{Policy}
 use Rattle.zi_policy.specs.Platform.{is_active}
-use Rattle.zi_feed.specs.declared.feed.Impl.{Impl}
-use Rattle.zi_feed.specs.declared.feed.Dep.{Dep}
-use Rattle.zi_feed.specs.declared.feed.Command.{Command}
-use Rattle.zi_feed.specs.declared.feed.Binding.{Binding}
+use Rattle.zi_parts.specs.declared.types.Impl.{Impl}
+use Rattle.zi_parts.specs.declared.types.Dep.{Dep}
+use Rattle.zi_parts.specs.declared.types.Command.{Command}
+use Rattle.zi_parts.specs.declared.types.Binding.{Binding}
 use Rattle.zi_feed.specs.declared.along.Own.{Own}
 use Rattle.zi_feed.specs.declared.along.Added.{Added}
-use Rattle.zi_feed.specs.Texts.{same}
-use Rattle.zi_feed.specs.Words.{latest}
-use Rattle.zi_feed.specs.Sites.{Ways, Said}
-use Rattle.zi_feed.specs.Values.{deps_of, commands_of, bindings_of}
-use Rattle.zi_feed.specs.Impls.{are_alike, is_run, with_main, main_command, version_text, impl_with, impl_from}
+use Rattle.zi_address.specs.Texts.{same}
+use Rattle.zi_reading.specs.Words.{latest}
+use Rattle.zi_reading.specs.Ways.{Ways}
+use Rattle.zi_faults.specs.Said.{Said, version_text}
+use Rattle.zi_parts.specs.Values.{deps_of, commands_of, bindings_of}
+use Rattle.zi_feed.specs.Impls.{are_alike, is_run, with_main, main_command, impl_with, impl_from}
 use Rattle.zi_feed.specs.Active.{active_deps, active_command, active_part, kept_own}
-use Rattle.zi_feed.specs.Views.{own_of, added_nothing, added_with, IsAdded, impl_at}
-use Rattle.zi_feed.proofs.TableLaws.{same_text}
+use Rattle.zi_feed.specs.Inward.{own_of, added_nothing, added_with, IsAdded, impl_at}
+use Rattle.zi_reading.proofs.TableLaws.{same_text}
 use Rattle.zi_feed.proofs.KeptLaws.{latest_again, latest_twice, any_latest, latest_map, filter_each, map_each, option_map_through}
 
 -- commands of one name are both `run`, or neither

@@ -1,26 +1,28 @@
 -- The implementations that are found inward are those of the sites.
-use Rattle.std.proofs.Common.{◌≡◌, ℕ, Bool, true, false, ◌&&◌, ◌||◌, ◌<◌, ◌≤◌, ◌+◌, List, [], ◌∷◌, ◌++◌, map, drop, length, get_or, Option, Some, None, codes, refl, sym, ap, ◌∙◌, append-nil, append_assoc}
+use Rattle.std.proofs.Common.{◌≡◌, ℕ, Bool, true, false, ◌&&◌, ◌||◌, ◌<◌, ◌≤◌, ◌+◌, List, [], ◌∷◌, ◌++◌, map, drop, length, get_or, Option, Some, None, codes, refl, sym, ap, ◌∙◌, append-nil}
 use Rattle.std.specs.Prelude.{if◌then◌else◌, not}
 use Rattle.std.specs.List.{flat_map, filter_map, cons_option, fold, list_any}
 use Rattle.std.proofs.lemmas.Bool.{false≢true}
 use Rattle.std.proofs.lemmas.List.{map-append}
 use Rattle.zi_elements.specs.declared.element.Node.{Node}
-use Rattle.zi_forest.specs.Forest.{Forest, none, words, child, Elem, elements, node_view, nodes_view}
-use Rattle.zi_feed.specs.declared.feed.Impl.{Impl}
+use Rattle.zi_elements.specs.Forest.{Forest, none, words, child, Elem, elements, node_view, nodes_view}
+use Rattle.zi_parts.specs.declared.types.Impl.{Impl}
 use Rattle.zi_policy.specs.declared.types.Policy.{Policy}
 use Rattle.zi_feed.specs.declared.along.Own.{Own}
 use Rattle.zi_feed.specs.declared.along.Added.{Added}
-use Rattle.zi_feed.specs.Texts.{same}
-use Rattle.zi_feed.specs.Words.{is_among, optional}
-use Rattle.zi_feed.specs.Sites.{Ways, Site, sites, stands, is_closed, is_unclear, is_unbuilt, is_other_step, is_ours, is, read_in, path, Said, said}
-use Rattle.zi_feed.specs.Values.{deps_of, commands_of, bindings_of}
-use Rattle.zi_feed.specs.Impls.{impl_of, impl_from}
-use Rattle.zi_feed.specs.Active.{active_part, kept_own, kept_feed}
-use Rattle.zi_feed.specs.Faults.{is_impl, counts, implementations}
+use Rattle.zi_address.specs.Texts.{same}
+use Rattle.zi_reading.specs.Words.{is_among, optional}
+use Rattle.zi_reading.specs.Ways.{Ways, InFeed}
+use Rattle.zi_reading.specs.Reading.{stands, is_closed, is_unclear, is_unbuilt, is_other_step, is_ours, is, read_in}
+use Rattle.zi_faults.specs.Sites.{Site, sites, path}
+use Rattle.zi_faults.specs.Said.{Said, said, taken, unsaid}
+use Rattle.zi_feed.specs.Impls.{impl_of}
+use Rattle.zi_feed.specs.Active.{active_part, kept_feed}
+use Rattle.zi_faults.specs.Faults.{is_impl, counts, implementations}
 use Rattle.zi_feed.specs.Feeds.{feed_of}
-use Rattle.zi_feed.specs.Views.{taken, unsaid, State, entered, impls_at, impl_at, own_of, added_nothing, added_with, carried_impls, carried_impls_in}
-use Rattle.zi_feed.proofs.TableLaws.{same_text}
-use Rattle.zi_feed.proofs.CarryLaws.{carried, given, said_path, carry_next, carry_end}
+use Rattle.zi_feed.specs.Inward.{State, entered, impls_at, impl_at, added_nothing, added_with, carried_impls, carried_impls_in}
+use Rattle.zi_reading.proofs.TableLaws.{same_text}
+use Rattle.zi_faults.proofs.CarryLaws.{carried, given, said_path, carry_next, carry_end}
 use Rattle.zi_feed.proofs.KeptLaws.{filter_map_each}
 use Rattle.zi_feed.proofs.AddedLaws.{kept_impl, kept_at, at_path}
 
@@ -301,10 +303,10 @@ impls_sites ways policy parent f =
     ∙ sites_impls (λ t. kept_impl policy (impl_of ways t)) (sites ways parent f))
 
 kept_all : (root : Elem) (uri : List ℕ) (policy : Option Policy)
-    → filter_map (λ t. kept_impl policy (impl_of (Some uri) t)) (implementations (sites (Some uri) root.name root.inside)) ≡ (kept_feed policy (feed_of root uri)).impls
+    → filter_map (λ t. kept_impl policy (impl_of (InFeed uri) t)) (implementations (sites (InFeed uri) root.name root.inside)) ≡ (kept_feed policy (feed_of root uri)).impls
 unfolding feed_of
 kept_all root uri None = refl
-kept_all root uri (Some p) = filter_map_each (active_part p) (impl_of (Some uri)) (implementations (sites (Some uri) root.name root.inside))
+kept_all root uri (Some p) = filter_map_each (active_part p) (impl_of (InFeed uri)) (implementations (sites (InFeed uri) root.name root.inside))
 
 -- What the code adds.
 pub nothing_added : (xs found : List Impl) → xs ≡ [] → found ≡ found ++ xs
@@ -330,9 +332,9 @@ impl_added ways policy s parent e found new inner added p q g i a h =
 
 pub impls_are : (root : Elem) (uri : List ℕ) (policy : Option Policy) (before found : List Impl) (inner : Said) (added : Added)
     → before ≡ [] → inner ≡ unsaid → added ≡ added_nothing
-    → found ≡ before ++ carried_impls (Some uri) policy (inner, added) root.name root.inside → found ≡ (kept_feed policy (feed_of root uri)).impls
+    → found ≡ before ++ carried_impls (InFeed uri) policy (inner, added) root.name root.inside → found ≡ (kept_feed policy (feed_of root uri)).impls
 impls_are root uri policy before found inner added b i a h =
-    h ∙ (ap (λ v. v ++ carried_impls (Some uri) policy (inner, added) root.name root.inside) b
-    ∙ (ap (λ v. carried_impls (Some uri) policy (v, added) root.name root.inside) i
-    ∙ (ap (λ v. carried_impls (Some uri) policy (unsaid, v) root.name root.inside) a
-    ∙ (impls_sites (Some uri) policy root.name root.inside ∙ kept_all root uri policy))))
+    h ∙ (ap (λ v. v ++ carried_impls (InFeed uri) policy (inner, added) root.name root.inside) b
+    ∙ (ap (λ v. carried_impls (InFeed uri) policy (v, added) root.name root.inside) i
+    ∙ (ap (λ v. carried_impls (InFeed uri) policy (unsaid, v) root.name root.inside) a
+    ∙ (impls_sites (InFeed uri) policy root.name root.inside ∙ kept_all root uri policy))))

@@ -6,7 +6,7 @@ use Rattle.std.proofs.lemmas.Bool.{false≢true}
 use Rattle.std.proofs.lemmas.List.{map-append}
 use Rattle.std.proofs.lemmas.List.Elements.{filter-append}
 use Rattle.std.proofs.lemmas.List.Folds.{list_any-append}
-use Rattle.zi_feed.specs.Words.{latest}
+use Rattle.zi_reading.specs.Words.{latest}
 
 or_true : (a : Bool) → (a || true) ≡ true
 or_true true = refl

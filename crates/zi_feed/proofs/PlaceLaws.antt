@@ -3,18 +3,21 @@ use Rattle.std.proofs.Common.{◌≡◌, ℕ, suc, zero, ◌<◌, ◌⊎◌, inl
 use Rattle.std.specs.Prelude.{if◌then◌else◌, option_map, option_and_then, is_some}
 use Rattle.std.specs.List.{filter, filter_map, flat_map, slice_get, cons_option}
 use Rattle.zi_version.specs.Range.{a_version}
-use Rattle.zi_forest.specs.Forest.{Forest, none, words, child, Elem}
-use Rattle.zi_feed.specs.Words.{is_amiss}
-use Rattle.zi_feed.specs.Forms.{is_version}
-use Rattle.zi_feed.specs.Sites.{Ways, Site, sites, stands, is_closed, under, here, path, said, is_unclear}
-use Rattle.zi_feed.specs.Impls.{impl_of, impl_from, version_text}
-use Rattle.zi_feed.specs.Faults.{is_impl, has_fault, fault_at, kinds_at, faults_with, faults_at, counts, implementations, same_ids, root_faults, repeats_in, all_kinds}
+use Rattle.zi_elements.specs.Forest.{Forest, none, words, child, Elem}
+use Rattle.zi_reading.specs.Words.{is_amiss}
+use Rattle.zi_reading.specs.Forms.{is_version}
+use Rattle.zi_reading.specs.Ways.{Ways, InFeed}
+use Rattle.zi_reading.specs.Reading.{stands, is_closed, is_unclear}
+use Rattle.zi_faults.specs.Sites.{Site, sites, under, here, path}
+use Rattle.zi_faults.specs.Said.{said, version_text}
+use Rattle.zi_feed.specs.Impls.{impl_of, impl_from}
+use Rattle.zi_faults.specs.Faults.{is_impl, has_fault, fault_at, kinds_at, faults_with, faults_at, counts, implementations, same_ids, root_faults, repeats_in, all_kinds}
 use Rattle.zi_feed.specs.Feeds.{feed_fault, feed_of, feed_sites, all_faults}
 use Rattle.zi_feed.specs.IdLaws.{by_bool, true_false, cons_nil, none_some, some_same, or_neither, both_empty, map_nil, second_fails, unclear_false, no_faults}
-use Rattle.zi_forest.specs.Places.{places, IsBelow, AreRising}
+use Rattle.zi_elements.specs.Places.{places, IsBelow, AreRising}
 use Rattle.zi_feed.specs.Places.{impl_places, site_places, StandApart, ImplsAreInOrder}
-use Rattle.zi_feed.specs.declared.feed.Impl.{Impl}
-use Rattle.zi_feed.specs.declared.fault.FeedKind.TheVariants.{NotInterface, NoId, BadVersion, BadPart}
+use Rattle.zi_parts.specs.declared.types.Impl.{Impl}
+use Rattle.zi_faults.specs.declared.fault.FeedKind.TheVariants.{NotInterface, NoId, BadVersion, BadPart}
 
 -- What counts and has no fault has a version, and so is an implementation.
 tail_fails : {A : Type 0} (test : A → Bool) (a : A) (xs : List A) → filter test (a ∷ xs) ≡ [] → filter test xs ≡ []
@@ -144,13 +147,13 @@ unfolding feed_of
 stand_there root uri right =
     let ts : List Site = feed_sites uri root in
     let faultless : all_faults uri root ≡ [] = no_faults root uri right in
-    let p : flat_map (faults_at (Some uri)) ts ++ same_ids (map (λ t. t.element) ts) ≡ [] = (both_empty (root_faults uri root) _ faultless).1 in
-    all_places (Some uri) ts (both_empty (flat_map (faults_at (Some uri)) ts) _ p).0
+    let p : flat_map (faults_at (InFeed uri)) ts ++ same_ids (map (λ t. t.element) ts) ≡ [] = (both_empty (root_faults uri root) _ faultless).1 in
+    all_places (InFeed uri) ts (both_empty (flat_map (faults_at (InFeed uri)) ts) _ p).0
 
 stand_rising : (root : Elem) (uri : List ℕ) → feed_fault root uri ≡ None → AreRising (places root.inside) → AreRising (impl_places (feed_of root uri).impls)
 stand_rising root uri right r =
     let ts : List Site = feed_sites uri root in
-    let h : AreRising (site_places ts) = rising_among (site_places ts) (places root.inside) (read_among (Some uri) root.name root.inside) r in
+    let h : AreRising (site_places ts) = rising_among (site_places ts) (places root.inside) (read_among (InFeed uri) root.name root.inside) r in
     rw (stand_there root uri right) (rising_among (site_places (implementations ts)) (site_places ts) (counted_among ts) h)
 
 pub in_order : ImplsAreInOrder

@@ -2,9 +2,9 @@
 use Rattle.std.specs.Prelude.{List, map, filter, Option, Some, None}
 use Rattle.zi_policy.specs.declared.types.Policy.{Policy}
 use Rattle.zi_policy.specs.Platform.{is_active}
-use Rattle.zi_feed.specs.declared.feed.Dep.{Dep}
-use Rattle.zi_feed.specs.declared.feed.Command.{Command}
-use Rattle.zi_feed.specs.declared.feed.Impl.{Impl}
+use Rattle.zi_parts.specs.declared.types.Dep.{Dep}
+use Rattle.zi_parts.specs.declared.types.Command.{Command}
+use Rattle.zi_parts.specs.declared.types.Impl.{Impl}
 use Rattle.zi_feed.specs.declared.feed.Feed.{Feed}
 use Rattle.zi_feed.specs.declared.along.Own.{Own}
 

@@ -4,16 +4,19 @@ use Rattle.std.specs.Prelude.{map, drop, codes, if◌then◌else◌, option_map,
 use Rattle.std.specs.List.{list_any, filter, filter_map, flat_map, slice_get, cons_option}
 use Rattle.std.specs.Str.{bytes_eq}
 use Rattle.std.specs.Cmp.Lexicographic.{bytes_decides}
-use Rattle.zi_forest.specs.Forest.{Elem, attribute, has, value}
-use Rattle.zi_feed.specs.Texts.{same, is_none}
-use Rattle.zi_feed.specs.Words.{repeated_after}
-use Rattle.zi_feed.specs.Sites.{Ways, Site, is, is_unclear, path, said}
+use Rattle.zi_elements.specs.Forest.{Elem, attribute, has, value}
+use Rattle.zi_address.specs.Texts.{same, is_none}
+use Rattle.zi_reading.specs.Words.{repeated_after}
+use Rattle.zi_reading.specs.Ways.{Ways, InFeed}
+use Rattle.zi_reading.specs.Reading.{is, is_unclear}
+use Rattle.zi_faults.specs.Sites.{Site, path}
+use Rattle.zi_faults.specs.Said.{said}
 use Rattle.zi_feed.specs.Impls.{impl_of, impl_from}
-use Rattle.zi_feed.specs.Faults.{is_impl, share, has_fault, fault_at, kinds_at, faults_with, faults_at, counts, implementations, same_ids, root_faults, repeats_in, lesser, least, is_first, all_kinds}
+use Rattle.zi_faults.specs.Faults.{is_impl, share, has_fault, fault_at, kinds_at, faults_with, faults_at, counts, implementations, same_ids, root_faults, repeats_in, lesser, least, is_first, all_kinds}
 use Rattle.zi_feed.specs.Feeds.{feed_fault, feed_of, feed_sites, all_faults}
-use Rattle.zi_feed.specs.declared.feed.Impl.{Impl}
-use Rattle.zi_feed.specs.declared.fault.Fault.{Fault}
-use Rattle.zi_feed.specs.declared.fault.FeedKind.TheVariants.{NoId, NotInterface, BadPart}
+use Rattle.zi_parts.specs.declared.types.Impl.{Impl}
+use Rattle.zi_faults.specs.declared.fault.Fault.{Fault}
+use Rattle.zi_faults.specs.declared.fault.FeedKind.TheVariants.{NoId, NotInterface, BadPart}
 
 -- each id stands once
 abbrev pub AreDistinct : List Impl → Type 0
@@ -196,7 +199,7 @@ unfolding feed_of same_ids
 ids_distinct root uri right =
     let ts : List Site = feed_sites uri root in
     let none : all_faults uri root ≡ [] = no_faults root uri right in
-    let p : flat_map (faults_at (Some uri)) ts ++ same_ids (map (λ t. t.element) ts) ≡ [] = (both_empty (root_faults uri root) _ none).1 in
-    let q : (flat_map (faults_at (Some uri)) ts ≡ []) × (same_ids (map (λ t. t.element) ts) ≡ []) = both_empty (flat_map (faults_at (Some uri)) ts) _ p in
+    let p : flat_map (faults_at (InFeed uri)) ts ++ same_ids (map (λ t. t.element) ts) ≡ [] = (both_empty (root_faults uri root) _ none).1 in
+    let q : (flat_map (faults_at (InFeed uri)) ts ≡ []) × (same_ids (map (λ t. t.element) ts) ≡ []) = both_empty (flat_map (faults_at (InFeed uri)) ts) _ p in
     let once : repeated_after (share (codes "id")) [] (counted ts) ≡ [] = map_nil _ _ q.1 in
-    distinct (impls_in (Some uri) ts) (all_from (Some uri) [] ts q.0 once).apart
+    distinct (impls_in (InFeed uri) ts) (all_from (InFeed uri) [] ts q.0 once).apart

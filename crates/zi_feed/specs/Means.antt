@@ -1,11 +1,11 @@
 -- What an answer means.
 use Rattle.std.specs.Prelude.{◌≡◌, Bool, not, ◌&&◌, List, ℕ, Option, Some, None, Result, Ok, Err}
-use Rattle.zi_forest.specs.Forest.{Elem}
-use Rattle.zi_feed.specs.Words.{is_among}
-use Rattle.zi_feed.specs.Sites.{is, is_ours, is_left_out, binding_names}
-use Rattle.zi_feed.specs.declared.fault.Fault.{Fault}
-use Rattle.zi_feed.specs.declared.fault.FeedFault.{FeedFault}
-use Rattle.zi_feed.specs.declared.fault.FeedFault.TheVariants.{Bad, Memory}
+use Rattle.zi_elements.specs.Forest.{Elem}
+use Rattle.zi_reading.specs.Words.{is_among}
+use Rattle.zi_reading.specs.Reading.{is, is_ours, is_left_out, binding_names}
+use Rattle.zi_faults.specs.declared.fault.Fault.{Fault}
+use Rattle.zi_faults.specs.declared.fault.FeedFault.{FeedFault}
+use Rattle.zi_faults.specs.declared.fault.FeedFault.TheVariants.{Bad, Memory}
 
 -- the value where there is no fault, and else the fault; want of memory says nothing
 abbrev pub Reads : {X : Type 0} → Option Fault → X → Result X FeedFault → Type 0

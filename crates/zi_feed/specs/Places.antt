@@ -1,12 +1,12 @@
 -- Where the implementations of a feed stand.
 use Rattle.std.specs.Prelude.{ℕ, ◌≡◌, List, map, Some, None}
 use Rattle.std.specs.List.{slice_get}
-use Rattle.zi_forest.specs.Forest.{Elem}
-use Rattle.zi_forest.specs.Places.{places, AreRising}
-use Rattle.zi_feed.specs.Sites.{Site}
-use Rattle.zi_feed.specs.Faults.{implementations}
+use Rattle.zi_elements.specs.Forest.{Elem}
+use Rattle.zi_elements.specs.Places.{places, AreRising}
+use Rattle.zi_faults.specs.Sites.{Site}
+use Rattle.zi_faults.specs.Faults.{implementations}
 use Rattle.zi_feed.specs.Feeds.{feed_fault, feed_of, feed_sites}
-use Rattle.zi_feed.specs.declared.feed.Impl.{Impl}
+use Rattle.zi_parts.specs.declared.types.Impl.{Impl}
 
 abbrev pub impl_places : List Impl → List ℕ
 impl_places = map (λ i. i.place)

@@ -2,21 +2,21 @@
 //! adds it.
 ghost use Rattle.std.specs.Prelude.{◌≡◌, ◌++◌, ◌||◌, IfOk, MatchOption, map, length, reverse, option_copied};
 ghost use Rattle.std.specs.List.{list_any};
-ghost use Rattle.zi_forest.specs.Forest.{element_view};
+ghost use Rattle.zi_elements.specs.Forest.{element_view};
 ghost use Rattle.zi_policy.specs.Platform.{is_active};
-ghost use Rattle.zi_feed.specs.Words.{latest};
+ghost use Rattle.zi_reading.specs.Ways.{ways_of};
+ghost use Rattle.zi_reading.specs.Words.{latest};
 ghost use Rattle.zi_feed.specs.Impls.{are_alike, main_command, is_run, with_main};
 ghost use Rattle.zi_feed.specs.Active.{active_deps, active_command, kept_own};
-ghost use Rattle.zi_feed.specs.Views.{own_of, added_nothing, added_with, IsAdded};
+ghost use Rattle.zi_feed.specs.Inward.{own_of, added_nothing, added_with, IsAdded};
 
-use crate::feed::{Binding, Command, Dep};
-use crate::parts::{bindings_of, commands_of, deps_of};
-use crate::reading::{is_text, parts};
 use std::alloc::Global;
 use std::collections::BTreeSet;
 use zi_elements::Element;
 use zi_inherited::{Inherited, Shared};
+use zi_parts::{Binding, Command, Dep, bindings_of, commands_of, deps_of};
 use zi_policy::{Policy, active};
+use zi_reading::{Ways, is_text, parts};
 use zi_text::{List, Memory, Text};
 
 /// What a group or an implementation adds to what it takes from the groups around it.
@@ -104,8 +104,8 @@ fn kept_own(alloc: Global, policy: Option<&Policy>, own: Own) -> Result<Own, Mem
 }
 
 // What an element adds.
-fn all_of(alloc: Global, ways: Option<&str>, e: &Element) -> Result<Own, Memory>
-    ensures { IfOk result (λ o. o ≡ own_of (option_copied ways.entry) (element_view e.now)) }
+fn all_of(alloc: Global, ways: Ways, e: &Element) -> Result<Own, Memory>
+    ensures { IfOk result (λ o. o ≡ own_of (ways_of ways.entry) (element_view e.now)) }
 {
     let parts = parts(alloc, ways, e)?;
     let deps = deps_of(alloc, ways, parts.as_slice())?;
@@ -121,11 +121,11 @@ fn all_of(alloc: Global, ways: Option<&str>, e: &Element) -> Result<Own, Memory>
 /// What an element adds that is active under a policy; all of it where there is none.
 pub fn own_of(
     alloc: Global,
-    ways: Option<&str>,
+    ways: Ways,
     policy: Option<&Policy>,
     e: &Element,
 ) -> Result<Own, Memory>
-    ensures { IfOk result (λ o. o ≡ kept_own (option_copied policy.entry) (own_of (option_copied ways.entry) (element_view e.now))) }
+    ensures { IfOk result (λ o. o ≡ kept_own (option_copied policy.entry) (own_of (ways_of ways.entry) (element_view e.now))) }
 {
     let own = all_of(alloc, ways, e)?;
     kept_own(alloc, policy, own)

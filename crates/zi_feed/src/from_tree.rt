@@ -1,21 +1,24 @@
 ghost use Rattle.std.specs.Prelude.{◌≡◌, true, IfOk, Some, None, codes, option_copied};
-ghost use Rattle.zi_forest.specs.Forest.{element_view};
+ghost use Rattle.zi_elements.specs.Forest.{element_view};
+ghost use Rattle.zi_reading.specs.Ways.{AsWritten};
 ghost use Rattle.zi_feed.specs.Active.{active_feed, kept_feed};
 ghost use Rattle.zi_feed.specs.Feeds.{feed_fault, feed_of, part_fault};
-ghost use Rattle.zi_feed.specs.Impls.{said_digests};
+ghost use Rattle.zi_parts.specs.Digests.{said_digests};
 ghost use Rattle.zi_feed.specs.Means.{Reads, counts_as, counts_as_binding};
-ghost use Rattle.zi_feed.specs.Values.{binding_of, dep_of, command_of};
-ghost use Rattle.zi_feed.specs.declared.fault.FeedFault.TheVariants.{Bad};
+ghost use Rattle.zi_feed.specs.Shares.{AreShared, feed_in};
+ghost use Rattle.zi_parts.specs.Values.{binding_of, dep_of, command_of};
+ghost use Rattle.zi_faults.specs.declared.fault.FeedFault.TheVariants.{Bad};
 
-use crate::fault::{Fault, FeedFault};
-use crate::feed::{Binding, Command, Dep, Feed};
-use crate::reading::{is, is_binding, is_left_out, is_ours};
-use crate::{digests, finding, parts};
+use crate::feed::Feed;
+use crate::finding;
+use crate::shares::ReadFeed;
 use std::alloc::Global;
 use zi_digest::DigestName;
-use zi_elements::Element;
-use zi_forest::Document;
+use zi_elements::{Document, Element};
+use zi_faults::{Fault, FeedFault};
+use zi_parts::{Binding, Command, Dep};
 use zi_policy::Policy;
+use zi_reading::{Ways, is, is_binding, is_left_out, is_ours};
 use zi_text::{List, Memory};
 
 // The answer of a fault.
@@ -28,16 +31,18 @@ fn bad(fault: Fault) -> FeedFault
     }
 }
 
-// The feed that a document's root says, with what is active of it under a policy; all of it where there is none.
+// The feed that a document's root says, with what is active of it under a policy; all of it where there is none. Beside it stands
+// what its implementations share.
 fn from_root(
     alloc: Global,
     root: &Element,
     uri: &str,
     policy: Option<&Policy>,
-) -> Result<Feed, FeedFault>
-    ensures { Reads (feed_fault (element_view root.now) uri.now) (kept_feed (option_copied policy.entry) (feed_of (element_view root.now) uri.now)) result }
+) -> Result<ReadFeed, FeedFault>
+    ensures reads { Reads (feed_fault (element_view root.now) uri.now) (kept_feed (option_copied policy.entry) (feed_of (element_view root.now) uri.now)) (feed_in result) }
+    ensures shares { IfOk result (λ r. AreShared r.shares r.feed.impls) }
 {
-    let seen = finding::seen_in(alloc, Some(uri), root)?;
+    let seen = finding::seen_in(alloc, Ways::InFeed(uri), root)?;
     if let Some(fault) = finding::feed_fault(alloc, root, uri, seen.as_slice())? {
         return Err(bad(fault));
     }
@@ -51,17 +56,22 @@ impl Feed {
     pub fn from_tree(alloc: Global, tree: &Document, uri: &str) -> Result<Feed, FeedFault>
         ensures { Reads (feed_fault (element_view tree.now) uri.now) (feed_of (element_view tree.now) uri.now) result }
     {
-        from_root(alloc, tree.root(), uri, None)
+        match from_root(alloc, tree.root(), uri, None) {
+            Ok(ReadFeed { feed, .. }) => Ok(feed),
+            Err(fault) => Err(fault),
+        }
     }
 
-    /// The same, with the dependencies alone that are active under a policy, in commands too.
+    /// The same, with the dependencies alone that are active under a policy, in commands too, and with what its implementations
+    /// share.
     pub fn active_from_tree(
         alloc: Global,
         tree: &Document,
         uri: &str,
         policy: &Policy,
-    ) -> Result<Feed, FeedFault>
-        ensures { Reads (feed_fault (element_view tree.now) uri.now) (active_feed policy.now (feed_of (element_view tree.now) uri.now)) result }
+    ) -> Result<ReadFeed, FeedFault>
+        ensures reads { Reads (feed_fault (element_view tree.now) uri.now) (active_feed policy.now (feed_of (element_view tree.now) uri.now)) (feed_in result) }
+        ensures shares { IfOk result (λ r. AreShared r.shares r.feed.impls) }
     {
         from_root(alloc, tree.root(), uri, Some(policy))
     }
@@ -92,7 +102,7 @@ pub fn binding_of(alloc: Global, e: &Element) -> Result<Binding, FeedFault>
     if let Some(fault) = finding::part_fault(alloc, e)? {
         return Err(bad(fault));
     }
-    Ok(parts::binding_of(alloc, e)?)
+    Ok(zi_parts::binding_of(alloc, e)?)
 }
 
 /// The digests that a `manifest-digest` says, in the order of use, or its fault. Its condition `if-0install-version`
@@ -104,29 +114,29 @@ pub fn digests_of(alloc: Global, e: &Element) -> Result<List<DigestName>, FeedFa
     if let Some(fault) = finding::part_fault(alloc, e)? {
         return Err(bad(fault));
     }
-    Ok(digests::said_digests(alloc, e)?)
+    Ok(zi_parts::said_digests(alloc, e)?)
 }
 
 /// The dependency that a `requires` of a selections document means, its address as it is written and without restrictions,
 /// or the fault of it and all in it. Its condition `if-0install-version` doesn't leave it out. Memory is the other refusal.
 pub fn dep_of(alloc: Global, e: &Element) -> Result<Dep, FeedFault>
     requires { counts_as (codes "requires") (element_view e.now) ≡ true }
-    ensures { Reads (part_fault (element_view e.now)) (dep_of None (element_view e.now)) result }
+    ensures { Reads (part_fault (element_view e.now)) (dep_of AsWritten (element_view e.now)) result }
 {
     if let Some(fault) = finding::part_fault(alloc, e)? {
         return Err(bad(fault));
     }
-    Ok(parts::dep_of(alloc, None, e)?)
+    Ok(zi_parts::dep_of(alloc, Ways::AsWritten, e)?)
 }
 
 /// The command that a `command` of a selections document means, addresses as they are written and without restrictions, or
 /// the fault of it and all in it. Its condition `if-0install-version` doesn't leave it out. Memory is the other refusal.
 pub fn command_of(alloc: Global, e: &Element) -> Result<Command, FeedFault>
     requires { counts_as (codes "command") (element_view e.now) ≡ true }
-    ensures { Reads (part_fault (element_view e.now)) (command_of None (element_view e.now)) result }
+    ensures { Reads (part_fault (element_view e.now)) (command_of AsWritten (element_view e.now)) result }
 {
     if let Some(fault) = finding::part_fault(alloc, e)? {
         return Err(bad(fault));
     }
-    Ok(parts::command_of(alloc, None, e)?)
+    Ok(zi_parts::command_of(alloc, Ways::AsWritten, e)?)
 }

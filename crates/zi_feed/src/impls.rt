@@ -1,30 +1,33 @@
 //! What implementations and imports mean.
-ghost use Rattle.std.specs.Prelude.{◌≡◌, ◌||◌, IfOk, codes, option_copied, option_and_then, unwrap_or};
+ghost use Rattle.std.specs.Prelude.{◌≡◌, IfOk, option_copied, option_and_then, unwrap_or};
 ghost use Rattle.std.specs.List.{filter_map};
 ghost use Rattle.zi_version.specs.Range.{a_version};
-ghost use Rattle.zi_forest.specs.Forest.{element_view, attribute, has, value};
+ghost use Rattle.zi_elements.specs.Forest.{element_view};
 ghost use Rattle.zi_policy.specs.Platform.{arch_of};
 ghost use Rattle.zi_policy.specs.declared.types.Stability.TheVariants.{Testing};
-ghost use Rattle.zi_feed.specs.Forms.{stability_of};
-ghost use Rattle.zi_feed.specs.Sites.{parts as parts_in};
-ghost use Rattle.zi_feed.specs.Impls.{digests_of, method_of, version_text, begins_path, own_path, local_of, langs_of, impl_with, impl_from, import_of};
-ghost use Rattle.zi_feed.specs.Views.{said_by, made_of, IsAdded, impl_at};
+ghost use Rattle.zi_reading.specs.Ways.{ways_of};
+ghost use Rattle.zi_reading.specs.Forms.{stability_of};
+ghost use Rattle.zi_reading.specs.Reading.{parts as parts_in};
+ghost use Rattle.zi_parts.specs.Digests.{digests_of};
+ghost use Rattle.zi_parts.specs.Methods.{method_of};
+ghost use Rattle.zi_faults.specs.Said.{version_text};
+ghost use Rattle.zi_faults.specs.Carrying.{said_by};
+ghost use Rattle.zi_feed.specs.Impls.{local_of, langs_of, impl_with, import_of};
+ghost use Rattle.zi_feed.specs.Inward.{made_of, IsAdded, impl_at};
 
 use crate::along::commands_along;
 use crate::around::Around;
-use crate::digests::digests_of;
-use crate::feed::{Impl, Import, Method};
-use crate::forms::stability_of;
-use crate::made::{arch_in, copied_arch, langs_of, placed_in};
-use crate::methods::methods_of;
-use crate::parts::{address_in, copied, value_text};
-use crate::reading::{attribute, attribute_text, has, lent, parts, value};
-use crate::walk::Carried;
+use crate::made::{arch_in, langs_of, placed_in};
 use std::alloc::Global;
 use zi_digest::DigestName;
 use zi_elements::Element;
+use zi_faults::own_path;
 use zi_inherited::Shared;
+use zi_parts::{
+    Impl, Import, Method, address_in, copied, copied_arch, digests_of, methods_of, value_text,
+};
 use zi_policy::Stability;
+use zi_reading::{Ways, attribute, lent, parts, stability_of};
 use zi_text::{List, Memory, Text};
 use zi_version::Version;
 
@@ -40,8 +43,8 @@ fn stability_in(text: Option<&str>) -> Stability
 
 /// The import that an element means.
 #[tactic(auto, unfolding(crate::specs::Impls::import_of))]
-pub fn import_of(alloc: Global, ways: Option<&str>, e: &Element) -> Result<Import, Memory>
-    ensures { IfOk result (λ i. i ≡ import_of (option_copied ways.entry) (element_view e.now)) }
+pub fn import_of(alloc: Global, ways: Ways, e: &Element) -> Result<Import, Memory>
+    ensures { IfOk result (λ i. i ≡ import_of (ways_of ways.entry) (element_view e.now)) }
 {
     let uri = address_in(alloc, ways, "src", e)?;
     let arch = arch_in(alloc, attribute(e, "arch"))?;
@@ -49,55 +52,10 @@ pub fn import_of(alloc: Global, ways: Option<&str>, e: &Element) -> Result<Impor
     Ok(Import { uri, arch, langs })
 }
 
-/// Whether an element says a version or a modifier of it.
-pub fn says_version(e: &Element) -> bool
-    ensures { result ≡ (has (codes "version") (element_view e.now) || has (codes "version-modifier") (element_view e.now)) }
-{
-    has(e, "version") || has(e, "version-modifier")
-}
-
-/// The text of a version with its modifier, where there is one.
-pub fn version_text(alloc: Global, said: &Carried) -> Result<Option<Text>, Memory>
-    ensures { IfOk result (λ t. t ≡ version_text (said_by said.now)) }
-{
-    let Some(version) = said.version else {
-        return Ok(None);
-    };
-    let mut text = version.copy(alloc)?;
-    if let Some(modifier) = said.modifier {
-        text.push_str(modifier.as_str())?;
-    }
-    Ok(Some(text))
-}
-
-// Whether a text begins with a dot or a slash.
-fn begins_path(text: &str) -> bool
-    ensures { result ≡ begins_path text.now }
-{
-    let bytes = text.as_bytes();
-    bytes.starts_with(b".") || bytes.starts_with(b"/")
-}
-
-/// The path that the id of an implementation is, where it is one.
-pub fn own_path(e: &Element) -> Option<&Text>
-    ensures { option_copied result ≡ own_path (element_view e.now) }
-{
-    if begins_path(value(e, "id")) {
-        attribute_text(e, "id")
-    } else {
-        None
-    }
-}
-
 // Where an implementation lies, in a feed that is local.
-fn local_of(
-    alloc: Global,
-    ways: Option<&str>,
-    around: &Around,
-    e: &Element,
-) -> Result<Option<Text>, Memory>
-    requires { around.now.made ≡ made_of (option_copied ways) (said_by around.now.said) }
-    ensures { IfOk result (λ t. t ≡ local_of (option_copied ways.entry) (said_by around.now.said) (element_view e.now)) }
+fn local_of(alloc: Global, ways: Ways, around: &Around, e: &Element) -> Result<Option<Text>, Memory>
+    requires { around.now.made ≡ made_of (ways_of ways) (said_by around.now.said) }
+    ensures { IfOk result (λ t. t ≡ local_of (ways_of ways.entry) (said_by around.now.said) (element_view e.now)) }
 {
     match around.said.local_path {
         Some(_) => copied(alloc, around.made.local.as_ref()),
@@ -113,12 +71,12 @@ struct Sources {
 }
 
 // How an element says that it is fetched.
-fn sources_of(alloc: Global, ways: Option<&str>, e: &Element) -> Result<Sources, Memory>
+fn sources_of(alloc: Global, ways: Ways, e: &Element) -> Result<Sources, Memory>
     ensures { IfOk result
         (λ f. f
         ≡ record {
-          digests = digests_of (option_copied ways.entry) (element_view e.now);
-          methods = filter_map (method_of (option_copied ways.entry)) (parts_in (option_copied ways.entry) (element_view e.now));
+          digests = digests_of (ways_of ways.entry) (element_view e.now);
+          methods = filter_map (method_of (ways_of ways.entry)) (parts_in (ways_of ways.entry) (element_view e.now));
         }) }
 {
     let parts = parts(alloc, ways, e)?;
@@ -131,7 +89,7 @@ fn sources_of(alloc: Global, ways: Option<&str>, e: &Element) -> Result<Sources,
 // The implementation of an element, of this version.
 fn impl_with(
     alloc: Global,
-    ways: Option<&str>,
+    ways: Ways,
     around: &Around,
     e: &Element,
     version: Version,
@@ -139,10 +97,10 @@ fn impl_with(
     requires added { IsAdded around.now.added }
     requires arch { around.now.made.arch ≡ option_and_then arch_of (said_by around.now.said).arch }
     requires langs { around.now.made.langs ≡ langs_of (said_by around.now.said).langs }
-    requires made { around.now.made ≡ made_of (option_copied ways) (said_by around.now.said) }
+    requires made { around.now.made ≡ made_of (ways_of ways) (said_by around.now.said) }
     ensures { IfOk result
         (λ i. i
-        ≡ impl_with (option_copied ways.entry) (said_by around.now.said) around.now.added.deps around.now.added.commands around.now.added.bindings
+        ≡ impl_with (ways_of ways.entry) (said_by around.now.said) around.now.added.deps around.now.added.commands around.now.added.bindings
         (element_view e.now) version) }
 {
     let Sources { digests, methods } = sources_of(alloc, ways, e)?;
@@ -166,17 +124,17 @@ fn impl_with(
 
 /// The implementation of an element, where this stands along its path, itself included; none where its version is none, which
 /// is a fault.
-#[tactic(auto, unfolding(crate::specs::Impls::impl_from, crate::specs::Views::impl_at))]
+#[tactic(auto, unfolding(crate::specs::Impls::impl_from, crate::specs::Inward::impl_at))]
 pub fn impl_at(
     alloc: Global,
-    ways: Option<&str>,
+    ways: Ways,
     around: &Around,
     e: &Element,
 ) -> Result<Option<Impl>, Memory>
     requires added { IsAdded around.now.added }
     requires version { around.now.made.version ≡ option_and_then a_version (version_text (said_by around.now.said)) }
-    requires made { around.now.made ≡ made_of (option_copied ways) (said_by around.now.said) }
-    ensures { IfOk result (λ i. i ≡ impl_at (option_copied ways.entry) (said_by around.now.said) around.now.added (element_view e.now)) }
+    requires made { around.now.made ≡ made_of (ways_of ways) (said_by around.now.said) }
+    ensures { IfOk result (λ i. i ≡ impl_at (ways_of ways.entry) (said_by around.now.said) around.now.added (element_view e.now)) }
 {
     match &around.made.version {
         Some(version) => {

@@ -1,22 +1,23 @@
 //! What is made of what is said along a path: once for the element that says it, and then shared.
 ghost use Rattle.std.specs.Prelude.{◌≡◌, IfOk, option_copied, option_and_then};
 ghost use Rattle.zi_version.specs.Range.{a_version};
-ghost use Rattle.zi_forest.specs.Forest.{element_view};
+ghost use Rattle.zi_elements.specs.Forest.{element_view};
 ghost use Rattle.zi_policy.specs.Platform.{arch_of};
-ghost use Rattle.zi_feed.specs.Impls.{version_text, langs_of};
-ghost use Rattle.zi_feed.specs.Views.{said_by, unsaid, taken, placed_in, made_of};
+ghost use Rattle.zi_reading.specs.Ways.{ways_of};
+ghost use Rattle.zi_faults.specs.Said.{version_text, unsaid, taken};
+ghost use Rattle.zi_faults.specs.Carrying.{said_by};
+ghost use Rattle.zi_feed.specs.Impls.{langs_of};
+ghost use Rattle.zi_feed.specs.Inward.{placed_in, made_of};
 
-use crate::address::{is_local, place};
 use crate::around::Around;
-use crate::forms::{version_of, words_in};
-use crate::impls::{says_version, version_text};
-use crate::parts::copied;
-use crate::reading::{has, lent};
-use crate::walk::Carried;
 use std::alloc::Global;
+use zi_address::{is_local, place};
 use zi_elements::Element;
+use zi_faults::{Carried, says_version, version_text};
 use zi_inherited::Shared;
+use zi_parts::{copied, copied_arch};
 use zi_policy::Arch;
+use zi_reading::{Ways, has, lent, version_of, words_in};
 use zi_text::{List, Memory, Text};
 use zi_version::Version;
 
@@ -64,14 +65,10 @@ fn version_along(alloc: Global, said: &Carried) -> Result<Option<Version>, Memor
 }
 
 /// Where a local path lies, in a feed that is local.
-pub fn placed_in(
-    alloc: Global,
-    ways: Option<&str>,
-    text: Option<&str>,
-) -> Result<Option<Text>, Memory>
-    ensures { IfOk result (λ t. t ≡ placed_in (option_copied ways.entry) (option_copied text.entry)) }
+pub fn placed_in(alloc: Global, ways: Ways, text: Option<&str>) -> Result<Option<Text>, Memory>
+    ensures { IfOk result (λ t. t ≡ placed_in (ways_of ways.entry) (option_copied text.entry)) }
 {
-    let Some(uri) = ways else {
+    let Ways::InFeed(uri) = ways else {
         return Ok(None);
     };
     if !is_local(uri) {
@@ -83,22 +80,12 @@ pub fn placed_in(
     }
 }
 
-// The same version once more, where there is one.
-fn copied_version(alloc: Global, version: &Option<Version>) -> Result<Option<Version>, Memory>
+/// The same version once more, where there is one.
+pub fn copied_version(alloc: Global, version: &Option<Version>) -> Result<Option<Version>, Memory>
     ensures { IfOk result (λ v. v ≡ version.now) }
 {
     match version {
         Some(version) => Ok(Some(version.copy(alloc)?)),
-        None => Ok(None),
-    }
-}
-
-/// The same platform once more, where there is one.
-pub fn copied_arch(alloc: Global, arch: &Option<Arch>) -> Result<Option<Arch>, Memory>
-    ensures { IfOk result (λ a. a ≡ arch.now) }
-{
-    match arch {
-        Some(arch) => Ok(Some(arch.copy(alloc)?)),
         None => Ok(None),
     }
 }
@@ -158,14 +145,14 @@ fn langs_made(
 // Where the local path lies there.
 fn local_made(
     alloc: Global,
-    ways: Option<&str>,
+    ways: Ways,
     outer: &Around,
     said: &Carried,
     e: &Element,
 ) -> Result<Option<Text>, Memory>
     requires said { said_by said.now ≡ taken (said_by outer.now.said) (element_view e.now) }
-    requires made { outer.now.made.local ≡ placed_in (option_copied ways) (said_by outer.now.said).local_path }
-    ensures { IfOk result (λ t. t ≡ placed_in (option_copied ways.entry) (said_by said.now).local_path) }
+    requires made { outer.now.made.local ≡ placed_in (ways_of ways) (said_by outer.now.said).local_path }
+    ensures { IfOk result (λ t. t ≡ placed_in (ways_of ways.entry) (said_by said.now).local_path) }
 {
     if has(e, "local-path") {
         return placed_in(alloc, ways, lent(said.local_path));
@@ -174,8 +161,8 @@ fn local_made(
 }
 
 /// What is made where nothing is said.
-pub fn made_nothing(alloc: Global, ways: Option<&str>) -> Result<Made, Memory>
-    ensures { IfOk result (λ m. m ≡ made_of (option_copied ways.entry) unsaid) }
+pub fn made_nothing(alloc: Global, ways: Ways) -> Result<Made, Memory>
+    ensures { IfOk result (λ m. m ≡ made_of (ways_of ways.entry) unsaid) }
 {
     let none = List::new(alloc);
     let langs = Shared::new(alloc, none)?;
@@ -190,14 +177,14 @@ pub fn made_nothing(alloc: Global, ways: Option<&str>) -> Result<Made, Memory>
 /// What is made at an element where this is said along its path, and this stands around it: anew what the element says itself.
 pub fn made_at(
     alloc: Global,
-    ways: Option<&str>,
+    ways: Ways,
     outer: &Around,
     said: &Carried,
     e: &Element,
 ) -> Result<Made, Memory>
     requires said { said_by said.now ≡ taken (said_by outer.now.said) (element_view e.now) }
-    requires made { outer.now.made ≡ made_of (option_copied ways) (said_by outer.now.said) }
-    ensures { IfOk result (λ m. m ≡ made_of (option_copied ways.entry) (said_by said.now)) }
+    requires made { outer.now.made ≡ made_of (ways_of ways) (said_by outer.now.said) }
+    ensures { IfOk result (λ m. m ≡ made_of (ways_of ways.entry) (said_by said.now)) }
 {
     let version = version_made(alloc, outer, said, e)?;
     let arch = arch_made(alloc, outer, said, e)?;

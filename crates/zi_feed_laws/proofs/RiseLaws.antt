@@ -1,8 +1,8 @@
 -- The places of the elements of a document rise, so those of the implementations of its feed do.
 use Rattle.std.proofs.Common.{◌≡◌, ℕ, List, None, subst}
 use Rattle.zi_elements.specs.declared.element.Element.{Element}
-use Rattle.zi_forest.specs.Forest.{Forest, element_view, whole}
-use Rattle.zi_forest.specs.Places.{places, AreRising}
+use Rattle.zi_elements.specs.Forest.{Forest, element_view, whole}
+use Rattle.zi_elements.specs.Places.{places, AreRising}
 use Rattle.zi_xml.proofs.CharLemmas.{append_none}
 use Rattle.zi_xml.specs.Documents as documents
 use Rattle.zi_doc.specs.Documents.{Spells}

@@ -2,8 +2,8 @@
 //! The law is a function without parameters and with no work to do, whose clauses are what it says.
 ghost use Rattle.std.specs.Prelude.{◌≡◌, ℕ, List, None};
 ghost use Rattle.zi_elements.specs.declared.element.Element.{Element};
-ghost use Rattle.zi_forest.specs.Forest.{element_view};
-ghost use Rattle.zi_forest.specs.Places.{AreRising};
+ghost use Rattle.zi_elements.specs.Forest.{element_view};
+ghost use Rattle.zi_elements.specs.Places.{AreRising};
 ghost use Rattle.zi_doc.specs.Documents.{Spells};
 ghost use Rattle.zi_feed.specs.Feeds.{feed_fault, feed_of};
 ghost use Rattle.zi_feed.specs.Places.{impl_places, StandApart};

@@ -16,7 +16,7 @@ use Rattle.zi_store.proofs.KeepingLemmas.{keeps_none}
 use Rattle.zi_words.specs.declared.request.Ask.{Ask}
 use Rattle.zi_universe.specs.Naming.{with_one, joined}
 use Rattle.zi_universe.proofs.NamingLemmas.{joined_from, listed-without_repeats, listed-with_one, bytes_eq-true}
-use Rattle.zi_feed.specs.Words.{first}
+use Rattle.zi_reading.specs.Words.{first}
 use Rattle.zi_sels.specs.declared.types.Selection.{Selection}
 use Rattle.zi_sels.specs.Written.{document}
 use Rattle.zi_adding.specs.Trying.{Tried, IsDone, Adds, CostsAll}

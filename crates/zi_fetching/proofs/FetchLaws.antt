@@ -10,8 +10,8 @@ use Rattle.zi_outside.specs.Views.{Feeding}
 use Rattle.zi_shelf.specs.Shelving.{Shelving}
 use Rattle.zi_universe.specs.Naming.{with_one, joined}
 use Rattle.zi_universe.proofs.NamingLemmas.{joined-append, map-append, listed-joined_left}
-use Rattle.zi_feed.specs.Words.{first}
-use Rattle.zi_feed.specs.declared.feed.Method.{Method}
+use Rattle.zi_reading.specs.Words.{first}
+use Rattle.zi_parts.specs.declared.types.Method.{Method}
 use Rattle.zi_sels.specs.declared.types.Selection.{Selection}
 use Rattle.zi_recipe.specs.declared.fault.RecipeFault.{RecipeFault}
 use Rattle.zi_recipe.specs.Making.{Makes, Refuses}

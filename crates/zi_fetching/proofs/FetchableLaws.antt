@@ -12,10 +12,10 @@ use Rattle.zi_policy.specs.declared.types.Policy.{Policy}
 use Rattle.zi_rank.specs.declared.types.WhyNot.{WhyNot}
 use Rattle.zi_rank.specs.declared.types.WhyNot.TheVariants as why
 use Rattle.zi_rank.specs.Reasons.{why_not, first_reason, is_shunned, machine_of, runs_on, is_at_hand, is_off}
-use Rattle.zi_feed.specs.Words.{first}
+use Rattle.zi_reading.specs.Words.{first}
 use Rattle.zi_feed.specs.Active.{active_part}
 use Rattle.zi_feed.specs.declared.feed.Feed.{Feed}
-use Rattle.zi_feed.specs.declared.feed.Impl.{Impl}
+use Rattle.zi_parts.specs.declared.types.Impl.{Impl}
 use Rattle.zi_words.specs.declared.request.Ask.{Ask}
 use Rattle.zi_universe.specs.declared.types.Requirement.{Requirement}
 use Rattle.zi_universe.specs.declared.types.Candidate.{Candidate}

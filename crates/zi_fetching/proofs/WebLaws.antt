@@ -4,7 +4,7 @@ use Rattle.zi_tree.specs.Dir.{Dir}
 use Rattle.zi_digest.specs.Name.{spelling}
 use Rattle.zi_outside.specs.Views.{Feeding}
 use Rattle.zi_universe.specs.Naming.{with_one}
-use Rattle.zi_feed.specs.declared.feed.Method.{Method}
+use Rattle.zi_parts.specs.declared.types.Method.{Method}
 use Rattle.zi_sels.specs.declared.types.Selection.{Selection}
 use Rattle.zi_recipe.specs.declared.fault.RecipeFault.{RecipeFault}
 use Rattle.zi_recipe.specs.declared.fault.RecipeFault.TheVariants as fault

@@ -5,8 +5,8 @@ use Rattle.zi_digest.specs.Name.{spelling}
 use Rattle.zi_tree.specs.Dir.{Dir}
 use Rattle.zi_outside.specs.Views.{Feeding}
 use Rattle.zi_shelf.specs.Shelving.{Shelving}
-use Rattle.zi_feed.specs.Words.{first}
-use Rattle.zi_feed.specs.declared.feed.Method.{Method}
+use Rattle.zi_reading.specs.Words.{first}
+use Rattle.zi_parts.specs.declared.types.Method.{Method}
 use Rattle.zi_universe.specs.declared.types.Candidate.{Candidate}
 use Rattle.zi_universe.specs.declared.types.Interface.{Interface}
 use Rattle.zi_universe.specs.Naming.{with_one, joined}

@@ -21,7 +21,10 @@ pub fn download<F: Feeds, K: Shelf, W: Web, O: Sink>(
     out: &mut O,
 ) -> Outcome
     requires { ask.search ≤ 4000000000 }
-    ensures { Downloads ask (record { feeds = F.seen feeds.old; shelf = K.seen shelf.old; web = W.seen web.old; out = O.seen out.old }) (record { feeds = F.seen feeds.new; shelf = K.seen shelf.new; web = W.seen web.new; out = O.seen out.new }) result }
+    ensures { Downloads ask
+        (record { feeds = F.seen feeds.old; shelf = K.seen shelf.old; web = W.seen web.old; out = O.seen out.old })
+        (record { feeds = F.seen feeds.new; shelf = K.seen shelf.new; web = W.seen web.new; out = O.seen out.new })
+        result }
 {
     let chosen = match find_best(alloc, ask, feeds, shelf) {
         Ok(chosen) => chosen,

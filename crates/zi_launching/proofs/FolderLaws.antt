@@ -3,7 +3,7 @@ use Rattle.std.proofs.Common.{◌≡◌, ℕ, ◌<◌, suc, zero, inl, inr, List
 use Rattle.std.specs.List.{list_any, cons_option}
 use Rattle.std.proofs.lemmas.List.{map-append, take_more}
 use Rattle.zi_digest.specs.declared.DigestName.{DigestName}
-use Rattle.zi_feed.specs.Words.{first}
+use Rattle.zi_reading.specs.Words.{first}
 use Rattle.zi_sels.specs.declared.types.Selection.{Selection}
 use Rattle.zi_outcome.specs.declared.outcome.Outcome.{Outcome}
 use Rattle.zi_fetching.specs.Known.{Names, is_known, is_there}

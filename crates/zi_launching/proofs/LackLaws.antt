@@ -11,9 +11,9 @@ use Rattle.zi_shelf.specs.Shelving.{Shelving}
 use Rattle.zi_store.specs.declared.verdicts.Verdict.{Verdict}
 use Rattle.zi_store.specs.declared.verdicts.Verdict.TheVariants as verdict
 use Rattle.zi_digest.specs.declared.DigestName.{DigestName}
-use Rattle.zi_feed.specs.Forms.{is_path}
-use Rattle.zi_feed.specs.declared.feed.Runner.{Runner}
-use Rattle.zi_feed.specs.declared.feed.Command.{Command}
+use Rattle.zi_reading.specs.Forms.{is_path}
+use Rattle.zi_parts.specs.declared.types.Runner.{Runner}
+use Rattle.zi_parts.specs.declared.types.Command.{Command}
 use Rattle.zi_bind.specs.declared.fault.ApplyFault.{ApplyFault}
 use Rattle.zi_bind.specs.declared.fault.ApplyFault.TheVariants as apply
 use Rattle.zi_bind.specs.declared.fault.BindFault.{BindFault}

@@ -8,7 +8,8 @@ use Rattle.zi_digest.specs.Name.{spelling}
 use Rattle.zi_tree.specs.Dir.{Dir}
 use Rattle.zi_shelf.specs.Shelved.{Shelved}
 use Rattle.zi_shelf.specs.Shelving.{Shelving, Stays}
-use Rattle.zi_shelf.specs.Told.{Told, Rose}
+use Rattle.zi_text.specs.Count.{Rose}
+use Rattle.zi_shelf.specs.Told.{Told}
 use Rattle.zi_store.specs.Keeping.{Keeps, is_reading}
 use Rattle.zi_store.specs.declared.verdicts.Verdict.{Verdict}
 use Rattle.zi_store.specs.declared.verdicts.Verdict.TheVariants as verdict

@@ -8,7 +8,8 @@ use Rattle.zi_outside.specs.declared.launch.Launch.{Launch}
 use Rattle.zi_outside.specs.declared.var.Var.{Var}
 use Rattle.zi_shelf.specs.Shelved.{Shelved}
 use Rattle.zi_shelf.specs.Shelving.{Shelving}
-use Rattle.zi_shelf.specs.Told.{Told, Rose}
+use Rattle.zi_text.specs.Count.{Rose}
+use Rattle.zi_shelf.specs.Told.{Told}
 use Rattle.zi_store.specs.Keeping.{Keeps, is_names, is_reading}
 use Rattle.zi_store.specs.Verdicts.{Verifies}
 use Rattle.zi_words.specs.declared.request.Ask.{Ask}

@@ -2,7 +2,7 @@
 use Rattle.std.specs.Prelude.{◌≡◌, ◌⊎◌, ℕ, List, ◌∷◌, ◌++◌, map, find, filter_map, is_some, Option, Some, None, option_map, Result, Ok, Err, if◌then◌else◌}
 use Rattle.zi_digest.specs.declared.DigestName.{DigestName}
 use Rattle.zi_digest.specs.Name.{spelling}
-use Rattle.zi_feed.specs.Words.{first}
+use Rattle.zi_reading.specs.Words.{first}
 use Rattle.zi_sels.specs.declared.types.Selection.{Selection}
 use Rattle.zi_outcome.specs.declared.outcome.Outcome.{Outcome}
 use Rattle.zi_outcome.specs.declared.outcome.Outcome.TheVariants.{MissingTree, Memory}

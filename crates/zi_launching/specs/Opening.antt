@@ -1,7 +1,7 @@
 -- `launch`: the selections of a document are launched.
 use Rattle.std.specs.Prelude.{◌≡◌, ◌⊎◌, ℕ, ◌≤◌, ◌<◌, List, ◌∷◌, [], length, Some, None, IfSome, IsSomeAnd, Result, Ok, Err}
 use Rattle.zi_digest.specs.declared.DigestName.{DigestName}
-use Rattle.zi_outside.specs.Count.{Rose}
+use Rattle.zi_text.specs.Count.{Rose}
 use Rattle.zi_outside.specs.Views.{Feeding, holding}
 use Rattle.zi_outside.specs.Outside.{Asks}
 use Rattle.zi_outside.specs.declared.var.Var.{Var}

@@ -1,6 +1,6 @@
 //! The folders of what is selected.
 ghost use Rattle.std.specs.Prelude.{◌≡◌, None, IfOk, MatchResult, find};
-ghost use Rattle.zi_feed.specs.Words.{first};
+ghost use Rattle.zi_reading.specs.Words.{first};
 ghost use Rattle.zi_fetching.specs.Known.{is_known};
 ghost use Rattle.zi_launching.specs.Folders.{tree_of, trees_of, stored_folder, LacksFolder, FindsFolder, FindsFolders};
 

@@ -15,7 +15,7 @@ use Rattle.zi_sels.specs.declared.fault.SelsFault.TheVariants as sels
 use Rattle.zi_plan.specs.declared.fault.PlanFault.{PlanFault}
 use Rattle.zi_plan.specs.declared.fault.PlanFault.TheVariants as plan
 use Rattle.zi_doc.specs.Kinds as documents
-use Rattle.zi_feed.specs.Faults as feeds
+use Rattle.zi_faults.specs.Faults as feeds
 
 -- a fault by its kind's number and its place
 abbrev pub blamed : Fault → List ℕ

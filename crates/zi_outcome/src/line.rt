@@ -1,13 +1,13 @@
 //! The line of an outcome, put piece by piece.
 ghost use Rattle.std.specs.Prelude.{◌≡◌, ◌<◌, ◌+◌, [], ◌∷◌, ◌++◌, codes};
 ghost use Rattle.std.specs.Fmt.{decimal};
-ghost use Rattle.zi_feed.specs.Faults.{number};
+ghost use Rattle.zi_faults.specs.Faults.{number};
 ghost use Rattle.zi_outcome.specs.Line.{line_of, blamed, measure_of, number_of_sels, number_of_plan};
 ghost use Rattle.zi_outcome.specs.Writing.{PutsAll};
 
 use crate::Outcome;
 use crate::writing::put_piece;
-use zi_feed::FeedKind;
+use zi_faults::FeedKind;
 use zi_outside::{Sink, SinkFault};
 use zi_plan::PlanFault;
 use zi_sels::SelsFault;

@@ -1,7 +1,7 @@
 -- What a call that starts a program does, over what is seen of a spawner before and after.
 use Rattle.std.specs.Prelude.{◌≡◌, ℕ, Bool, true, false, List, [], ◌∷◌, ◌++◌, Option, Result, Ok, Err}
 use Rattle.std.specs.Option.{option_map}
-use Rattle.zi_outside.specs.Count.{Rose}
+use Rattle.zi_text.specs.Count.{Rose}
 use Rattle.zi_outside.specs.Plan.{FailsNext, one_more}
 use Rattle.zi_outside.specs.declared.launch.Launch.{Launch}
 use Rattle.zi_outside.specs.declared.spawner.SpawnFault.{SpawnFault}

@@ -1,4 +1,3 @@
-pub mod Count
 pub mod Failures
 pub mod Fetched
 pub mod Launched

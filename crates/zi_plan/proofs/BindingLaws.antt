@@ -5,8 +5,8 @@ use Rattle.std.specs.Option.{option_or}
 use Rattle.std.proofs.lemmas.List.{take_more, append-nil, take-append-drop}
 use Rattle.std.proofs.lemmas.Grind.{flat_map-append}
 use Rattle.zi_outside.specs.declared.var.Var.{Var}
-use Rattle.zi_feed.specs.declared.feed.Binding.{Binding}
-use Rattle.zi_feed.specs.declared.feed.Dep.{Dep}
+use Rattle.zi_parts.specs.declared.types.Binding.{Binding}
+use Rattle.zi_parts.specs.declared.types.Dep.{Dep}
 use Rattle.zi_bind.specs.Bound.{bound, with_binding, first_fault, fault_of}
 use Rattle.zi_bind.specs.Answers.{Applies}
 use Rattle.zi_bind.specs.declared.fault.ApplyFault.{ApplyFault}

@@ -5,7 +5,7 @@ use Rattle.std.specs.Borrow.{Bor}
 use Rattle.std.specs.Map.{lookup}
 use Rattle.std.proofs.lemmas.Slice.Eq.{bytes_eq-Decides}
 use Rattle.std.proofs.lemmas.List.{take_more, take_all, drop_all, map-append}
-use Rattle.zi_feed.specs.declared.feed.Command.{Command}
+use Rattle.zi_parts.specs.declared.types.Command.{Command}
 use Rattle.zi_plan.specs.declared.placing.InFolder.{InFolder}
 use Rattle.zi_plan.specs.declared.table.Wanted.{Wanted}
 use Rattle.zi_plan.specs.Placed.{Placed, placed_for}

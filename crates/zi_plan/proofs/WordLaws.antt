@@ -1,7 +1,7 @@
 -- The words of a chain, put one after another.
 use Rattle.std.proofs.Common.{◌≡◌, ℕ, suc, ◌<◌, List, [], ◌∷◌, ◌++◌, length, take, drop, map, refl, sym, ap, ◌∙◌, subst, Result, Ok, Err, append_assoc, drop-cons, get_or}
 use Rattle.std.proofs.lemmas.List.{take-append-drop, append-nil, map-append}
-use Rattle.zi_feed.specs.declared.feed.Word.{Word}
+use Rattle.zi_parts.specs.declared.types.Word.{Word}
 use Rattle.zi_bind.specs.declared.fault.BindFault.{BindFault}
 use Rattle.zi_bind.specs.declared.fault.BindFault.TheVariants as bind
 use Rattle.zi_bind.specs.Answers.{Answers, Adds}

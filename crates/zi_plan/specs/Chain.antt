@@ -3,10 +3,10 @@
 use Rattle.std.specs.Prelude.{◌≡◌, ℕ, Bool, ◌&&◌, List, [], ◌∷◌, find, bytes_eq, codes, Option, Some, None, Result, Ok, Err, unwrap_or, option_map, if◌then◌else◌}
 use Rattle.std.specs.List.{list_any}
 use Rattle.std.specs.Option.{option_or}
-use Rattle.zi_feed.specs.Words.{first}
-use Rattle.zi_feed.specs.Forms.{is_path}
-use Rattle.zi_feed.specs.declared.feed.Command.{Command}
-use Rattle.zi_feed.specs.declared.feed.Runner.{Runner}
+use Rattle.zi_reading.specs.Words.{first}
+use Rattle.zi_reading.specs.Forms.{is_path}
+use Rattle.zi_parts.specs.declared.types.Command.{Command}
+use Rattle.zi_parts.specs.declared.types.Runner.{Runner}
 use Rattle.zi_plan.specs.declared.fault.PlanFault.{PlanFault}
 use Rattle.zi_plan.specs.declared.fault.PlanFault.TheVariants as fault
 use Rattle.zi_plan.specs.Placed.{Placed, placed_for}

@@ -5,7 +5,7 @@ use Rattle.std.specs.Option.{option_or, is_some}
 use Rattle.std.specs.Borrow.{Bor}
 use Rattle.std.specs.Map.{lookup}
 use Rattle.zi_outside.specs.declared.var.Var.{Var}
-use Rattle.zi_feed.specs.declared.feed.Command.{Command}
+use Rattle.zi_parts.specs.declared.types.Command.{Command}
 use Rattle.zi_sels.specs.declared.types.Selection.{Selection}
 use Rattle.zi_plan.specs.declared.fault.PlanFault.{PlanFault}
 use Rattle.zi_plan.specs.declared.fault.PlanFault.TheVariants as fault

@@ -9,8 +9,8 @@ use crate::placing::InFolder;
 use crate::table::Table;
 use std::alloc::Global;
 use zi_bind::{ApplyFault, apply};
-use zi_feed::{Binding, Command, Dep};
 use zi_outside::Vars;
+use zi_parts::{Binding, Command, Dep};
 
 // Applies bindings with one folder.
 fn apply_in(

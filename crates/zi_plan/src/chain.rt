@@ -1,7 +1,7 @@
 //! The chain of runners is followed.
 ghost use Rattle.std.specs.Prelude.{◌≡◌, [], ◌∷◌, ◌++◌, map, IfOk, OnOk, unwrap_or, codes};
-ghost use Rattle.zi_feed.specs.Words.{first};
-ghost use Rattle.zi_feed.specs.Forms.{is_path};
+ghost use Rattle.zi_reading.specs.Words.{first};
+ghost use Rattle.zi_reading.specs.Forms.{is_path};
 ghost use Rattle.zi_plan.specs.Placed.{placed_for};
 ghost use Rattle.zi_plan.specs.Chain.{Leads, path_fault, command_fault, asked_by, last_fault, link_at, link_of};
 ghost use Rattle.zi_plan.specs.Plans.{Tells};
@@ -11,7 +11,7 @@ use crate::PlanFault;
 use crate::table::{Table, Wanted};
 use std::alloc::Global;
 use std::collections::HashSet;
-use zi_feed::{Command, Runner};
+use zi_parts::{Command, Runner};
 use zi_text::{Memory, Text};
 use zi_tree::RelPath;
 
@@ -44,7 +44,7 @@ fn asked_by(runner: &Runner) -> Wanted<'_>
 }
 
 // Whether a text is a relative path with a part.
-#[tactic(auto, unfolding(zi_feed::specs::Forms::is_path))]
+#[tactic(auto, unfolding(zi_reading::specs::Forms::is_path))]
 fn is_path(alloc: Global, text: &str) -> Result<bool, Memory>
     ensures { IfOk result (λ is. is ≡ is_path text.now) }
 {

@@ -7,7 +7,7 @@ use crate::placing::InFolder;
 use std::alloc::Global;
 use std::collections::HashMap;
 use std::marker::Model;
-use zi_feed::Command;
+use zi_parts::Command;
 use zi_text::Memory;
 
 /// A command that is wanted: the interface that it is of, and its name.

@@ -9,8 +9,8 @@ ghost use Rattle.zi_plan.specs.Steps.{link_seen};
 use crate::chain::Linked;
 use std::alloc::Global;
 use zi_bind::{BindFault, expand};
-use zi_feed::{Runner, Word};
 use zi_outside::Vars;
+use zi_parts::{Runner, Word};
 use zi_text::{List, Memory, Text};
 
 // Adds texts, one after another.

@@ -8,7 +8,7 @@ use Rattle.zi_policy.specs.declared.types.Policy.{Policy}
 use Rattle.zi_rank.specs.declared.types.Standing.{Standing}
 use Rattle.zi_rank.specs.Reasons.{is_at_hand}
 use Rattle.zi_rank.specs.Rank.{smaller, greater, marked, smaller_list, greater_list, newer, in_turn, rank_cmp, first_numbers}
-use Rattle.zi_rank.specs.Ratings.{Rated, rating_of, rated, rated_cmp}
+use Rattle.zi_rank.specs.Ratings.{Rated, rating_of, rated, rated_cmp, Numbered, numbered_cmp}
 
 all_tied : IsTotalOrder (in_turn {X = Rated} [])
 all_tied = record { antisymm = λ c d. refl; trans = λ c d e p q. p; congr = λ c d e p. refl }
@@ -58,3 +58,24 @@ rated_ranks p c d = refl
 pub rank_total : (p : Policy) → IsTotalOrder (rank_cmp p)
 unfolding rank_cmp rated_cmp rating_of
 rank_total p = on_total (rated p) rated_total
+
+-- The order by numbers in place of versions is total too.
+all_numbered : IsTotalOrder (in_turn {X = Numbered} [])
+all_numbered = record { antisymm = λ c d. refl; trans = λ c d e p q. p; congr = λ c d e p. refl }
+
+pub numbered_total : IsTotalOrder numbered_cmp
+unfolding numbered_cmp
+numbered_total =
+    then_total (on_total (λ (r : Numbered). r.0.base) nat_cmp_total) (
+    then_total (back_total (on_total (λ (r : Numbered). r.0.preferred) bool_cmp_total)) (
+    then_total (back_total (on_total (λ (r : Numbered). r.0.ready) bool_cmp_total)) (
+    then_total (back_total (on_total (λ (r : Numbered). r.0.level) nat_cmp_total)) (
+    then_total (back_total (on_total (λ (r : Numbered). r.1) nat_cmp_total)) (
+    then_total (on_total (λ (r : Numbered). r.0.os) nat_cmp_total) (
+    then_total (on_total (λ (r : Numbered). r.0.machine) nat_cmp_total) (
+    then_total (on_total (λ (r : Numbered). r.0.tags) nat_cmp_total) (
+    then_total (back_total (on_total (λ (r : Numbered). is_at_hand r.2) bool_cmp_total)) (
+    then_total (back_total (on_total (λ (r : Numbered). r.2.id) nat_list_cmp_total)) (
+    then_total
+    (then_total (on_total (λ (r : Numbered). r.2.feed) nat_list_cmp_total) (then_total (on_total (λ (r : Numbered). r.2.place) nat_cmp_total) all_numbered))
+    all_numbered))))))))))

@@ -1,10 +1,16 @@
 -- The rank by what is known once of each implementation: what a policy makes of it, its rating, and what it is itself.
-use Rattle.std.specs.Prelude.{◌≡◌, ℕ, List, [], ◌∷◌}
+use Rattle.std.specs.Prelude.{ℕ, List, [], ◌∷◌}
+use Rattle.zi_rank.specs.Languages.{base, tag, language_place}
 use Rattle.zi_policy.specs.declared.types.Policy.{Policy}
 use Rattle.zi_rank.specs.declared.types.Standing.{Standing}
+use Rattle.zi_rank.specs.declared.rating.Places.{Places}
 use Rattle.zi_rank.specs.declared.rating.Rating.{Rating}
 use Rattle.zi_rank.specs.Reasons.{is_at_hand}
 use Rattle.zi_rank.specs.Rank.{Order, smaller, greater, marked, smaller_list, greater_list, newer, in_turn, base_place, tag_place, is_preferred, is_ready, level, first_numbers, os_number, machine_number}
+
+-- the places of languages, by their bases and by whole tags
+unfoldable pub places_of : Policy → List (List ℕ) → Places
+places_of p langs = record { base = language_place base p.langs langs; tags = language_place tag p.langs langs }
 
 -- each of the components that a policy has a part in
 unfoldable pub rating_of : Policy → Standing → Rating
@@ -44,3 +50,25 @@ rated_components =
 
 unfoldable pub rated_cmp : Order Rated
 rated_cmp c d = in_turn rated_components c d
+
+-- An implementation with its rating and a number in place of its version, where a greater number stands for a newer one.
+abbrev pub Numbered : Type 0
+Numbered = Rating × ℕ × Standing
+
+abbrev pub numbered_components : List (Order Numbered)
+numbered_components =
+    smaller (λ r. r.0.base)
+    ∷ marked (λ r. r.0.preferred)
+    ∷ marked (λ r. r.0.ready)
+    ∷ greater (λ r. r.0.level)
+    ∷ greater (λ r. r.1)
+    ∷ smaller (λ r. r.0.os)
+    ∷ smaller (λ r. r.0.machine)
+    ∷ smaller (λ r. r.0.tags)
+    ∷ marked (λ r. is_at_hand r.2)
+    ∷ greater_list (λ r. r.2.id)
+    ∷ in_turn (smaller_list (λ r. r.2.feed) ∷ smaller (λ r. r.2.place) ∷ [])
+    ∷ []
+
+unfoldable pub numbered_cmp : Order Numbered
+numbered_cmp c d = in_turn numbered_components c d

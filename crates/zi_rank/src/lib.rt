@@ -8,7 +8,8 @@
 //! total, and the law. The fifth component, the first dotted list of the version, decides nothing that the whole version
 //! doesn't: that is proved (`first_decides`), and the code leaves it out. Code: `types` (what decides), `reasons` (`usable`),
 //! `languages`, `components` (the value of each), `rating` (what a policy makes of one, computed once), `order` (`compare_rated`
-//! component by component, `compare` and `before`), `laws`. Who sorts rates each implementation once, and compares by ratings.
+//! component by component, `compare` and `before`), `laws`. Who sorts rates each implementation once, numbers its version once
+//! for all that share it, and compares by ratings and numbers (`compare_numbered`).
 #![tactic(auto)]
 
 mod components;
@@ -20,7 +21,7 @@ mod reasons;
 mod types;
 
 pub use languages::place_among;
-pub use order::{before, compare, compare_rated};
-pub use rating::Rating;
+pub use order::{before, compare, compare_numbered};
+pub use rating::{Places, Rating};
 pub use reasons::usable;
 pub use types::{Standing, WhyNot};

@@ -1,7 +1,7 @@
 ghost use Rattle.std.specs.Prelude.{◌≡◌, ◌↔◌, IsTrue, drop, true};
 ghost use Rattle.zi_rank.specs.Reasons.{runs_on};
 ghost use Rattle.zi_rank.specs.Rank.{in_turn, rank_cmp, Before};
-ghost use Rattle.zi_rank.specs.Ratings.{rated_components, rated_cmp};
+ghost use Rattle.zi_rank.specs.Ratings.{rated_components, rated_cmp, numbered_cmp};
 
 use crate::rating::Rating;
 use crate::reasons::at_hand;
@@ -41,10 +41,9 @@ fn from_version(q: &Rating, c: &Standing, r: &Rating, d: &Standing) -> Ordering
     }
 }
 
-/// The order of two implementations by their ratings, which stand before them: under a policy whose ratings these are it is
-/// that of `compare`. It takes no memory.
+// The order of two implementations by their ratings, which stand before them.
 #[tactic(auto, unfolding(crate::specs::Ratings::rated_cmp))]
-pub fn compare_rated(q: &Rating, c: &Standing, r: &Rating, d: &Standing) -> Ordering
+fn compare_rated(q: &Rating, c: &Standing, r: &Rating, d: &Standing) -> Ordering
     ensures { result ≡ rated_cmp (q.now, c.now) (r.now, d.now) }
 {
     let languages = q.base.cmp(&r.base);
@@ -52,6 +51,29 @@ pub fn compare_rated(q: &Rating, c: &Standing, r: &Rating, d: &Standing) -> Orde
     let there = r.ready.cmp(&q.ready);
     let levels = r.level.cmp(&q.level);
     languages.then(mark.then(there.then(levels.then(from_version(q, c, r, d)))))
+}
+
+/// The order of two implementations by their ratings and by numbers in place of their versions, which stand before them.
+/// Under a policy whose ratings these are, and where the numbers stand to each other as the versions do, it is that of
+/// `compare`. It takes no memory, and looks into neither version.
+#[tactic(auto, unfolding(crate::specs::Ratings::numbered_cmp))]
+pub fn compare_numbered(
+    q: &Rating,
+    m: usize,
+    c: &Standing,
+    r: &Rating,
+    n: usize,
+    d: &Standing,
+) -> Ordering
+    ensures { result ≡ numbered_cmp (q.now, m, c.now) (r.now, n, d.now) }
+{
+    let languages = q.base.cmp(&r.base);
+    let mark = r.preferred.cmp(&q.preferred);
+    let there = r.ready.cmp(&q.ready);
+    let levels = r.level.cmp(&q.level);
+    let version = n.cmp(&m);
+    let rest = version.then(from_os(q, c, r, d));
+    languages.then(mark.then(there.then(levels.then(rest))))
 }
 
 /// The order of two implementations under a policy: `Less` where the first stands before the second, by the first of the

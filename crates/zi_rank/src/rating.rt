@@ -1,12 +1,34 @@
 ghost use Rattle.std.specs.Prelude.{◌≡◌};
-ghost use Rattle.zi_rank.specs.Ratings.{rating_of};
+ghost use Rattle.zi_rank.specs.Ratings.{places_of, rating_of};
 
-use crate::components::{
-    language_base, language_tag, level_number, machine_rank_number, os_rank_number, preferred,
-    ready,
-};
+use crate::components::{level_number, machine_rank_number, os_rank_number, preferred, ready};
+use crate::languages::place_among;
 use crate::types::Standing;
 use zi_policy::Policy;
+use zi_text::Text;
+
+/// Where languages stand in a policy's list. It is computed once for languages that many implementations share.
+#[derive(Clone, Copy, Debug)]
+pub struct Places {
+    /// By their bases.
+    pub base: usize,
+    /// By whole tags.
+    pub tags: usize,
+}
+
+impl Places {
+    /// The places of languages under a policy. It takes no memory.
+    #[tactic(auto, unfolding(crate::specs::Ratings::places_of))]
+    pub fn of(langs: &[Text], p: &Policy) -> Places
+        ensures { result ≡ places_of p.now langs.now }
+    {
+        let wanted = p.langs.as_slice();
+        Places {
+            base: place_among(false, wanted, langs),
+            tags: place_among(true, wanted, langs),
+        }
+    }
+}
 
 /// What a policy makes of an implementation: the components of its rank that the policy has a part in. It is computed once,
 /// and then serves each comparison.
@@ -29,19 +51,27 @@ pub struct Rating {
 }
 
 impl Rating {
-    /// The rating of an implementation under a policy. It takes no memory.
-    #[tactic(auto, unfolding(crate::specs::Ratings::rating_of))]
-    pub fn of(s: &Standing, p: &Policy) -> Rating
+    /// The rating of an implementation under a policy, where the places of its languages are known. It takes no memory.
+    #[tactic(auto, unfolding(crate::specs::Ratings::rating_of, crate::specs::Ratings::places_of))]
+    pub fn placed(places: Places, s: &Standing, p: &Policy) -> Rating
+        requires { places ≡ places_of p.now s.now.langs }
         ensures { result ≡ rating_of p.now s.now }
     {
         Rating {
-            base: language_base(s, p),
+            base: places.base,
             preferred: preferred(s),
             ready: ready(s, p),
             level: level_number(s, p),
             os: os_rank_number(s, p),
             machine: machine_rank_number(s, p),
-            tags: language_tag(s, p),
+            tags: places.tags,
         }
+    }
+
+    /// The rating of an implementation under a policy. It takes no memory.
+    pub fn of(s: &Standing, p: &Policy) -> Rating
+        ensures { result ≡ rating_of p.now s.now }
+    {
+        Rating::placed(Places::of(s.langs.as_slice(), p), s, p)
     }
 }

@@ -2,10 +2,10 @@
 use Rattle.std.proofs.Common.{◌≡◌, ℕ, ◌+◌, ◌<◌, inl, inr, List, [], ◌∷◌, ◌++◌, length, take, get_or, refl, sym, ap, subst, ◌∙◌}
 use Rattle.std.proofs.lemmas.List.{append-nil, take_more}
 use Rattle.std.proofs.lemmas.Grind.{flat_map-append}
-use Rattle.zi_outside.specs.Count.{Rose}
+use Rattle.zi_text.specs.Count.{Rose}
 use Rattle.zi_outside.specs.Views.{Feeding}
 use Rattle.zi_outside.proofs.AskingLemmas.{asks_none, asks_more}
-use Rattle.zi_feed.specs.declared.feed.Step.{Step}
+use Rattle.zi_parts.specs.declared.types.Step.{Step}
 use Rattle.zi_recipe.specs.declared.fault.RecipeFault.{RecipeFault}
 use Rattle.zi_recipe.specs.declared.fault.RecipeFault.TheVariants as fault
 use Rattle.zi_recipe.specs.Asking.{address, addresses, AreAsked, AsksAt}

@@ -13,7 +13,8 @@ use Rattle.zi_tree.specs.declared.tree.TreeNode.{TreeNode}
 use Rattle.zi_tree.specs.declared.change.TreeLimit.TheVariants.{Nodes, Depth}
 use Rattle.zi_recipe.specs.declared.fault.RecipeFault.{RecipeFault}
 use Rattle.zi_recipe.specs.declared.fault.RecipeFault.TheVariants as fault
-use Rattle.zi_recipe.specs.Limits.{nodes_limit, depth_limit, nodes_in, depth_of, passed, Passes, limit_of}
+use Rattle.zi_tree.specs.Limits.{nodes_limit, depth_limit, limit_of}
+use Rattle.zi_recipe.specs.Limits.{nodes_in, depth_of, passed, Passes}
 use Rattle.zi_recipe.specs.Levels.{folder_of, folders_among, folders_in, entries_in, all_nodes_in, levels, trees, CountsLevel, StopsCounting}
 
 abbrev entries : Dir → ℕ

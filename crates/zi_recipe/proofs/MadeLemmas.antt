@@ -8,12 +8,13 @@ use Rattle.zi_tree.specs.Paths.{found, inserted, removed}
 use Rattle.zi_tree.specs.declared.tree.TreeNode.{TreeNode}
 use Rattle.zi_tree.specs.declared.change.TreeLimit.TheVariants.{Size}
 use Rattle.zi_outside.specs.Views.{Holding, Feeding, holding}
-use Rattle.zi_feed.specs.declared.feed.Method.{Method}
-use Rattle.zi_feed.specs.declared.feed.Step.{Step}
-use Rattle.zi_feed.specs.declared.feed.Step.TheVariants.{File, Rename, Remove}
+use Rattle.zi_parts.specs.declared.types.Method.{Method}
+use Rattle.zi_parts.specs.declared.types.Step.{Step}
+use Rattle.zi_parts.specs.declared.types.Step.TheVariants.{File, Rename, Remove}
 use Rattle.zi_recipe.specs.declared.fault.RecipeFault.{RecipeFault}
 use Rattle.zi_recipe.specs.declared.fault.RecipeFault.TheVariants as fault
-use Rattle.zi_recipe.specs.Limits.{size_limit, said_size, passed, Passes}
+use Rattle.zi_tree.specs.Limits.{size_limit}
+use Rattle.zi_recipe.specs.Limits.{said_size, passed, Passes}
 use Rattle.zi_recipe.specs.Steps.{path_text, file, Does, DoesAll, GetFails, Overlaps, Lacks, Fails}
 use Rattle.zi_recipe.specs.Asking.{StopsAt}
 use Rattle.zi_recipe.specs.Making.{Makes, Refuses}

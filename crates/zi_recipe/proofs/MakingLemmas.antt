@@ -5,11 +5,12 @@ use Rattle.std.proofs.lemmas.Bool.Decides.{nat_tests}
 use Rattle.zi_tree.specs.Dir.{Dir, Nothing}
 use Rattle.zi_tree.specs.declared.change.TreeLimit.TheVariants.{Size}
 use Rattle.zi_outside.specs.Views.{Feeding, holding}
-use Rattle.zi_feed.specs.declared.feed.Method.{Method}
-use Rattle.zi_feed.specs.declared.feed.Step.{Step}
+use Rattle.zi_parts.specs.declared.types.Method.{Method}
+use Rattle.zi_parts.specs.declared.types.Step.{Step}
 use Rattle.zi_recipe.specs.declared.fault.RecipeFault.{RecipeFault}
 use Rattle.zi_recipe.specs.declared.fault.RecipeFault.TheVariants as fault
-use Rattle.zi_recipe.specs.Limits.{size_limit, said_size, passed, Passes, limit_of}
+use Rattle.zi_tree.specs.Limits.{size_limit, limit_of}
+use Rattle.zi_recipe.specs.Limits.{said_size, passed, Passes}
 use Rattle.zi_recipe.specs.Steps.{DoesAll}
 use Rattle.zi_recipe.specs.Asking.{addresses, AreAsked, StopsAt}
 use Rattle.zi_recipe.specs.Making.{Makes, Refuses}

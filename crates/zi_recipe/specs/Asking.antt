@@ -2,11 +2,11 @@
 use Rattle.std.specs.Prelude.{◌≡◌, ◌⊎◌, ℕ, List, [], ◌∷◌, ◌++◌, take, slice_get, Some}
 use Rattle.std.specs.List.{flat_map}
 use Rattle.zi_tree.specs.Dir.{Dir, Nothing}
-use Rattle.zi_outside.specs.Count.{Rose}
+use Rattle.zi_text.specs.Count.{Rose}
 use Rattle.zi_outside.specs.Views.{Feeding, holding}
 use Rattle.zi_outside.specs.Outside.{Asks}
-use Rattle.zi_feed.specs.declared.feed.Step.{Step}
-use Rattle.zi_feed.specs.declared.feed.Step.TheVariants.{File, Rename, Remove}
+use Rattle.zi_parts.specs.declared.types.Step.{Step}
+use Rattle.zi_parts.specs.declared.types.Step.TheVariants.{File, Rename, Remove}
 use Rattle.zi_recipe.specs.declared.fault.RecipeFault.{RecipeFault}
 use Rattle.zi_recipe.specs.declared.fault.RecipeFault.TheVariants as fault
 use Rattle.zi_recipe.specs.Steps.{DoesAll, Fails}

@@ -10,7 +10,8 @@ use Rattle.zi_tree.specs.declared.tree.TreeNode.TheVariants.{File, Link, Folder}
 use Rattle.zi_tree.specs.declared.change.TreeLimit.TheVariants.{Nodes}
 use Rattle.zi_recipe.specs.declared.fault.RecipeFault.{RecipeFault}
 use Rattle.zi_recipe.specs.declared.fault.RecipeFault.TheVariants as fault
-use Rattle.zi_recipe.specs.Limits.{nodes_limit, nodes_in, depth_of}
+use Rattle.zi_tree.specs.Limits.{nodes_limit}
+use Rattle.zi_recipe.specs.Limits.{nodes_in, depth_of}
 
 -- folders that are lent
 abbrev pub trees : List (Bor Dir) → List Dir

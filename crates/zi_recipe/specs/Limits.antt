@@ -1,28 +1,14 @@
--- The limits of a tree that is made, and what is counted of it.
+-- What is counted of a tree that is made, and which limit it passes.
 use Rattle.std.specs.Prelude.{◌≡◌, ℕ, suc, ◌+◌, nat_lt, max, List, Option, Some, None, if◌then◌else◌}
 use Rattle.std.specs.List.{sum_by}
 use Rattle.zi_tree.specs.Dir.{Dir, Nothing, AFile, ALink, AFolder}
+use Rattle.zi_tree.specs.Limits.{nodes_limit, depth_limit, limit_of}
 use Rattle.zi_tree.specs.declared.change.TreeLimit.{TreeLimit}
-use Rattle.zi_tree.specs.declared.change.TreeLimit.TheVariants.{Size, Nodes, Depth}
-use Rattle.zi_feed.specs.declared.feed.Step.{Step}
-use Rattle.zi_feed.specs.declared.feed.Step.TheVariants.{File, Rename, Remove}
+use Rattle.zi_tree.specs.declared.change.TreeLimit.TheVariants.{Nodes, Depth}
+use Rattle.zi_parts.specs.declared.types.Step.{Step}
+use Rattle.zi_parts.specs.declared.types.Step.TheVariants.{File, Rename, Remove}
 use Rattle.zi_recipe.specs.declared.fault.RecipeFault.{RecipeFault}
 use Rattle.zi_recipe.specs.declared.fault.RecipeFault.TheVariants as fault
-
--- 256 MiB
-abbrev pub size_limit : ℕ
-size_limit = 268435456
-
-abbrev pub nodes_limit : ℕ
-nodes_limit = 100000
-
-abbrev pub depth_limit : ℕ
-depth_limit = 64
-
-abbrev pub limit_of : TreeLimit → ℕ
-limit_of Size = size_limit
-limit_of Nodes = nodes_limit
-limit_of Depth = depth_limit
 
 -- how many bytes a step says that it places
 abbrev pub said_by : Step → ℕ

@@ -6,12 +6,13 @@ use Rattle.zi_tree.specs.declared.tree.TreeNode.{TreeNode}
 use Rattle.zi_tree.specs.declared.change.TreeLimit.{TreeLimit}
 use Rattle.zi_tree.specs.declared.change.TreeLimit.TheVariants.{Size}
 use Rattle.zi_outside.specs.Views.{Holding}
-use Rattle.zi_feed.specs.declared.feed.Method.{Method}
-use Rattle.zi_feed.specs.declared.feed.Step.{Step}
-use Rattle.zi_feed.specs.declared.feed.Step.TheVariants.{File, Rename, Remove}
+use Rattle.zi_parts.specs.declared.types.Method.{Method}
+use Rattle.zi_parts.specs.declared.types.Step.{Step}
+use Rattle.zi_parts.specs.declared.types.Step.TheVariants.{File, Rename, Remove}
 use Rattle.zi_recipe.specs.declared.fault.RecipeFault.{RecipeFault}
 use Rattle.zi_recipe.specs.declared.fault.RecipeFault.TheVariants as fault
-use Rattle.zi_recipe.specs.Limits.{size_limit, said_size, passed, limit_of}
+use Rattle.zi_tree.specs.Limits.{size_limit, limit_of}
+use Rattle.zi_recipe.specs.Limits.{said_size, passed}
 use Rattle.zi_recipe.specs.Steps.{path_text, file}
 
 -- a tree, or a fault

@@ -3,10 +3,11 @@ use Rattle.std.specs.Prelude.{◌≡◌, ◌<◌, ◌≤◌, ◌⊎◌, None}
 use Rattle.zi_tree.specs.Dir.{Dir, Nothing}
 use Rattle.zi_tree.specs.declared.change.TreeLimit.TheVariants.{Size}
 use Rattle.zi_outside.specs.Views.{Feeding, holding}
-use Rattle.zi_feed.specs.declared.feed.Method.{Method}
+use Rattle.zi_parts.specs.declared.types.Method.{Method}
 use Rattle.zi_recipe.specs.declared.fault.RecipeFault.{RecipeFault}
 use Rattle.zi_recipe.specs.declared.fault.RecipeFault.TheVariants as fault
-use Rattle.zi_recipe.specs.Limits.{size_limit, said_size, passed, Passes}
+use Rattle.zi_tree.specs.Limits.{size_limit}
+use Rattle.zi_recipe.specs.Limits.{said_size, passed, Passes}
 use Rattle.zi_recipe.specs.Steps.{DoesAll}
 use Rattle.zi_recipe.specs.Asking.{addresses, AreAsked, StopsAt}
 

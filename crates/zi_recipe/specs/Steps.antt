@@ -7,8 +7,8 @@ use Rattle.zi_tree.specs.Paths.{found, inserted, removed}
 use Rattle.zi_tree.specs.declared.tree.TreeNode.{TreeNode}
 use Rattle.zi_tree.specs.declared.tree.TreeNode.TheVariants as node
 use Rattle.zi_outside.specs.Views.{Holding}
-use Rattle.zi_feed.specs.declared.feed.Step.{Step}
-use Rattle.zi_feed.specs.declared.feed.Step.TheVariants.{File, Rename, Remove}
+use Rattle.zi_parts.specs.declared.types.Step.{Step}
+use Rattle.zi_parts.specs.declared.types.Step.TheVariants.{File, Rename, Remove}
 use Rattle.zi_recipe.specs.declared.fault.RecipeFault.{RecipeFault}
 use Rattle.zi_recipe.specs.declared.fault.RecipeFault.TheVariants as fault
 

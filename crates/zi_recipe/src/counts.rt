@@ -1,14 +1,15 @@
 //! The entries of a tree counted, folder by folder and level by level: a tree may be too deep for a call for each level.
 
 ghost use Rattle.std.specs.Prelude.{◌≡◌, ◌≤◌, ◌++◌, None, OnOk, MatchResult};
-ghost use Rattle.zi_recipe.specs.Limits.{nodes_limit, passed, Passes};
+ghost use Rattle.zi_tree.specs.Limits.{nodes_limit};
+ghost use Rattle.zi_recipe.specs.Limits.{passed, Passes};
 ghost use Rattle.zi_recipe.specs.Levels.{folder_of, folders_in, trees, CountsLevel, StopsCounting};
 
 use crate::fault::RecipeFault;
-use crate::limits::{DEPTH_LIMIT, NODES_LIMIT, too_large};
+use crate::limits::too_large;
 use std::alloc::Global;
 use zi_text::Memory;
-use zi_tree::{Tree, TreeLimit, TreeNode};
+use zi_tree::{DEPTH_LIMIT, NODES_LIMIT, Tree, TreeLimit, TreeNode};
 
 /// Puts what is in a node behind other folders, where the node is a folder.
 fn add_folder<'a>(node: &'a TreeNode, into: &mut Vec<&'a Tree>) -> Result<(), Memory>

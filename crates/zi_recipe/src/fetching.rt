@@ -2,7 +2,7 @@
 
 ghost use Rattle.std.specs.Prelude.{◌≡◌, ◌≢◌, ◌≤◌, ◌∷◌, [], length, MatchResult};
 ghost use Rattle.zi_outside.specs.Views.{holding};
-ghost use Rattle.zi_recipe.specs.Limits.{size_limit};
+ghost use Rattle.zi_tree.specs.Limits.{size_limit};
 ghost use Rattle.zi_recipe.specs.Steps.{Gives, GetFails};
 ghost use Rattle.zi_recipe.specs.Asking.{AreAsked, AsksAt};
 ghost use Rattle.zi_recipe.specs.declared.fault.RecipeFault.TheVariants.{WrongSize};

@@ -1,21 +1,13 @@
-//! The limits of a tree, and the said sizes against theirs.
+//! The said sizes against the limit of theirs.
 
 ghost use Rattle.std.specs.Prelude.{◌≡◌, nat_lt};
-ghost use Rattle.zi_recipe.specs.Limits.{size_limit, said_by, said_size, limit_of};
+ghost use Rattle.zi_tree.specs.Limits.{size_limit, limit_of};
+ghost use Rattle.zi_recipe.specs.Limits.{said_by, said_size};
 ghost use Rattle.zi_recipe.specs.declared.fault.RecipeFault.TheVariants.{TooLarge};
 
 use crate::fault::RecipeFault;
-use zi_feed::Step;
-use zi_tree::TreeLimit;
-
-/// How many bytes the files of a tree may have together: 256 MiB.
-pub(crate) const SIZE_LIMIT: u64 = 256 * 1024 * 1024;
-
-/// How many files, links and folders a tree may have.
-pub(crate) const NODES_LIMIT: u64 = 100_000;
-
-/// How deep folders may lie one in another: the top one has the depth 0.
-pub(crate) const DEPTH_LIMIT: u64 = 64;
+use zi_parts::Step;
+use zi_tree::{SIZE_LIMIT, TreeLimit};
 
 /// How many bytes a step says that it places.
 fn said_by(step: &Step) -> u64
@@ -46,10 +38,6 @@ pub(crate) fn says_too_much(steps: &[Step]) -> bool
 pub(crate) fn too_large(what: TreeLimit) -> RecipeFault
     ensures { result ≡ TooLarge what (limit_of what) }
 {
-    let limit = match what {
-        TreeLimit::Size => SIZE_LIMIT,
-        TreeLimit::Nodes => NODES_LIMIT,
-        TreeLimit::Depth => DEPTH_LIMIT,
-    };
+    let limit = what.most();
     RecipeFault::TooLarge { what, limit }
 }

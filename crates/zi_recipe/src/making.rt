@@ -10,8 +10,8 @@ use crate::fault::RecipeFault;
 use crate::limits::{says_too_much, too_large};
 use crate::steps::do_steps;
 use std::alloc::Global;
-use zi_feed::Method;
 use zi_outside::Web;
+use zi_parts::Method;
 use zi_tree::{Tree, TreeLimit};
 
 /// The tree that a way to fetch makes: its steps in their order, over the empty tree. A file is placed not executable unless

@@ -3,7 +3,8 @@
 ghost use Rattle.std.specs.Prelude.{◌≤◌, [], MatchResult, OnOk};
 ghost use Rattle.zi_outside.specs.Views.{holding};
 ghost use Rattle.zi_tree.specs.Dir.{Nothing};
-ghost use Rattle.zi_recipe.specs.Limits.{size_limit, said_by, said_size};
+ghost use Rattle.zi_tree.specs.Limits.{size_limit};
+ghost use Rattle.zi_recipe.specs.Limits.{said_by, said_size};
 ghost use Rattle.zi_recipe.specs.Steps.{Does, DoesAll, Fails};
 ghost use Rattle.zi_recipe.specs.Asking.{address, addresses, AreAsked, AsksAt, StopsAt};
 
@@ -11,8 +12,8 @@ use crate::fault::RecipeFault;
 use crate::fetching::fetch;
 use crate::places::{place, remove, rename};
 use std::alloc::Global;
-use zi_feed::Step;
 use zi_outside::Web;
+use zi_parts::Step;
 use zi_tree::{Tree, TreeNode};
 
 /// Does one step. A tree that is refused one is done with.

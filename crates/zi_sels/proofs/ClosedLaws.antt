@@ -8,12 +8,12 @@ use Rattle.std.proofs.lemmas.List.Elements.{filter-append}
 use Rattle.std.proofs.lemmas.Grind.{flat_map-append}
 use Rattle.std.proofs.lemmas.Slice.Eq.{bytes_eq-Decides}
 use Rattle.zi_elements.specs.declared.element.Element.{Element}
-use Rattle.zi_forest.specs.Forest.{Elem, elements, element_view, value}
-use Rattle.zi_feed.specs.Texts.{same}
-use Rattle.zi_feed.specs.Words.{is_among, first, repeated, repeated_after}
+use Rattle.zi_elements.specs.Forest.{Elem, elements, element_view, value}
+use Rattle.zi_address.specs.Texts.{same}
+use Rattle.zi_reading.specs.Words.{is_among, first, repeated, repeated_after}
 use Rattle.zi_feed.specs.Means.{counts_as}
-use Rattle.zi_feed.specs.Views.{views}
-use Rattle.zi_feed.proofs.NodeLaws.{drop_turn}
+use Rattle.zi_reading.specs.Views.{views}
+use Rattle.zi_reading.proofs.NodeLaws.{drop_turn}
 use Rattle.zi_sels.specs.declared.types.Selection.{Selection}
 use Rattle.zi_sels.specs.Refused.{asks, asks_within, asking_at, asking_in, unmet}
 

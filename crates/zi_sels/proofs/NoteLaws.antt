@@ -6,17 +6,17 @@ use Rattle.std.proofs.lemmas.List.{map-append, take_more, take_all}
 use Rattle.std.proofs.lemmas.List.Elements.{filter-append}
 use Rattle.std.proofs.lemmas.Grind.{flat_map-append}
 use Rattle.zi_elements.specs.declared.element.Element.{Element}
-use Rattle.zi_forest.specs.Forest.{Elem, element_view}
-use Rattle.zi_feed.specs.Words.{optional, repeated}
-use Rattle.zi_feed.specs.Sites.{is_unclear}
-use Rattle.zi_feed.specs.Faults.{fault_at, share, is_first, lesser_of, least}
+use Rattle.zi_elements.specs.Forest.{Elem, element_view}
+use Rattle.zi_reading.specs.Words.{optional, repeated}
+use Rattle.zi_reading.specs.Reading.{is_unclear}
+use Rattle.zi_faults.specs.Faults.{fault_at, share, is_first, lesser_of, least}
 use Rattle.zi_feed.specs.Means.{Reads, counts_as}
-use Rattle.zi_feed.specs.Views.{views}
-use Rattle.zi_feed.specs.declared.fault.Fault.{Fault}
-use Rattle.zi_feed.specs.declared.fault.FeedFault.{FeedFault}
-use Rattle.zi_feed.specs.declared.fault.FeedFault.TheVariants.{Bad, Memory}
-use Rattle.zi_feed.specs.declared.fault.FeedKind.TheVariants.{BadPart}
-use Rattle.zi_feed.proofs.LeastLaws.{lesser_assoc, lesser_none, least_append}
+use Rattle.zi_reading.specs.Views.{views}
+use Rattle.zi_faults.specs.declared.fault.Fault.{Fault}
+use Rattle.zi_faults.specs.declared.fault.FeedFault.{FeedFault}
+use Rattle.zi_faults.specs.declared.fault.FeedFault.TheVariants.{Bad, Memory}
+use Rattle.zi_faults.specs.declared.fault.FeedKind.TheVariants.{BadPart}
+use Rattle.zi_faults.proofs.LeastLaws.{lesser_assoc, lesser_none, least_append}
 use Rattle.zi_sels.specs.Notes.{Notes, right, faults_of, AreRead}
 use Rattle.zi_sels.specs.Refused.{clear_among}
 

@@ -5,24 +5,24 @@ use Rattle.std.specs.List.{flat_map}
 use Rattle.std.proofs.lemmas.Grind.{flat_map-append}
 use Rattle.std.proofs.lemmas.List.Folds.{flat_map-map}
 use Rattle.zi_digest.specs.declared.DigestName.{DigestName}
-use Rattle.zi_forest.specs.Forest.{Elem, elements, attribute, value}
-use Rattle.zi_feed.specs.Words.{optional}
-use Rattle.zi_feed.specs.Digests.{digest_of}
-use Rattle.zi_feed.specs.Impls.{said_digests}
-use Rattle.zi_feed.specs.Values.{binding_of, dep_of, command_of}
-use Rattle.zi_feed.specs.Sites.{is_unclear}
-use Rattle.zi_feed.specs.Faults.{fault_at, least, lesser_of}
+use Rattle.zi_elements.specs.Forest.{Elem, elements, attribute, value}
+use Rattle.zi_reading.specs.Ways.{AsWritten}
+use Rattle.zi_reading.specs.Words.{optional}
+use Rattle.zi_parts.specs.Digests.{digest_of, said_digests}
+use Rattle.zi_parts.specs.Values.{binding_of, dep_of, command_of}
+use Rattle.zi_reading.specs.Reading.{is_unclear}
+use Rattle.zi_faults.specs.Faults.{fault_at, least, lesser_of}
 use Rattle.zi_feed.specs.Feeds.{part_fault}
 use Rattle.zi_feed.specs.IdLaws.{both_empty}
-use Rattle.zi_feed.specs.declared.feed.Binding.{Binding}
-use Rattle.zi_feed.specs.declared.feed.Command.{Command}
-use Rattle.zi_feed.specs.declared.feed.Dep.{Dep}
-use Rattle.zi_feed.specs.declared.fault.Fault.{Fault}
-use Rattle.zi_feed.specs.declared.fault.FeedFault.{FeedFault}
-use Rattle.zi_feed.specs.declared.fault.FeedFault.TheVariants.{Bad}
+use Rattle.zi_parts.specs.declared.types.Binding.{Binding}
+use Rattle.zi_parts.specs.declared.types.Command.{Command}
+use Rattle.zi_parts.specs.declared.types.Dep.{Dep}
+use Rattle.zi_faults.specs.declared.fault.Fault.{Fault}
+use Rattle.zi_faults.specs.declared.fault.FeedFault.{FeedFault}
+use Rattle.zi_faults.specs.declared.fault.FeedFault.TheVariants.{Bad}
 use Rattle.zi_feed.specs.Means.{Reads, counts_as, counts_as_binding}
-use Rattle.zi_feed.specs.declared.fault.FeedKind.TheVariants.{BadRange, BadPart}
-use Rattle.zi_feed.proofs.LeastLaws.{lesser_assoc, lesser_none, least_append}
+use Rattle.zi_faults.specs.declared.fault.FeedKind.TheVariants.{BadRange, BadPart}
+use Rattle.zi_faults.proofs.LeastLaws.{lesser_assoc, lesser_none, least_append}
 use Rattle.zi_sels.specs.declared.selecting.Parts.{Parts}
 use Rattle.zi_sels.specs.declared.types.Selection.{Selection}
 use Rattle.zi_sels.specs.Read.{counting, bindings_in, said_in, in_order_of_use, selection_of}
@@ -56,8 +56,8 @@ chain a b c d f0 f1 f2 f3 f4 p q r s =
 -- what was read kind by kind
 pub four_read : (e : Elem) (parts : Parts) (said : List (List DigestName)) (id : List ℕ) (f0 f1 f2 f3 f4 : Option Fault)
     → AreRead part_fault binding_of (bindings_in e) [] f0 parts.bindings f1
-    → AreRead part_fault (dep_of None) (counting (codes "requires") e) [] f1 parts.deps f2
-    → AreRead part_fault (command_of None) (counting (codes "command") e) [] f2 parts.commands f3
+    → AreRead part_fault (dep_of AsWritten) (counting (codes "requires") e) [] f1 parts.deps f2
+    → AreRead part_fault (command_of AsWritten) (counting (codes "command") e) [] f2 parts.commands f3
     → AreRead part_fault said_digests (counting (codes "manifest-digest") e) [] f3 said f4
     → id ≡ value (codes "id") e
     → parts.digests ≡ in_order_of_use (flat_map (λ ds. ds) said ++ optional (digest_of id))
@@ -77,8 +77,8 @@ four_read e parts said id f0 f1 f2 f3 f4 b r k m named digests = record {
 -- the same, where the elements in it are known by another name
 pub four_among : (e : Elem) (es : List Elem) (parts : Parts) (said : List (List DigestName)) (id : List ℕ) (f0 f1 f2 f3 f4 : Option Fault) → es ≡ elements e.inside
     → AreRead part_fault binding_of (filter counts_as_binding es) [] f0 parts.bindings f1
-    → AreRead part_fault (dep_of None) (filter (counts_as (codes "requires")) es) [] f1 parts.deps f2
-    → AreRead part_fault (command_of None) (filter (counts_as (codes "command")) es) [] f2 parts.commands f3
+    → AreRead part_fault (dep_of AsWritten) (filter (counts_as (codes "requires")) es) [] f1 parts.deps f2
+    → AreRead part_fault (command_of AsWritten) (filter (counts_as (codes "command")) es) [] f2 parts.commands f3
     → AreRead part_fault said_digests (filter (counts_as (codes "manifest-digest")) es) [] f3 said f4
     → id ≡ value (codes "id") e
     → parts.digests ≡ in_order_of_use (flat_map (λ ds. ds) said ++ optional (digest_of id))
@@ -86,8 +86,8 @@ pub four_among : (e : Elem) (es : List Elem) (parts : Parts) (said : List (List 
 four_among e es parts said id f0 f1 f2 f3 f4 is b r k m named digests =
     four_read e parts said id f0 f1 f2 f3 f4
     (read_among part_fault binding_of counts_as_binding es (elements e.inside) [] parts.bindings f0 f1 is b)
-    (read_among part_fault (dep_of None) (counts_as (codes "requires")) es (elements e.inside) [] parts.deps f1 f2 is r)
-    (read_among part_fault (command_of None) (counts_as (codes "command")) es (elements e.inside) [] parts.commands f2 f3 is k)
+    (read_among part_fault (dep_of AsWritten) (counts_as (codes "requires")) es (elements e.inside) [] parts.deps f1 f2 is r)
+    (read_among part_fault (command_of AsWritten) (counts_as (codes "command")) es (elements e.inside) [] parts.commands f2 f3 is k)
     (read_among part_fault said_digests (counts_as (codes "manifest-digest")) es (elements e.inside) [] said f3 f4 is m)
     named digests
 
@@ -128,10 +128,10 @@ value_is e start parts parted =
     let m : (faults_of part_fault (bs ++ rs ++ ks) ≡ []) × (faults_of part_fault ms ≡ []) = both_empty _ _ (sym (faults_append (bs ++ rs ++ ks) ms) ∙ none) in
     let k : (faults_of part_fault (bs ++ rs) ≡ []) × (faults_of part_fault ks ≡ []) = both_empty _ _ (sym (faults_append (bs ++ rs) ks) ∙ m.0) in
     let r : (faults_of part_fault bs ≡ []) × (faults_of part_fault rs ≡ []) = both_empty _ _ (sym (faults_append bs rs) ∙ k.0) in
-    joined e parts.digests (in_order_of_use (said_in e)) parts.deps (map (dep_of None) rs) parts.commands (map (command_of None) ks) parts.bindings (map binding_of bs)
+    joined e parts.digests (in_order_of_use (said_in e)) parts.deps (map (dep_of AsWritten) rs) parts.commands (map (command_of AsWritten) ks) parts.bindings (map binding_of bs)
     (parted.digests ∙ ap (λ v. in_order_of_use (flat_map said_digests v ++ optional (digest_of (value (codes "id") e)))) (all_right part_fault ms m.1))
-    (parted.deps ∙ ap (map (dep_of None)) (all_right part_fault rs r.1))
-    (parted.commands ∙ ap (map (command_of None)) (all_right part_fault ks k.1))
+    (parted.deps ∙ ap (map (dep_of AsWritten)) (all_right part_fault rs r.1))
+    (parted.commands ∙ ap (map (command_of AsWritten)) (all_right part_fault ks k.1))
     (parted.bindings ∙ ap (map binding_of) (all_right part_fault bs r.0))
   where
     joined : (e : Elem) (a b : List DigestName) (c d : List Dep) (f g : List Command) (h i : List Binding) → a ≡ b → c ≡ d → f ≡ g → h ≡ i

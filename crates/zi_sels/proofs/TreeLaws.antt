@@ -1,13 +1,13 @@
 -- The tree of a document: its faults in their order, and its value.
 use Rattle.std.proofs.Common.{◌≡◌, ℕ, ◌⊎◌, inl, inr, Bool, true, false, List, [], ◌∷◌, ◌++◌, map, Option, Some, None, refl, sym, ap, ◌∙◌}
 use Rattle.std.specs.Prelude.{codes, not, if◌then◌else◌}
-use Rattle.zi_forest.specs.Forest.{Elem, attribute, value}
-use Rattle.zi_feed.specs.Words.{first, is_among}
-use Rattle.zi_feed.specs.Sites.{is_unclear}
-use Rattle.zi_feed.specs.Faults.{fault_at, least, lesser_of}
-use Rattle.zi_feed.specs.declared.fault.Fault.{Fault}
-use Rattle.zi_feed.specs.declared.fault.FeedKind.TheVariants.{BadRange}
-use Rattle.zi_feed.proofs.LeastLaws.{least_append}
+use Rattle.zi_elements.specs.Forest.{Elem, attribute, value}
+use Rattle.zi_reading.specs.Words.{first, is_among}
+use Rattle.zi_reading.specs.Reading.{is_unclear}
+use Rattle.zi_faults.specs.Faults.{fault_at, least, lesser_of}
+use Rattle.zi_faults.specs.declared.fault.Fault.{Fault}
+use Rattle.zi_faults.specs.declared.fault.FeedKind.TheVariants.{BadRange}
+use Rattle.zi_faults.proofs.LeastLaws.{least_append}
 use Rattle.zi_sels.specs.declared.types.Selection.{Selection}
 use Rattle.zi_sels.specs.declared.types.Selections.{Selections}
 use Rattle.zi_sels.specs.declared.fault.SelsFault.{SelsFault}

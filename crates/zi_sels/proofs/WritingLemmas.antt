@@ -5,7 +5,7 @@ use Rattle.std.specs.List.{position_or_len, after_first}
 use Rattle.zi_elements.specs.declared.element.Node.{Node}
 use Rattle.zi_elements.specs.declared.element.Node.TheVariants as nodes
 use Rattle.std.proofs.lemmas.List.{append-nil}
-use Rattle.zi_forest.specs.Forest.{Elem, node_view, nodes_view}
+use Rattle.zi_elements.specs.Forest.{Elem, node_view, nodes_view}
 use Rattle.zi_digest.specs.declared.DigestName.{DigestName}
 use Rattle.zi_docout.specs.Amiss.{alone}
 use Rattle.zi_docout.proofs.ForestLemmas.{words_view, node_alone}

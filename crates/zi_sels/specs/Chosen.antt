@@ -4,11 +4,10 @@ use Rattle.std.specs.Ordering.{nat_cmp}
 use Rattle.std.specs.Cmp.Lexicographic.{slice_cmp}
 use Rattle.std.specs.declared.cmp.Ordering.TheVariants.{Less}
 use Rattle.zi_policy.specs.declared.types.Arch.{Arch}
-use Rattle.zi_policy.specs.declared.types.Stability.{Stability}
-use Rattle.zi_policy.specs.declared.types.Stability.TheVariants.{Insecure, Buggy, Developer, Testing, Stable, Packaged, Preferred}
-use Rattle.zi_feed.specs.declared.feed.Dep.{Dep}
-use Rattle.zi_feed.specs.declared.feed.Runner.{Runner}
-use Rattle.zi_feed.specs.declared.feed.Command.{Command}
+use Rattle.zi_policy.specs.Stabilities.{stability_text}
+use Rattle.zi_parts.specs.declared.types.Dep.{Dep}
+use Rattle.zi_parts.specs.declared.types.Runner.{Runner}
+use Rattle.zi_parts.specs.declared.types.Command.{Command}
 use Rattle.zi_universe.specs.declared.types.Requirement.{Requirement}
 use Rattle.zi_universe.specs.declared.types.Candidate.{Candidate}
 use Rattle.zi_universe.specs.declared.types.Interface.{Interface}
@@ -22,16 +21,6 @@ use Rattle.zi_sels.specs.declared.types.Selections.{Selections}
 -- a platform as feeds write it
 abbrev pub arch_text : Arch → List ℕ
 arch_text arch = arch.os ++ codes "-" ++ arch.machine
-
--- a stability as feeds write it; `preferred` is the user's word
-abbrev pub stability_text : Stability → List ℕ
-stability_text Insecure = codes "insecure"
-stability_text Buggy = codes "buggy"
-stability_text Developer = codes "developer"
-stability_text Testing = codes "testing"
-stability_text Stable = codes "stable"
-stability_text Packaged = codes "packaged"
-stability_text Preferred = codes "preferred"
 
 -- a dependency without what it restricts and when it is active
 abbrev pub plain : Dep → Dep

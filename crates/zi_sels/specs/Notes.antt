@@ -1,12 +1,12 @@
 -- What is known of elements once the answers of their readers were taken.
 use Rattle.std.specs.Prelude.{◌≡◌, Bool, List, [], ◌∷◌, ◌++◌, map, filter, Option, Some, None, Result, Ok, Err, is_some, not}
 use Rattle.std.specs.List.{flat_map}
-use Rattle.zi_forest.specs.Forest.{Elem}
-use Rattle.zi_feed.specs.Words.{optional}
-use Rattle.zi_feed.specs.Faults.{least, lesser_of}
-use Rattle.zi_feed.specs.declared.fault.Fault.{Fault}
-use Rattle.zi_feed.specs.declared.fault.FeedFault.{FeedFault}
-use Rattle.zi_feed.specs.declared.fault.FeedFault.TheVariants.{Bad, Memory}
+use Rattle.zi_elements.specs.Forest.{Elem}
+use Rattle.zi_reading.specs.Words.{optional}
+use Rattle.zi_faults.specs.Faults.{least, lesser_of}
+use Rattle.zi_faults.specs.declared.fault.Fault.{Fault}
+use Rattle.zi_faults.specs.declared.fault.FeedFault.{FeedFault}
+use Rattle.zi_faults.specs.declared.fault.FeedFault.TheVariants.{Bad, Memory}
 
 -- a value goes behind those so far, and a fault counts where it is the first so far
 abbrev pub Notes : {X : Type 0} → Result X FeedFault → List X → Option Fault → List X → Option Fault → Type 0

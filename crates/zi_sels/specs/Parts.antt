@@ -1,14 +1,14 @@
 -- The parts of a selection, as they are read one kind after another.
 use Rattle.std.specs.Prelude.{◌≡◌, ℕ, List, ◌++◌, map, codes, Option, None, unwrap_or}
 use Rattle.std.specs.List.{flat_map}
-use Rattle.zi_forest.specs.Forest.{Elem, attribute, value}
-use Rattle.zi_feed.specs.Words.{optional}
-use Rattle.zi_feed.specs.Digests.{digest_of}
-use Rattle.zi_feed.specs.Impls.{said_digests}
-use Rattle.zi_feed.specs.Values.{binding_of, dep_of, command_of}
-use Rattle.zi_feed.specs.Faults.{least, lesser_of}
+use Rattle.zi_elements.specs.Forest.{Elem, attribute, value}
+use Rattle.zi_reading.specs.Ways.{AsWritten}
+use Rattle.zi_reading.specs.Words.{optional}
+use Rattle.zi_parts.specs.Digests.{digest_of, said_digests}
+use Rattle.zi_parts.specs.Values.{binding_of, dep_of, command_of}
+use Rattle.zi_faults.specs.Faults.{least, lesser_of}
 use Rattle.zi_feed.specs.Feeds.{part_fault}
-use Rattle.zi_feed.specs.declared.fault.Fault.{Fault}
+use Rattle.zi_faults.specs.declared.fault.Fault.{Fault}
 use Rattle.zi_sels.specs.declared.types.Selection.{Selection}
 use Rattle.zi_sels.specs.declared.selecting.Parts.{Parts}
 use Rattle.zi_sels.specs.Read.{counting, bindings_in, in_order_of_use}
@@ -35,8 +35,8 @@ selection_with e parts = record {
 -- These are the parts of a selection that have no fault, and of all faults of its parts the first one counts.
 pub record ArePartsOf (e : Elem) (fault : Option Fault) (parts : Parts) (now : Option Fault) : Type 0 where
   pub bindings : parts.bindings ≡ map binding_of (right part_fault (bindings_in e))
-  pub deps : parts.deps ≡ map (dep_of None) (right part_fault (counting (codes "requires") e))
-  pub commands : parts.commands ≡ map (command_of None) (right part_fault (counting (codes "command") e))
+  pub deps : parts.deps ≡ map (dep_of AsWritten) (right part_fault (counting (codes "requires") e))
+  pub commands : parts.commands ≡ map (command_of AsWritten) (right part_fault (counting (codes "command") e))
   pub digests : parts.digests
       ≡ in_order_of_use (flat_map said_digests (right part_fault (counting (codes "manifest-digest") e)) ++ optional (digest_of (value (codes "id") e)))
   pub first : now ≡ lesser_of fault (least (faults_of part_fault (parts_in e)))

@@ -2,13 +2,13 @@
 -- those of a feed are, addresses as they are written and without restrictions.
 use Rattle.std.specs.Prelude.{ℕ, Bool, ◌||◌, List, ◌++◌, map, filter, codes, Option, None, unwrap_or}
 use Rattle.std.specs.List.{find, filter_map, flat_map}
-use Rattle.zi_forest.specs.Forest.{Elem, elements, attribute, value}
+use Rattle.zi_elements.specs.Forest.{Elem, elements, attribute, value}
 use Rattle.zi_digest.specs.declared.Algorithm.{Algorithm}
 use Rattle.zi_digest.specs.declared.DigestName.{DigestName}
-use Rattle.zi_feed.specs.Words.{optional}
-use Rattle.zi_feed.specs.Digests.{algorithms, digest_of}
-use Rattle.zi_feed.specs.Impls.{said_digests}
-use Rattle.zi_feed.specs.Values.{binding_of, dep_of, command_of}
+use Rattle.zi_reading.specs.Ways.{AsWritten}
+use Rattle.zi_reading.specs.Words.{optional}
+use Rattle.zi_parts.specs.Digests.{algorithms, digest_of, said_digests}
+use Rattle.zi_parts.specs.Values.{binding_of, dep_of, command_of}
 use Rattle.zi_feed.specs.Means.{counts_as, counts_as_binding}
 use Rattle.zi_sels.specs.declared.types.Selection.{Selection}
 use Rattle.zi_sels.specs.declared.types.Selections.{Selections}
@@ -46,8 +46,8 @@ selection_of e = record {
   released = attribute (codes "released") e;
   stability = attribute (codes "stability") e;
   digests = in_order_of_use (said_in e);
-  deps = map (dep_of None) (counting (codes "requires") e);
-  commands = map (command_of None) (counting (codes "command") e);
+  deps = map (dep_of AsWritten) (counting (codes "requires") e);
+  commands = map (command_of AsWritten) (counting (codes "command") e);
   bindings = map binding_of (bindings_in e);
 }
 

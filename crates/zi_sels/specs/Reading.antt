@@ -1,7 +1,7 @@
 -- What bytes say as a selections document, and why they say nothing.
 use Rattle.std.specs.Prelude.{◌≡◌, ℕ, List, Option, Some, None, Result, Ok, Err, ◌⊎◌}
 use Rattle.zi_elements.specs.declared.element.Element.{Element}
-use Rattle.zi_forest.specs.Forest.{element_view}
+use Rattle.zi_elements.specs.Forest.{element_view}
 use Rattle.zi_doc.specs.Documents as doc
 use Rattle.zi_doc.specs.declared.fault.DocFault.{DocFault}
 use Rattle.zi_doc.specs.declared.fault.DocFault.TheVariants as of

@@ -1,18 +1,18 @@
 -- Why a tree is no selections document: the table of its faults, in their order (the published format of selections documents).
 use Rattle.std.specs.Prelude.{◌≡◌, ℕ, Bool, not, ◌&&◌, ◌||◌, List, [], ◌∷◌, ◌++◌, map, filter, codes, Option, Some, None, option_map, if◌then◌else◌}
 use Rattle.std.specs.List.{flat_map}
-use Rattle.zi_forest.specs.Forest.{Elem, elements, attribute, has, lacks, value}
-use Rattle.zi_feed.specs.Texts.{same, is_none}
-use Rattle.zi_feed.specs.Words.{first, optional, is_among, is_wrong, is_amiss, repeated}
-use Rattle.zi_feed.specs.Forms.{is_version}
-use Rattle.zi_feed.specs.Address.{is_local}
-use Rattle.zi_feed.specs.Sites.{is, is_unclear}
-use Rattle.zi_feed.specs.Faults.{share, fault_at, least}
+use Rattle.zi_elements.specs.Forest.{Elem, elements, attribute, has, lacks, value}
+use Rattle.zi_address.specs.Texts.{same, is_none}
+use Rattle.zi_reading.specs.Words.{first, optional, is_among, is_wrong, is_amiss, repeated}
+use Rattle.zi_reading.specs.Forms.{is_version}
+use Rattle.zi_address.specs.Address.{is_local}
+use Rattle.zi_reading.specs.Reading.{is, is_unclear}
+use Rattle.zi_faults.specs.Faults.{share, fault_at, least}
 use Rattle.zi_feed.specs.Feeds.{part_fault}
 use Rattle.zi_feed.specs.Means.{counts_as}
-use Rattle.zi_feed.specs.declared.fault.Fault.{Fault}
-use Rattle.zi_feed.specs.declared.fault.FeedKind.{FeedKind}
-use Rattle.zi_feed.specs.declared.fault.FeedKind.TheVariants.{NoId, BadVersion, BadRange, BadPart, NoInterface, BadAddress}
+use Rattle.zi_faults.specs.declared.fault.Fault.{Fault}
+use Rattle.zi_faults.specs.declared.fault.FeedKind.{FeedKind}
+use Rattle.zi_faults.specs.declared.fault.FeedKind.TheVariants.{NoId, BadVersion, BadRange, BadPart, NoInterface, BadAddress}
 use Rattle.zi_sels.specs.declared.fault.SelsFault.{SelsFault}
 use Rattle.zi_sels.specs.declared.fault.SelsFault.TheVariants as fault
 use Rattle.zi_sels.specs.Read.{counting, selections_in, bindings_in}

@@ -2,7 +2,8 @@
 use Rattle.std.specs.Prelude.{ℕ, Bool, true, false, List, [], ◌∷◌, ◌++◌, map, filter, bytes_eq, codes, Option, Some, None, option_map, unwrap_or, if◌then◌else◌}
 use Rattle.hex.specs.Hex.{encode_lower}
 use Rattle.zi_elements.specs.declared.element.Attr.{Attr}
-use Rattle.zi_forest.specs.Forest.{Forest, none, words, Elem}
+use Rattle.zi_elements.specs.Forest.{Forest, none, words, Elem}
+use Rattle.zi_elements.specs.Namespace.{injector}
 use Rattle.zi_docout.specs.Canonical as canonical
 use Rattle.zi_docout.specs.Elements.{attr, elem}
 use Rattle.zi_digest.specs.Name.{algorithm_of, base32}
@@ -10,21 +11,21 @@ use Rattle.zi_digest.specs.declared.Algorithm.{Algorithm}
 use Rattle.zi_digest.specs.declared.Algorithm.TheVariants.{Sha1new, Sha256, Sha256new}
 use Rattle.zi_digest.specs.declared.DigestName.{DigestName}
 use Rattle.zi_digest.specs.declared.DigestName.TheVariants as digest
-use Rattle.zi_feed.specs.Words.{first, optional}
-use Rattle.zi_feed.specs.Digests.{attribute_by}
-use Rattle.zi_feed.specs.declared.feed.Dep.{Dep}
-use Rattle.zi_feed.specs.declared.feed.DepKind.{DepKind}
-use Rattle.zi_feed.specs.declared.feed.DepKind.TheVariants.{Essential, Recommended, Restricts}
-use Rattle.zi_feed.specs.declared.feed.Command.{Command}
-use Rattle.zi_feed.specs.declared.feed.Runner.{Runner}
-use Rattle.zi_feed.specs.declared.feed.Word.{Word}
-use Rattle.zi_feed.specs.declared.feed.Word.TheVariants.{Arg, ForEach}
-use Rattle.zi_feed.specs.declared.feed.Binding.{Binding}
-use Rattle.zi_feed.specs.declared.feed.Binding.TheVariants.{Env, Unbuilt}
-use Rattle.zi_feed.specs.declared.feed.Extra.{Extra}
-use Rattle.zi_feed.specs.declared.feed.Extra.TheVariants.{Insert, Value}
-use Rattle.zi_feed.specs.declared.feed.Mode.{Mode}
-use Rattle.zi_feed.specs.declared.feed.Mode.TheVariants.{Prepend, Append, Replace}
+use Rattle.zi_reading.specs.Words.{first, optional}
+use Rattle.zi_parts.specs.Digests.{attribute_by}
+use Rattle.zi_parts.specs.declared.types.Dep.{Dep}
+use Rattle.zi_parts.specs.declared.types.DepKind.{DepKind}
+use Rattle.zi_parts.specs.declared.types.DepKind.TheVariants.{Essential, Recommended, Restricts}
+use Rattle.zi_parts.specs.declared.types.Command.{Command}
+use Rattle.zi_parts.specs.declared.types.Runner.{Runner}
+use Rattle.zi_parts.specs.declared.types.Word.{Word}
+use Rattle.zi_parts.specs.declared.types.Word.TheVariants.{Arg, ForEach}
+use Rattle.zi_parts.specs.declared.types.Binding.{Binding}
+use Rattle.zi_parts.specs.declared.types.Binding.TheVariants.{Env, Unbuilt}
+use Rattle.zi_parts.specs.declared.types.Extra.{Extra}
+use Rattle.zi_parts.specs.declared.types.Extra.TheVariants.{Insert, Value}
+use Rattle.zi_parts.specs.declared.types.Mode.{Mode}
+use Rattle.zi_parts.specs.declared.types.Mode.TheVariants.{Prepend, Append, Replace}
 use Rattle.zi_sels.specs.declared.types.Selection.{Selection}
 use Rattle.zi_sels.specs.declared.types.Selections.{Selections}
 
@@ -74,7 +75,7 @@ dep_elem dep = elem (codes "requires") (attr (codes "interface") dep.interface �
 
 -- Commands.
 unfoldable pub arg_elem : List ℕ → Elem
-arg_elem text = record { space = canonical.injector; name = codes "arg"; attrs = []; inside = text_node text; place = 0 }
+arg_elem text = record { space = injector; name = codes "arg"; attrs = []; inside = text_node text; place = 0 }
 
 unfoldable pub word_elem : Word → Elem
 word_elem (Arg text) = arg_elem text

@@ -1,13 +1,13 @@
 //! Bindings and dependencies as elements.
 ghost use Rattle.std.specs.Prelude.{◌≡◌, ◌∷◌, [], ◌++◌, map, codes, IfOk, OnOk};
-ghost use Rattle.zi_forest.specs.Forest.{element_view};
+ghost use Rattle.zi_elements.specs.Forest.{element_view};
 ghost use Rattle.zi_docout.specs.Elements.{Adds};
 ghost use Rattle.zi_sels.specs.Written.{extra_attr, mode_attrs, kind_attrs, binding_elem, dep_elem};
 
 use crate::elements::{put_unless, put_where_there};
 use std::alloc::Global;
 use zi_docout::{Attr, Element, Node, element, put_attr, put_child};
-use zi_feed::{Binding, Dep, DepKind, Extra, Mode};
+use zi_parts::{Binding, Dep, DepKind, Extra, Mode};
 use zi_text::{List, Memory, Text};
 
 // Adds what a binding adds.

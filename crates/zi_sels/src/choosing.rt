@@ -7,17 +7,14 @@ ghost use Rattle.zi_sels.specs.Chosen.{met, used_command, used_of, selection_by,
 ghost use Rattle.zi_sels.specs.Settings.{universe_of, picks_of, walk_of};
 ghost use Rattle.zi_sels.specs.Using.{walk_with};
 
-use crate::copies::{
-    arch_text, copy_bindings, copy_digests, copy_inherited, copy_text, copy_words, plain_copy,
-    plain_runner, stability_text,
-};
+use crate::copies::{arch_text, copy_inherited, plain_copy, plain_runner};
 use crate::sorting::sort;
 use crate::types::{Selection, Selections};
 use crate::used::UsedTable;
 use std::alloc::Global;
 use zi_choice::{Choice, Names, Used, trace_picks};
-use zi_feed::{Command, Dep, DepKind};
 use zi_inherited::{Inherited, Shared};
+use zi_parts::{Command, Dep, DepKind, copy_bindings, copy_digests, copy_text, copy_words};
 use zi_text::{List, Memory, Text};
 use zi_universe::{Candidate, Interface, Requirement, Universe};
 
@@ -163,7 +160,7 @@ fn selection_by(
     let id = imp.id.copy(on.alloc)?;
     let version = Text::from_str(on.alloc, imp.version.text())?;
     let from_feed = candidate.standing.feed.copy(on.alloc)?;
-    let stability = Text::from_str(on.alloc, stability_text(candidate.standing.stability))?;
+    let stability = Text::from_str(on.alloc, candidate.standing.stability.word())?;
     let digests = copy_digests(on.alloc, &imp.digests)?;
     let deps = met_of(on, &imp.deps)?;
     let commands = used_of(on, i, &imp.commands)?;

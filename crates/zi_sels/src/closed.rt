@@ -1,12 +1,11 @@
 //! Whether each interface has one selection, and each that is asked for has one.
 ghost use Rattle.std.specs.Prelude.{◌≡◌, [], ◌∷◌, IfOk, map, filter, codes, option_copied};
-ghost use Rattle.zi_forest.specs.Forest.{element_view, elements};
+ghost use Rattle.zi_elements.specs.Forest.{element_view, elements};
 ghost use Rattle.std.specs.List.{flat_map};
-ghost use Rattle.zi_feed.specs.Words.{first, is_among};
+ghost use Rattle.zi_reading.specs.Words.{first, is_among};
 ghost use Rattle.zi_feed.specs.Means.{counts_as};
 ghost use Rattle.zi_sels.specs.Refused.{first_twice, asks, asks_within, asking_at, asking_in, asking, unmet};
 
-use crate::attributes::{is_text, value};
 use crate::parts::children;
 use crate::types::Selection;
 use std::alloc::Global;
@@ -14,6 +13,7 @@ use std::collections::BTreeSet;
 use std::marker::Model;
 use zi_elements::Element;
 use zi_feed::counts_as;
+use zi_reading::{is_text, value};
 use zi_text::Memory;
 
 /// The interfaces that are selected for, by which each is found. Contracts see the list of them.
@@ -29,7 +29,7 @@ impl<'a> Model for Selected<'a> {
     ghost use Rattle.std.specs.BTreeSet as tree;
     ghost use Rattle.std.specs.Ordering.{nat_cmp};
     ghost use Rattle.std.specs.Cmp.Lexicographic.{slice_cmp};
-    ghost use Rattle.zi_feed.specs.Words.{is_among};
+    ghost use Rattle.zi_reading.specs.Words.{is_among};
 
     ghost Value = { List (List ℕ) };
 

@@ -1,15 +1,15 @@
 //! Commands as elements, with their arguments and what runs them.
 ghost use Rattle.std.specs.Prelude.{◌≡◌, ◌++◌, map, option_map, IfOk, OnOk};
-ghost use Rattle.zi_forest.specs.Forest.{element_view};
+ghost use Rattle.zi_elements.specs.Forest.{element_view};
 ghost use Rattle.zi_docout.specs.Elements.{Adds};
-ghost use Rattle.zi_feed.specs.Words.{optional};
+ghost use Rattle.zi_reading.specs.Words.{optional};
 ghost use Rattle.zi_sels.specs.Written.{command_wanted, arg_elem, word_elem, runner_elem, unbuilt_elem, command_elem};
 
 use crate::bindings::{put_bindings, put_deps};
 use crate::elements::{arg_element, put_unless, put_where_there};
 use std::alloc::Global;
 use zi_docout::{Element, Node, element, put_attr, put_child};
-use zi_feed::{Command, Runner, Word};
+use zi_parts::{Command, Runner, Word};
 use zi_text::{List, Memory, Text};
 
 // Adds arguments.

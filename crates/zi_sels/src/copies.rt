@@ -1,59 +1,24 @@
-//! Copies of what is selected: dependencies without what they restrict, and what stands beside them.
-ghost use Rattle.std.specs.Prelude.{◌≡◌, ◌++◌, option_map, IfOk, OnOk};
-ghost use Rattle.zi_sels.specs.Chosen.{plain, plain_runner, arch_text, stability_text};
+//! Copies of what is selected: dependencies without what they restrict, and what stands beside them; texts of attributes.
+ghost use Rattle.std.specs.Prelude.{◌≡◌, option_map, IfOk};
+ghost use Rattle.zi_elements.specs.Forest.{attribute, element_view};
+ghost use Rattle.zi_sels.specs.Chosen.{plain, plain_runner, arch_text};
 
 use std::alloc::Global;
-use zi_digest::DigestName;
-use zi_feed::{Binding, Dep, Runner, Word};
+use zi_elements::Element;
 use zi_inherited::Inherited;
-use zi_policy::{Arch, Condition, Stability};
+use zi_parts::{Binding, Dep, Runner, add_bindings, copy_bindings, copy_texts, copy_words};
+use zi_policy::{Arch, Condition};
+use zi_reading::attribute_text;
 use zi_text::{List, Memory, Text};
 
-/// The same text once more, where there is one.
-pub fn copy_text(alloc: Global, text: &Option<Text>) -> Result<Option<Text>, Memory>
-    ensures { IfOk result (λ t. t ≡ text.now) }
+/// The value of an attribute without a namespace as a text of its own, where there is one.
+pub fn copied(alloc: Global, e: &Element, name: &str) -> Result<Option<Text>, Memory>
+    ensures { IfOk result (λ t. t ≡ attribute name.now (element_view e.now)) }
 {
-    match text {
-        None => Ok(None),
+    match attribute_text(e, name) {
         Some(text) => Ok(Some(text.copy(alloc)?)),
+        None => Ok(None),
     }
-}
-
-// The same texts once more.
-fn copy_texts(alloc: Global, texts: &List<Text>) -> Result<List<Text>, Memory>
-    ensures { IfOk result (λ ts. ts ≡ texts.now) }
-{
-    let mut copy = List::new(alloc);
-    for text in texts.as_slice() {
-        copy.push(text.copy(alloc)?)?;
-    }
-    Ok(copy)
-}
-
-/// The same digests once more.
-pub fn copy_digests(alloc: Global, digests: &List<DigestName>) -> Result<List<DigestName>, Memory>
-    ensures { IfOk result (λ ds. ds ≡ digests.now) }
-{
-    Ok(List::from_vec(Vec::from_slice(alloc, digests.as_slice())?))
-}
-
-// Adds the same bindings once more.
-fn add_bindings(alloc: Global, bindings: &[Binding], copy: &mut List<Binding>) -> Result<(), Memory>
-    ensures { OnOk result (copy.new ≡ copy.old ++ bindings.now) }
-{
-    for binding in bindings {
-        copy.push(binding.copy(alloc)?)?;
-    }
-    Ok(())
-}
-
-/// The same bindings once more.
-pub fn copy_bindings(alloc: Global, bindings: &List<Binding>) -> Result<List<Binding>, Memory>
-    ensures { IfOk result (λ bs. bs ≡ bindings.now) }
-{
-    let mut copy = List::new(alloc);
-    add_bindings(alloc, bindings.as_slice(), &mut copy)?;
-    Ok(copy)
 }
 
 /// The same bindings, inherited ones among them, once more.
@@ -64,17 +29,6 @@ pub fn copy_inherited(alloc: Global, bindings: &Inherited<Binding>) -> Result<Li
     let pieces = bindings.segments(alloc)?;
     for piece in pieces.as_slice() {
         add_bindings(alloc, piece, &mut copy)?;
-    }
-    Ok(copy)
-}
-
-/// The same arguments once more.
-pub fn copy_words(alloc: Global, words: &List<Word>) -> Result<List<Word>, Memory>
-    ensures { IfOk result (λ ws. ws ≡ words.now) }
-{
-    let mut copy = List::new(alloc);
-    for word in words.as_slice() {
-        copy.push(word.copy(alloc)?)?;
     }
     Ok(copy)
 }
@@ -125,20 +79,5 @@ pub fn arch_text(alloc: Global, arch: &Option<Arch>) -> Result<Option<Text>, Mem
             text.push_str(arch.machine.as_str())?;
             Ok(Some(text))
         }
-    }
-}
-
-/// A stability as feeds write it.
-pub fn stability_text(stability: Stability) -> &'static str
-    ensures { result.now ≡ stability_text stability }
-{
-    match stability {
-        Stability::Insecure => "insecure",
-        Stability::Buggy => "buggy",
-        Stability::Developer => "developer",
-        Stability::Testing => "testing",
-        Stability::Stable => "stable",
-        Stability::Packaged => "packaged",
-        Stability::Preferred => "preferred",
     }
 }

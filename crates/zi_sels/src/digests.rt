@@ -1,9 +1,9 @@
 //! Digests as attributes of one element.
 ghost use Rattle.std.specs.Prelude.{◌≡◌, ◌∷◌, [], ◌++◌, ◌==◌, length, codes, IfOk, OnOk, MatchOption};
 ghost use Rattle.std.specs.List.{position_or_len, after_first};
-ghost use Rattle.zi_forest.specs.Forest.{element_view};
+ghost use Rattle.zi_elements.specs.Forest.{element_view};
 ghost use Rattle.zi_docout.specs.Elements.{elem, Adds};
-ghost use Rattle.zi_feed.specs.Digests.{attribute_by};
+ghost use Rattle.zi_parts.specs.Digests.{attribute_by};
 ghost use Rattle.zi_sels.specs.Written.{digits, is_by, digest_attr, digest_attrs_by, digest_attrs, digests_elems};
 
 use std::alloc::Global;

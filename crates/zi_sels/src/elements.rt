@@ -1,6 +1,6 @@
 //! Attributes that are left out where they say nothing, and arguments.
 ghost use Rattle.std.specs.Prelude.{◌≡◌, ◌++◌, IfOk, OnOk};
-ghost use Rattle.zi_forest.specs.Forest.{element_view, nodes_view};
+ghost use Rattle.zi_elements.specs.Forest.{element_view, nodes_view};
 ghost use Rattle.zi_sels.specs.Written.{attr_of, attr_unless, text_node, arg_elem};
 
 use std::alloc::Global;

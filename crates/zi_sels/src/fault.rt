@@ -1,7 +1,7 @@
 use std::alloc::{AllocError, AllocFailed};
 use thiserror::Error;
 use zi_doc::{DocFault, DocKind};
-use zi_feed::FeedKind;
+use zi_faults::FeedKind;
 use zi_text::{Memory, Text};
 
 /// Why bytes are no selections document: the first that holds, in the order NotSelections, Feed, Twice, NoRoot, Unclosed behind Doc.

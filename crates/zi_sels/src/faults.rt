@@ -1,11 +1,11 @@
 //! Faults of parts, and the first of them: by place, and there by kind.
 ghost use Rattle.std.specs.Prelude.{◌≡◌, ◌++◌, OnOk};
-ghost use Rattle.zi_forest.specs.Forest.{element_view};
-ghost use Rattle.zi_feed.specs.Faults.{fault_at, number, is_first, lesser_of};
+ghost use Rattle.zi_elements.specs.Forest.{element_view};
+ghost use Rattle.zi_faults.specs.Faults.{fault_at, number, is_first, lesser_of};
 ghost use Rattle.zi_sels.specs.Notes.{Notes};
 
 use zi_elements::Element;
-use zi_feed::{Fault, FeedFault, FeedKind};
+use zi_faults::{Fault, FeedFault, FeedKind};
 use zi_text::{List, Memory};
 
 /// A fault at an element.
@@ -40,7 +40,7 @@ fn number(kind: FeedKind) -> u8
 }
 
 // Whether one fault goes before another.
-#[tactic(auto, unfolding(zi_feed::specs::Faults::is_first))]
+#[tactic(auto, unfolding(zi_faults::specs::Faults::is_first))]
 fn is_first(f: Fault, g: Fault) -> bool
     ensures { result ≡ is_first f g }
 {

@@ -17,7 +17,6 @@
 //! Notes.antt what is known once some elements were read.
 #![tactic(auto)]
 
-mod attributes;
 mod bindings;
 mod choosing;
 mod closed;

@@ -1,23 +1,24 @@
 //! The faults of a selection itself, and of its repeated commands.
 ghost use Rattle.std.specs.Prelude.{◌≡◌, ◌++◌, ◌∷◌, [], IfOk, OnOk, codes, map, not, ◌&&◌};
-ghost use Rattle.zi_forest.specs.Forest.{element_view, attribute};
-ghost use Rattle.zi_feed.specs.Words.{is_wrong, is_amiss, repeated};
-ghost use Rattle.zi_feed.specs.Forms.{is_version};
-ghost use Rattle.zi_feed.specs.Address.{is_local};
-ghost use Rattle.zi_feed.specs.Sites.{is_unclear};
-ghost use Rattle.zi_feed.specs.Faults.{fault_at, least, share};
+ghost use Rattle.zi_elements.specs.Forest.{element_view, attribute};
+ghost use Rattle.zi_reading.specs.Words.{is_wrong, is_amiss, repeated};
+ghost use Rattle.zi_reading.specs.Forms.{is_version};
+ghost use Rattle.zi_address.specs.Address.{is_local};
+ghost use Rattle.zi_reading.specs.Reading.{is_unclear};
+ghost use Rattle.zi_faults.specs.Faults.{fault_at, least, share};
 ghost use Rattle.zi_feed.specs.Means.{counts_as};
-ghost use Rattle.zi_feed.specs.Views.{views};
-ghost use Rattle.zi_feed.specs.declared.fault.FeedKind.TheVariants.{BadPart};
+ghost use Rattle.zi_reading.specs.Views.{views};
+ghost use Rattle.zi_faults.specs.declared.fault.FeedKind.TheVariants.{BadPart};
 ghost use Rattle.zi_sels.specs.Refused.{own_kind, clear_among, second_commands};
 
-use crate::attributes::{attribute, is_unclear, is_version, value};
 use crate::faults::{fault_at, lesser_of};
 use crate::parts::children;
 use std::alloc::Global;
 use std::collections::BTreeSet;
 use zi_elements::Element;
-use zi_feed::{Fault, FeedKind, counts_as};
+use zi_faults::{Fault, FeedKind};
+use zi_feed::counts_as;
+use zi_reading::{attribute, is_unclear, is_version, value};
 use zi_text::Memory;
 
 // A selection has no version.

@@ -1,21 +1,21 @@
 //! What stands in a selection, kind by kind: each part is read as a part of a feed is, by `zi_feed`'s readers of single elements.
 ghost use Rattle.std.specs.Prelude.{◌≡◌, [], ◌∷◌, filter, codes, None, IfOk, OnOk};
-ghost use Rattle.zi_forest.specs.Forest.{element_view, elements};
+ghost use Rattle.zi_elements.specs.Forest.{element_view, elements};
+ghost use Rattle.zi_reading.specs.Ways.{AsWritten};
 ghost use Rattle.zi_feed.specs.Feeds.{part_fault};
-ghost use Rattle.zi_feed.specs.Impls.{said_digests};
-ghost use Rattle.zi_feed.specs.Values.{binding_of, dep_of, command_of};
+ghost use Rattle.zi_parts.specs.Digests.{said_digests};
+ghost use Rattle.zi_parts.specs.Values.{binding_of, dep_of, command_of};
 ghost use Rattle.zi_feed.specs.Means.{counts_as, counts_as_binding};
-ghost use Rattle.zi_feed.specs.Views.{views};
+ghost use Rattle.zi_reading.specs.Views.{views};
 ghost use Rattle.zi_sels.specs.Notes.{AreRead};
 
 use crate::faults::note;
 use std::alloc::Global;
 use zi_digest::DigestName;
 use zi_elements::{Element, Node};
-use zi_feed::{
-    Binding, Command, Dep, Fault, binding_of, command_of, counts_as, counts_as_binding, dep_of,
-    digests_of,
-};
+use zi_faults::Fault;
+use zi_feed::{binding_of, command_of, counts_as, counts_as_binding, dep_of, digests_of};
+use zi_parts::{Binding, Command, Dep};
 use zi_text::{List, Memory};
 
 /// The elements in an element.
@@ -68,7 +68,7 @@ fn take_dep(
     deps: &mut List<Dep>,
     fault: &mut Option<Fault>,
 ) -> Result<(), Memory>
-    ensures { OnOk result (AreRead part_fault (dep_of None) (filter (counts_as (codes "requires")) (element_view e.now ∷ [])) deps.old fault.old deps.new fault.new) }
+    ensures { OnOk result (AreRead part_fault (dep_of AsWritten) (filter (counts_as (codes "requires")) (element_view e.now ∷ [])) deps.old fault.old deps.new fault.new) }
 {
     if !counts_as(alloc, e, "requires")? {
         return Ok(());
@@ -82,7 +82,7 @@ pub fn deps_in(
     parts: &[&Element],
     fault: &mut Option<Fault>,
 ) -> Result<List<Dep>, Memory>
-    ensures { IfOk result (λ ds. AreRead part_fault (dep_of None) (filter (counts_as (codes "requires")) (views parts.now)) [] fault.old ds fault.new) }
+    ensures { IfOk result (λ ds. AreRead part_fault (dep_of AsWritten) (filter (counts_as (codes "requires")) (views parts.now)) [] fault.old ds fault.new) }
 {
     let mut deps = List::new(alloc);
     for e in parts {
@@ -98,7 +98,7 @@ fn take_command(
     commands: &mut List<Command>,
     fault: &mut Option<Fault>,
 ) -> Result<(), Memory>
-    ensures { OnOk result (AreRead part_fault (command_of None) (filter (counts_as (codes "command")) (element_view e.now ∷ [])) commands.old fault.old commands.new fault.new) }
+    ensures { OnOk result (AreRead part_fault (command_of AsWritten) (filter (counts_as (codes "command")) (element_view e.now ∷ [])) commands.old fault.old commands.new fault.new) }
 {
     if !counts_as(alloc, e, "command")? {
         return Ok(());
@@ -112,7 +112,7 @@ pub fn commands_in(
     parts: &[&Element],
     fault: &mut Option<Fault>,
 ) -> Result<List<Command>, Memory>
-    ensures { IfOk result (λ ks. AreRead part_fault (command_of None) (filter (counts_as (codes "command")) (views parts.now)) [] fault.old ks fault.new) }
+    ensures { IfOk result (λ ks. AreRead part_fault (command_of AsWritten) (filter (counts_as (codes "command")) (views parts.now)) [] fault.old ks fault.new) }
 {
     let mut commands = List::new(alloc);
     for e in parts {

@@ -1,7 +1,7 @@
 //! Selections documents, read.
 ghost use Rattle.std.specs.Prelude.{◌≡◌, ◌∷◌, [], map, filter, codes, IfOk, IfErr, OnOk};
-ghost use Rattle.zi_forest.specs.Forest.{element_view};
-ghost use Rattle.zi_feed.specs.Faults.{least};
+ghost use Rattle.zi_elements.specs.Forest.{element_view};
+ghost use Rattle.zi_faults.specs.Faults.{least};
 ghost use Rattle.zi_feed.specs.Means.{counts_as};
 ghost use Rattle.zi_sels.specs.declared.types.Selections.{Selections as Value};
 ghost use Rattle.zi_sels.specs.declared.fault.SelsFault.{SelsFault as Refusal};
@@ -10,8 +10,8 @@ ghost use Rattle.zi_sels.specs.Notes.{AreRead};
 ghost use Rattle.zi_sels.specs.Refused.{selection_fault, root_faults, is_selections, closed_fault, tree_fault};
 ghost use Rattle.zi_sels.specs.Reading.{Says, HasFault, FaultMeans, Gives, ReadsTree, Passes};
 
-use crate::attributes::{attribute, copied, is, is_unclear, value};
 use crate::closed::{Selected, first_twice, first_unclosed};
+use crate::copies::copied;
 use crate::fault::SelsFault;
 use crate::faults::{fault_at, note};
 use crate::laws::one_reading;
@@ -19,9 +19,10 @@ use crate::parts::children;
 use crate::selecting::selection_of;
 use crate::types::{Selection, Selections};
 use std::alloc::Global;
-use zi_elements::Element;
-use zi_feed::{Fault, FeedKind, counts_as};
-use zi_forest::Document;
+use zi_elements::{Document, Element};
+use zi_faults::{Fault, FeedKind};
+use zi_feed::counts_as;
+use zi_reading::{attribute, is, is_unclear, value};
 use zi_text::{List, Memory, Text};
 
 // Whether a root is that of a selections document.

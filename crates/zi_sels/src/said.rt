@@ -1,8 +1,8 @@
 //! The digests of a selection: what its elements say, and its id.
 ghost use Rattle.std.specs.Prelude.{◌≡◌, ◌++◌, IfOk};
 ghost use Rattle.std.specs.List.{find, flat_map};
-ghost use Rattle.zi_feed.specs.Words.{optional};
-ghost use Rattle.zi_feed.specs.Digests.{digest_of};
+ghost use Rattle.zi_reading.specs.Words.{optional};
+ghost use Rattle.zi_parts.specs.Digests.{digest_of};
 ghost use Rattle.zi_sels.specs.Written.{is_by};
 ghost use Rattle.zi_sels.specs.Read.{in_order_of_use};
 

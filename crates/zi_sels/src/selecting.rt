@@ -1,14 +1,14 @@
 //! One selection, read.
 ghost use Rattle.std.specs.Prelude.{◌≡◌, IfOk, option_map, unwrap_or};
-ghost use Rattle.zi_forest.specs.Forest.{element_view, attribute, value};
-ghost use Rattle.zi_feed.specs.Faults.{fault_at};
+ghost use Rattle.zi_elements.specs.Forest.{element_view, attribute, value};
+ghost use Rattle.zi_faults.specs.Faults.{fault_at};
 ghost use Rattle.zi_feed.specs.Means.{Reads};
-ghost use Rattle.zi_feed.specs.declared.fault.FeedFault.TheVariants.{Bad};
+ghost use Rattle.zi_faults.specs.declared.fault.FeedFault.TheVariants.{Bad};
 ghost use Rattle.zi_sels.specs.Read.{selection_of};
 ghost use Rattle.zi_sels.specs.Refused.{own_kind, selection_fault};
 ghost use Rattle.zi_sels.specs.Parts.{selection_with, ArePartsOf};
 
-use crate::attributes::{attribute, copied, is_unclear, value};
+use crate::copies::copied;
 use crate::faults::{fault_at, lesser_of};
 use crate::own::{own_kind, second_command};
 use crate::parts::{bindings_in, children, commands_in, deps_in, said_in};
@@ -17,7 +17,9 @@ use crate::types::Selection;
 use std::alloc::Global;
 use zi_digest::DigestName;
 use zi_elements::Element;
-use zi_feed::{Binding, Command, Dep, Fault, FeedFault, FeedKind};
+use zi_faults::{Fault, FeedFault, FeedKind};
+use zi_parts::{Binding, Command, Dep};
+use zi_reading::{attribute, is_unclear, value};
 use zi_text::{List, Memory, Text};
 
 /// What stands in a selection.

@@ -1,5 +1,5 @@
 use zi_digest::DigestName;
-use zi_feed::{Binding, Command, Dep};
+use zi_parts::{Binding, Command, Dep};
 use zi_text::{List, Text};
 
 /// What is selected for a program.

@@ -1,6 +1,6 @@
 //! The document of selections: its tree, and its text.
 ghost use Rattle.std.specs.Prelude.{◌≡◌, ◌++◌, map, IfOk, OnOk, OnErr};
-ghost use Rattle.zi_forest.specs.Forest.{element_view};
+ghost use Rattle.zi_elements.specs.Forest.{element_view};
 ghost use Rattle.zi_docout.specs.Amiss.{first_amiss};
 ghost use Rattle.zi_docout.specs.Answers.{IsFirst};
 ghost use Rattle.zi_docout.specs.Elements.{Adds};

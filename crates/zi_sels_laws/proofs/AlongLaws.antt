@@ -1,8 +1,10 @@
 -- The elements along the paths of a feed without a fault: each of them is without one, and so is what is read in it.
 use Rattle.std.proofs.Common.{◌≡◌, ℕ, Bool, true, false, List, [], ◌∷◌, ◌++◌, map, refl}
 use Rattle.std.specs.Prelude.{not, if◌then◌else◌}
-use Rattle.zi_forest.specs.Forest.{Forest, none, words, child, Elem}
-use Rattle.zi_feed.specs.Sites.{Ways, Site, here, under, path, sites, stands, is_closed}
+use Rattle.zi_elements.specs.Forest.{Forest, none, words, child, Elem}
+use Rattle.zi_reading.specs.Ways.{Ways}
+use Rattle.zi_reading.specs.Reading.{stands, is_closed}
+use Rattle.zi_faults.specs.Sites.{Site, here, under, path, sites}
 use Rattle.zi_sels_laws.proofs.LikeLaws.{Each, each_append}
 use Rattle.zi_sels_laws.proofs.FreeLaws.{clash, each_front, IsFree, IsRight, strip}
 

@@ -3,11 +3,12 @@ use Rattle.std.proofs.Common.{◌≡◌, ℕ, Bool, true, false, cond, ◌||◌,
 use Rattle.std.specs.Prelude.{filter, find, bytes_eq, if◌then◌else◌}
 use Rattle.std.specs.List.{list_any}
 use Rattle.std.proofs.lemmas.Bool.{or_parts}
-use Rattle.zi_feed.specs.Texts.{same}
-use Rattle.zi_feed.specs.Words.{repeated, repeated_after, latest}
+use Rattle.zi_elements.specs.Namespace.{injector}
+use Rattle.zi_address.specs.Texts.{same}
+use Rattle.zi_reading.specs.Words.{repeated, repeated_after, latest}
 use Rattle.zi_feed.specs.Impls.{are_alike, main_command, is_run, with_main}
-use Rattle.zi_feed.specs.declared.feed.Command.{Command}
-use Rattle.zi_feed.proofs.TableLaws.{same_text, same_refl}
+use Rattle.zi_parts.specs.declared.types.Command.{Command}
+use Rattle.zi_reading.proofs.TableLaws.{same_text, same_refl}
 use Rattle.zi_sels_laws.proofs.LikeLaws.{Each}
 use Rattle.zi_sels_laws.proofs.FieldLaws.{app}
 use Rattle.zi_sels_laws.proofs.FreeLaws.{each_map}
@@ -141,12 +142,12 @@ abbrev pub IsFound : List Command → Command → Type 0
 IsFound cs c = find (λ m. bytes_eq m.name c.name) cs ≡ Some c
 
 found_behind : (c : Command) (cs ds : List Command) → Each (IsOther c) ds → Each (IsFound cs) ds → Each (IsFound (c ∷ cs)) ds
-unfolding same
+unfolding same injector
 found_behind c cs [] h k = tt
 found_behind c cs (d ∷ ds) h k = (ap (λ b. cond b (Some c) (find (λ m. bytes_eq m.name d.name) cs)) h.0 ∙ k.0, found_behind c cs ds h.1 k.1)
 
 name_is : (x : List ℕ) → bytes_eq x x ≡ true
-unfolding same
+unfolding same injector
 name_is x = same_refl x x refl
 
 pub each_found : (cs : List Command) → AreApart cs → Each (IsFound cs) cs

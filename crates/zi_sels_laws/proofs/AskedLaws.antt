@@ -2,17 +2,18 @@
 use Rattle.std.proofs.Common.{◌≡◌, ℕ, Bool, true, false, cond, ◌&&◌, ◌||◌, List, [], ◌∷◌, ◌++◌, Option, codes, refl, sym, ap, subst, ◌∙◌}
 use Rattle.std.specs.Prelude.{not, filter, unwrap_or, if◌then◌else◌}
 use Rattle.std.specs.List.{flat_map}
-use Rattle.zi_forest.specs.Forest.{Elem, elements, value}
+use Rattle.zi_elements.specs.Forest.{Elem, elements, value}
+use Rattle.zi_elements.specs.Namespace.{injector}
 use Rattle.zi_docout.specs.Same.{IsSame}
-use Rattle.zi_feed.specs.Texts.{same}
-use Rattle.zi_feed.specs.Words.{is_among, optional}
-use Rattle.zi_feed.specs.Sites.{binding_names}
+use Rattle.zi_address.specs.Texts.{same}
+use Rattle.zi_reading.specs.Words.{is_among, optional}
+use Rattle.zi_reading.specs.Reading.{binding_names}
 use Rattle.zi_feed.specs.Means.{counts_as}
-use Rattle.zi_feed.specs.declared.feed.Dep.{Dep}
-use Rattle.zi_feed.specs.declared.feed.DepKind.{DepKind}
-use Rattle.zi_feed.specs.declared.feed.DepKind.TheVariants.{Essential, Recommended, Restricts}
-use Rattle.zi_feed.specs.declared.feed.Command.{Command}
-use Rattle.zi_feed.specs.declared.feed.Runner.{Runner}
+use Rattle.zi_parts.specs.declared.types.Dep.{Dep}
+use Rattle.zi_parts.specs.declared.types.DepKind.{DepKind}
+use Rattle.zi_parts.specs.declared.types.DepKind.TheVariants.{Essential, Recommended, Restricts}
+use Rattle.zi_parts.specs.declared.types.Command.{Command}
+use Rattle.zi_parts.specs.declared.types.Runner.{Runner}
 use Rattle.zi_sels.specs.declared.types.Selection.{Selection}
 use Rattle.zi_sels.specs.Written.{dep_elem, command_elem, runner_elem, selection_elem}
 use Rattle.zi_sels.specs.Refused.{asks, asks_within, asking_at, asking_in, unmet}
@@ -116,21 +117,21 @@ is_essential Recommended = false
 is_essential Restricts = true
 
 kind_asks : (kind : DepKind) → IsAsked kind → (true && not (same (unwrap_or (importance kind) []) (codes "recommended"))) ≡ is_essential kind
-unfolding same
+unfolding same injector
 kind_asks Essential h = refl
 kind_asks Recommended h = refl
 kind_asks Restricts h = absurd h
 
 same_self : same (codes "requires") (codes "requires") ≡ true
-unfolding same
+unfolding same injector
 same_self = refl
 
 not_command : same (codes "requires") (codes "command") ≡ false
-unfolding same
+unfolding same injector
 not_command = refl
 
 not_runner : same (codes "requires") (codes "runner") ≡ false
-unfolding same
+unfolding same injector
 not_runner = refl
 
 dep_asks : (dep : Dep) (r : Elem) → IsProperDep dep → IsSame (dep_elem dep) r → asks r ≡ is_essential dep.kind
@@ -180,11 +181,11 @@ abbrev IsMetProper : List (List ℕ) → Command → Type 0
 IsMetProper is c = IsProperCommand c × IsMetCommand is c
 
 self_command : same (codes "command") (codes "command") ≡ true
-unfolding same
+unfolding same injector
 self_command = refl
 
 within_all : (is : List (List ℕ)) (c : Command) (rs : List Elem) → IsMetProper is c → PartsOf c rs → Each (MeetsWithin is) rs
-unfolding same
+unfolding same injector
 within_all is c rs h p =
     let n = names_of c rs h.0 p in
     let W = MeetsWithin is in
@@ -208,7 +209,7 @@ abbrev pub IsMetWhole : List (List ℕ) → Selection → Type 0
 IsMetWhole is item = IsProperItem item × IsMetItem is item
 
 pub item_meets : (is : List (List ℕ)) (item : Selection) (r : Elem) → IsMetWhole is item → IsSame (selection_elem item) r → Each (IsIn is) (asking_in r)
-unfolding same
+unfolding same injector
 item_meets is item r h s =
     let p = item_inside item r s in
     let n = named_inside item (elements r.inside) h.0 p in

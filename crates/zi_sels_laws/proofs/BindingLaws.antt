@@ -3,21 +3,23 @@ use Rattle.std.proofs.Common.{◌≡◌, ℕ, Bool, true, false, ◌&&◌, ◌||
 use Rattle.std.specs.Prelude.{not, filter, is_some, option_and_then, unwrap_or, if◌then◌else◌}
 use Rattle.std.specs.List.{list_any}
 use Rattle.zi_elements.specs.declared.element.Attr.{Attr}
-use Rattle.zi_forest.specs.Forest.{Forest, Elem, elements, attribute, lacks, value_among}
+use Rattle.zi_elements.specs.Forest.{Forest, Elem, elements, attribute, lacks, value_among}
+use Rattle.zi_elements.specs.Namespace.{injector}
 use Rattle.zi_docout.specs.Elements.{attr}
 use Rattle.zi_docout.specs.Same.{IsSame}
-use Rattle.zi_feed.specs.Texts.{same, is_none}
-use Rattle.zi_feed.specs.Words.{is_among, listed, is_wrong, repeated}
-use Rattle.zi_feed.specs.Forms.{mode_of, importance_of}
-use Rattle.zi_feed.specs.Sites.{Said, is, is_closed, is_part, is_unclear, parts, binding_names}
-use Rattle.zi_feed.specs.Values.{binding_of, those}
-use Rattle.zi_feed.specs.Faults.{faults_with, kinds_at, is_bad_part, is_bad_environment, is_bad_for_each, repeats_in, share}
-use Rattle.zi_feed.specs.declared.feed.Binding.{Binding}
-use Rattle.zi_feed.specs.declared.feed.Binding.TheVariants.{Env, Unbuilt}
-use Rattle.zi_feed.specs.declared.feed.Extra.{Extra}
-use Rattle.zi_feed.specs.declared.feed.Extra.TheVariants.{Insert, Value}
-use Rattle.zi_feed.specs.declared.feed.Mode.{Mode}
-use Rattle.zi_feed.specs.declared.feed.Mode.TheVariants.{Prepend, Append, Replace}
+use Rattle.zi_address.specs.Texts.{same, is_none}
+use Rattle.zi_reading.specs.Ways.{AsWritten}
+use Rattle.zi_reading.specs.Words.{is_among, listed, is_wrong, repeated}
+use Rattle.zi_parts.specs.Values.{mode_of, importance_of, binding_of}
+use Rattle.zi_reading.specs.Reading.{is, is_closed, is_part, is_unclear, parts, binding_names, those}
+use Rattle.zi_faults.specs.Said.{Said}
+use Rattle.zi_faults.specs.Faults.{faults_with, kinds_at, is_bad_part, is_bad_environment, is_bad_for_each, repeats_in, share}
+use Rattle.zi_parts.specs.declared.types.Binding.{Binding}
+use Rattle.zi_parts.specs.declared.types.Binding.TheVariants.{Env, Unbuilt}
+use Rattle.zi_parts.specs.declared.types.Extra.{Extra}
+use Rattle.zi_parts.specs.declared.types.Extra.TheVariants.{Insert, Value}
+use Rattle.zi_parts.specs.declared.types.Mode.{Mode}
+use Rattle.zi_parts.specs.declared.types.Mode.TheVariants.{Prepend, Append, Replace}
 use Rattle.zi_sels.specs.Written.{attr_of, attr_unless, extra_attr, mode_attrs, binding_elem}
 use Rattle.zi_sels_laws.proofs.LikeLaws.{AreSame, same_inside, Each, each_read, values_back}
 use Rattle.zi_sels_laws.proofs.FieldLaws.{Field, field, fields, looked, unless, unless_field, unless_back, app}
@@ -39,23 +41,23 @@ pub none_same : (rs : List Elem) → AreSame [] rs → rs ≡ []
 none_same [] s = refl
 none_same (r ∷ rs) s = absurd s
 
-pub no_parts : (e : Elem) → elements e.inside ≡ [] → parts None e ≡ []
+pub no_parts : (e : Elem) → elements e.inside ≡ [] → parts AsWritten e ≡ []
 unfolding parts
-no_parts e h = ap (λ v. if is_closed e then [] else filter (is_part None e.name) v) h ∙ either (is_closed e)
+no_parts e h = ap (λ v. if is_closed e then [] else filter (is_part AsWritten e.name) v) h ∙ either (is_closed e)
   where
-    either : (b : Bool) → (if b then [] else filter (is_part None e.name) []) ≡ []
+    either : (b : Bool) → (if b then [] else filter (is_part AsWritten e.name) []) ≡ []
     either true = refl
     either false = refl
 
 -- nothing is repeated in an element, by what is read in it
-pub no_repeats : (e : Elem) (ps : List Elem) → parts None e ≡ ps → repeated (λ a b. true) (those (listed (codes "runner")) ps) ≡ []
-    → repeated (share (codes "name")) (those (listed (codes "command")) ps) ≡ [] → repeats_in None e ≡ []
+pub no_repeats : (e : Elem) (ps : List Elem) → parts AsWritten e ≡ ps → repeated (λ a b. true) (those (listed (codes "runner")) ps) ≡ []
+    → repeated (share (codes "name")) (those (listed (codes "command")) ps) ≡ [] → repeats_in AsWritten e ≡ []
 unfolding repeats_in
 no_repeats e ps h k l =
     ap (λ v. repeated (λ a b. true) (those (listed (codes "runner")) v) ++ repeated (share (codes "name")) (those (listed (codes "command")) v)) h
     ∙ app (ap {B = List Elem → List Elem} (λ v w. v ++ w) k) l
 
-pub empty_repeats : (e : Elem) → elements e.inside ≡ [] → repeats_in None e ≡ []
+pub empty_repeats : (e : Elem) → elements e.inside ≡ [] → repeats_in AsWritten e ≡ []
 empty_repeats e h = no_repeats e [] (no_parts e h) refl refl
 
 -- the four ways in which a part can be bad, none of which is so
@@ -127,13 +129,13 @@ extra_again (Insert path) = refl
 extra_again (Value text) = refl
 
 mode_again : (mode : Mode) → unwrap_or (option_and_then mode_of (mode_text mode)) Prepend ≡ mode
-unfolding mode_of same
+unfolding mode_of same injector
 mode_again Prepend = refl
 mode_again Append = refl
 mode_again Replace = refl
 
 mode_right : (mode : Mode) → is_wrong (λ t. is_some (mode_of t)) (mode_text mode) ≡ false
-unfolding mode_of same
+unfolding mode_of same injector
 mode_right Prepend = refl
 mode_right Append = refl
 mode_right Replace = refl
@@ -148,7 +150,7 @@ env_here fs f p = here_is (codes "environment") (fields fs) f p
 env_means : (fs : List Field) (f : Forest) (p : ℕ)
     → binding_of (env_here fs f p) ≡ env_by (attribute (codes "name") (env_here fs f p)) (attribute (codes "insert") (env_here fs f p)) (attribute (codes "value") (env_here fs f p))
     (attribute (codes "mode") (env_here fs f p)) (attribute (codes "separator") (env_here fs f p)) (attribute (codes "default") (env_here fs f p))
-unfolding binding_of same
+unfolding binding_of same injector
 env_means fs f p = refl
 
 env_back : (name : List ℕ) (extra : Extra) (mode : Mode) (separator : List ℕ) (default : Option (List ℕ)) (f : Forest) (p : ℕ)
@@ -160,8 +162,8 @@ env_back name extra mode separator default f p =
     ∙ app (app (ap {B = Mode → List ℕ → Binding} (λ x m s. Env name x m s default) (extra_again extra)) (mode_again mode)) (unless_back (codes ":") separator))
 
 env_tested : (s : Said) (fs : List Field) (f : Forest) (p : ℕ)
-    → faults_with None s (env_here fs f p) ≡ tested_faults (env_here fs f p) (is_unclear (env_here fs f p)) false (is_bad_part (env_here fs f p)) false false (repeats_in None (env_here fs f p))
-unfolding faults_with kinds_at same is_among
+    → faults_with AsWritten s (env_here fs f p) ≡ tested_faults (env_here fs f p) (is_unclear (env_here fs f p)) false (is_bad_part (env_here fs f p)) false false (repeats_in AsWritten (env_here fs f p))
+unfolding faults_with kinds_at same is_among injector
 env_tested s fs f p = refl
 
 env_bad : (fs : List Field) (f : Forest) (p : ℕ)
@@ -185,7 +187,7 @@ env_good name extra mode separator default f p h =
     four false false false false true p q r s = absurd (cc s)
 
 env_part : (fs : List Field) (f : Forest) (p : ℕ) → is_bad_environment (env_here fs f p) ≡ false → is_bad_part (env_here fs f p) ≡ false
-unfolding same
+unfolding same injector
 env_part fs f p h = good_part (env_here fs f p) h refl refl refl
 
 env_free : (name : List ℕ) (extra : Extra) (mode : Mode) (separator : List ℕ) (default : Option (List ℕ)) (f : Forest) (p : ℕ) → attribute condition (env_here (env_fields name extra mode separator default) f p) ≡ None
@@ -196,7 +198,7 @@ env_clean : (name : List ℕ) (extra : Extra) (mode : Mode) (separator : List �
 env_clean name extra mode separator default f p h inside =
     let fs = env_fields name extra mode separator default in
     let e = env_here fs f p in (
-      λ s. env_tested s fs f p ∙ quiet_where e (is_unclear e) false (is_bad_part e) false false (repeats_in None e)
+      λ s. env_tested s fs f p ∙ quiet_where e (is_unclear e) false (is_bad_part e) false false (repeats_in AsWritten e)
           (free_clear e (env_free name extra mode separator default f p)) refl (env_part fs f p (env_good name extra mode separator default f p h)) refl refl (empty_repeats e inside),
       clean_inside (codes "environment") f (subst (Each IsClean) (sym inside) tt),
     )
@@ -204,20 +206,20 @@ env_clean name extra mode separator default f p h inside =
 -- Bindings that aren't built.
 
 other_back : (name : List ℕ) (f : Forest) (p : ℕ) → is_among other_names name ≡ true → binding_of (here_is name [] f p) ≡ Unbuilt name
-unfolding binding_of same
+unfolding binding_of same injector
 other_back name f p h = among_each (λ n. binding_of (here_is n [] f p) ≡ Unbuilt n) other_names name (refl, (refl, (refl, (refl, tt)))) h
 
 other_tested : (name : List ℕ) (s : Said) (f : Forest) (p : ℕ) → is_among other_names name ≡ true
-    → faults_with None s (here_is name [] f p) ≡ tested_faults (here_is name [] f p) false false false false false (repeats_in None (here_is name [] f p))
-unfolding faults_with kinds_at same is_among is_unclear
+    → faults_with AsWritten s (here_is name [] f p) ≡ tested_faults (here_is name [] f p) false false false false false (repeats_in AsWritten (here_is name [] f p))
+unfolding faults_with kinds_at same is_among is_unclear injector
 other_tested name s f p h =
-    among_each (λ n. faults_with None s (here_is n [] f p) ≡ tested_faults (here_is n [] f p) false false false false false (repeats_in None (here_is n [] f p)))
+    among_each (λ n. faults_with AsWritten s (here_is n [] f p) ≡ tested_faults (here_is n [] f p) false false false false false (repeats_in AsWritten (here_is n [] f p)))
     other_names name (refl, (refl, (refl, (refl, tt)))) h
 
 other_clean : (name : List ℕ) (f : Forest) (p : ℕ) → is_among other_names name ≡ true → elements f ≡ [] → IsClean (here_is name [] f p)
 other_clean name f p h inside =
     let e = here_is name [] f p in (
-      λ s. other_tested name s f p h ∙ quiet_where e false false false false false (repeats_in None e) refl refl refl refl refl (empty_repeats e inside),
+      λ s. other_tested name s f p h ∙ quiet_where e false false false false false (repeats_in AsWritten e) refl refl refl refl refl (empty_repeats e inside),
       clean_inside name f (subst (Each IsClean) (sym inside) tt),
     )
 
@@ -227,11 +229,11 @@ abbrev pub IsBinding : Elem → Type 0
 IsBinding = IsOf binding_names
 
 env_known : is_among binding_names (codes "environment") ≡ true
-unfolding is_among same
+unfolding is_among same injector
 env_known = refl
 
 other_known : (name : List ℕ) → is_among other_names name ≡ true → is_among binding_names name ≡ true
-unfolding is_among same
+unfolding is_among same injector
 other_known name h = among_each (λ n. is_among binding_names n ≡ true) other_names name (refl, (refl, (refl, (refl, tt)))) h
 
 pub binding_is : (b : Binding) (r : Elem) → IsProperBinding b → IsSame (binding_elem b) r → IsBinding r
@@ -283,13 +285,13 @@ bindings_clean bs rs h s = each_read binding_elem IsProperBinding IsClean bindin
 
 -- what the names of bindings are, and what they are not
 pub bindings_among : Each (λ n. is_among binding_names n ≡ true) binding_names
-unfolding is_among same
+unfolding is_among same injector
 bindings_among = (refl, (refl, (refl, (refl, (refl, tt)))))
 
 pub no_runner : Each (λ n. is_among (listed (codes "runner")) n ≡ false) binding_names
-unfolding is_among same
+unfolding is_among same injector
 no_runner = (refl, (refl, (refl, (refl, (refl, tt)))))
 
 pub no_command : Each (λ n. is_among (listed (codes "command")) n ≡ false) binding_names
-unfolding is_among same
+unfolding is_among same injector
 no_command = (refl, (refl, (refl, (refl, (refl, tt)))))

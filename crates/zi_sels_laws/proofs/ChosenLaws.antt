@@ -11,10 +11,10 @@ use Rattle.std.proofs.lemmas.Bool.{or_right}
 use Rattle.zi_policy.specs.declared.types.Policy.{Policy}
 use Rattle.zi_outside.specs.Views.{Holding}
 use Rattle.zi_docout.specs.Amiss.{first_amiss}
-use Rattle.zi_feed.specs.Texts.{same}
-use Rattle.zi_feed.specs.Words.{is_among}
-use Rattle.zi_feed.specs.declared.feed.Dep.{Dep}
-use Rattle.zi_feed.proofs.TableLaws.{same_text, same_refl}
+use Rattle.zi_address.specs.Texts.{same}
+use Rattle.zi_reading.specs.Words.{is_among}
+use Rattle.zi_parts.specs.declared.types.Dep.{Dep}
+use Rattle.zi_reading.proofs.TableLaws.{same_text, same_refl}
 use Rattle.zi_universe.specs.declared.types.Requirement.{Requirement}
 use Rattle.zi_universe.specs.declared.types.Candidate.{Candidate}
 use Rattle.zi_universe.specs.declared.types.Interface.{Interface}

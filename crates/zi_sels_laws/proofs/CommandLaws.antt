@@ -2,19 +2,22 @@
 use Rattle.std.proofs.Common.{◌≡◌, ℕ, Bool, true, false, List, [], ◌∷◌, ◌++◌, map, Option, Some, None, codes, refl, sym, ap, subst, ◌∙◌, append-nil}
 use Rattle.std.specs.Prelude.{not, is_some, option_map, unwrap_or}
 use Rattle.zi_elements.specs.declared.element.Attr.{Attr}
-use Rattle.zi_forest.specs.Forest.{Forest, Elem, elements, attribute}
+use Rattle.zi_elements.specs.Forest.{Forest, Elem, elements, attribute}
+use Rattle.zi_elements.specs.Namespace.{injector}
 use Rattle.zi_docout.specs.Elements.{attr}
 use Rattle.zi_docout.specs.Same.{IsSame}
-use Rattle.zi_feed.specs.Texts.{same}
-use Rattle.zi_feed.specs.Words.{is_among, listed, first, optional, repeated}
-use Rattle.zi_feed.specs.Sites.{Said, is_part, is_unclear, parts, binding_names, read_in}
-use Rattle.zi_feed.specs.Values.{binding_of, bindings_of, dep_of, deps_of, word_of, args_of, runner_of, command_of, those, named}
-use Rattle.zi_feed.specs.Faults.{faults_with, kinds_at, is_bad_part, repeats_in, share}
-use Rattle.zi_feed.specs.declared.feed.Binding.{Binding}
-use Rattle.zi_feed.specs.declared.feed.Word.{Word}
-use Rattle.zi_feed.specs.declared.feed.Dep.{Dep}
-use Rattle.zi_feed.specs.declared.feed.Runner.{Runner}
-use Rattle.zi_feed.specs.declared.feed.Command.{Command}
+use Rattle.zi_address.specs.Texts.{same}
+use Rattle.zi_reading.specs.Ways.{AsWritten}
+use Rattle.zi_reading.specs.Words.{is_among, listed, first, optional, repeated}
+use Rattle.zi_reading.specs.Reading.{is_part, is_unclear, parts, binding_names, read_in, those, named}
+use Rattle.zi_faults.specs.Said.{Said}
+use Rattle.zi_parts.specs.Values.{binding_of, bindings_of, dep_of, deps_of, word_of, args_of, runner_of, command_of}
+use Rattle.zi_faults.specs.Faults.{faults_with, kinds_at, is_bad_part, repeats_in, share}
+use Rattle.zi_parts.specs.declared.types.Binding.{Binding}
+use Rattle.zi_parts.specs.declared.types.Word.{Word}
+use Rattle.zi_parts.specs.declared.types.Dep.{Dep}
+use Rattle.zi_parts.specs.declared.types.Runner.{Runner}
+use Rattle.zi_parts.specs.declared.types.Command.{Command}
 use Rattle.zi_sels.specs.Written.{attr_of, binding_elem, dep_elem, word_elem, runner_elem, unbuilt_elem, command_elem}
 use Rattle.zi_sels_laws.proofs.LikeLaws.{AreSame, same_inside, Each, each_append, each_read, values_back, parted}
 use Rattle.zi_sels_laws.proofs.FieldLaws.{Field, field, fields, looked, app}
@@ -76,14 +79,14 @@ dir_same : (name : List ℕ) (r : Elem) → IsSame (unbuilt_elem name) r → her
 dir_same name r s = made_is name [] _ r s
 
 dir_tested : (s : Said) (f : Forest) (p : ℕ)
-    → faults_with None s (here_is (codes "working-dir") [] f p) ≡ tested_faults (here_is (codes "working-dir") [] f p) false false false false false (repeats_in None (here_is (codes "working-dir") [] f p))
-unfolding faults_with kinds_at same is_among is_unclear
+    → faults_with AsWritten s (here_is (codes "working-dir") [] f p) ≡ tested_faults (here_is (codes "working-dir") [] f p) false false false false false (repeats_in AsWritten (here_is (codes "working-dir") [] f p))
+unfolding faults_with kinds_at same is_among is_unclear injector
 dir_tested s f p = refl
 
 dir_here_clean : (f : Forest) (p : ℕ) → elements f ≡ [] → IsClean (here_is (codes "working-dir") [] f p)
 dir_here_clean f p inside =
     let e = here_is (codes "working-dir") [] f p in (
-      λ v. dir_tested v f p ∙ quiet_where e false false false false false (repeats_in None e) refl refl refl refl refl (empty_repeats e inside),
+      λ v. dir_tested v f p ∙ quiet_where e false false false false false (repeats_in AsWritten e) refl refl refl refl refl (empty_repeats e inside),
       clean_inside (codes "working-dir") f (subst (Each IsClean) (sym inside) tt),
     )
 
@@ -96,7 +99,7 @@ dir_plain : (name : List ℕ) (r : Elem) → IsSame (unbuilt_elem name) r → Is
 dir_plain name r s = subst (IsPlain name) (dir_same name r s) (record { space = refl; named = refl; free = refl })
 
 dir_known : is_among dir_names (codes "working-dir") ≡ true
-unfolding is_among same
+unfolding is_among same injector
 dir_known = refl
 
 dir_is : (name : List ℕ) (r : Elem) → IsDir name → IsSame (unbuilt_elem name) r → IsOf dir_names r
@@ -153,7 +156,7 @@ pub record NamesOf (bs us ds ws ks : List Elem) : Type 0 where
   pub runners : Each (IsOf runner_names) ks
 
 dep_known : is_among dep_names (codes "requires") ≡ true
-unfolding is_among same
+unfolding is_among same injector
 dep_known = refl
 
 dep_of_name : (dep : Dep) (r : Elem) → IsProperDep dep → IsSame (dep_elem dep) r → IsOf dep_names r
@@ -162,8 +165,8 @@ dep_of_name dep r h s = record { name = codes "requires"; plain = dep_is dep r h
 pub deps_are : (ds : List Dep) (rs : List Elem) → Each IsProperDep ds → AreSame (map dep_elem ds) rs → Each (IsOf dep_names) rs
 deps_are ds rs h s = each_read dep_elem IsProperDep (IsOf dep_names) dep_of_name ds rs h s
 
-pub deps_back : (ds : List Dep) (rs : List Elem) → Each IsProperDep ds → AreSame (map dep_elem ds) rs → map (dep_of None) rs ≡ ds
-deps_back ds rs h s = values_back dep_elem (dep_of None) IsProperDep dep_back ds rs h s
+pub deps_back : (ds : List Dep) (rs : List Elem) → Each IsProperDep ds → AreSame (map dep_elem ds) rs → map (dep_of AsWritten) rs ≡ ds
+deps_back ds rs h s = values_back dep_elem (dep_of AsWritten) IsProperDep dep_back ds rs h s
 
 pub deps_clean : (ds : List Dep) (rs : List Elem) → Each IsProperDep ds → AreSame (map dep_elem ds) rs → Each IsClean rs
 deps_clean ds rs h s = each_read dep_elem IsProperDep IsClean dep_clean ds rs h s
@@ -184,21 +187,21 @@ five_those names bs us ds ws ks b u d w k hb hu hd hw hk =
     (two_those names (bs ++ us ++ ds) ws (b ++ u ++ d) w (two_those names (bs ++ us) ds (b ++ u) d (two_those names bs us b u hb hu) hd) hw) hk
 
 the_bindings : (bs us ds ws ks : List Elem) → NamesOf bs us ds ws ks → those binding_names (bs ++ us ++ ds ++ ws ++ ks) ≡ bs
-unfolding is_among same
+unfolding is_among same injector
 the_bindings bs us ds ws ks n =
     five_those binding_names bs us ds ws ks bs [] [] [] [] (of_those binding_names binding_names true (refl, (refl, (refl, (refl, (refl, tt))))) bs n.bindings) (of_those dir_names binding_names false (refl, tt) us n.dirs)
     (of_those dep_names binding_names false (refl, tt) ds n.deps) (of_those word_names binding_names false (refl, (refl, tt)) ws n.words) (of_those runner_names binding_names false (refl, tt) ks n.runners)
     ∙ (append-nil (bs ++ [] ++ [] ++ []) ∙ (append-nil (bs ++ [] ++ []) ∙ (append-nil (bs ++ []) ∙ append-nil bs)))
 
 the_dirs : (bs us ds ws ks : List Elem) → NamesOf bs us ds ws ks → those dir_names (bs ++ us ++ ds ++ ws ++ ks) ≡ us
-unfolding is_among same
+unfolding is_among same injector
 the_dirs bs us ds ws ks n =
     five_those dir_names bs us ds ws ks [] us [] [] [] (of_those binding_names dir_names false (refl, (refl, (refl, (refl, (refl, tt))))) bs n.bindings) (of_those dir_names dir_names true (refl, tt) us n.dirs)
     (of_those dep_names dir_names false (refl, tt) ds n.deps) (of_those word_names dir_names false (refl, (refl, tt)) ws n.words) (of_those runner_names dir_names false (refl, tt) ks n.runners)
     ∙ (append-nil (us ++ [] ++ []) ∙ (append-nil (us ++ []) ∙ append-nil us))
 
 the_deps : (bs us ds ws ks : List Elem) → NamesOf bs us ds ws ks → those (listed (codes "requires restricts")) (bs ++ us ++ ds ++ ws ++ ks) ≡ ds
-unfolding is_among same
+unfolding is_among same injector
 the_deps bs us ds ws ks n =
     let names = listed (codes "requires restricts") in
     five_those names bs us ds ws ks [] [] ds [] [] (of_those binding_names names false (refl, (refl, (refl, (refl, (refl, tt))))) bs n.bindings) (of_those dir_names names false (refl, tt) us n.dirs)
@@ -206,30 +209,30 @@ the_deps bs us ds ws ks n =
     ∙ (append-nil (ds ++ []) ∙ append-nil ds)
 
 the_words : (bs us ds ws ks : List Elem) → NamesOf bs us ds ws ks → those word_names (bs ++ us ++ ds ++ ws ++ ks) ≡ ws
-unfolding is_among same
+unfolding is_among same injector
 the_words bs us ds ws ks n =
     five_those word_names bs us ds ws ks [] [] [] ws [] (of_those binding_names word_names false (refl, (refl, (refl, (refl, (refl, tt))))) bs n.bindings) (of_those dir_names word_names false (refl, tt) us n.dirs)
     (of_those dep_names word_names false (refl, tt) ds n.deps) (of_those word_names word_names true (refl, (refl, tt)) ws n.words) (of_those runner_names word_names false (refl, tt) ks n.runners)
     ∙ append-nil ws
 
 the_runners : (bs us ds ws ks : List Elem) → NamesOf bs us ds ws ks → those runner_names (bs ++ us ++ ds ++ ws ++ ks) ≡ ks
-unfolding is_among same
+unfolding is_among same injector
 the_runners bs us ds ws ks n =
     five_those runner_names bs us ds ws ks [] [] [] [] ks (of_those binding_names runner_names false (refl, (refl, (refl, (refl, (refl, tt))))) bs n.bindings) (of_those dir_names runner_names false (refl, tt) us n.dirs)
     (of_those dep_names runner_names false (refl, tt) ds n.deps) (of_those word_names runner_names false (refl, (refl, tt)) ws n.words) (of_those runner_names runner_names true (refl, tt) ks n.runners)
 
 no_commands : (bs us ds ws ks : List Elem) → NamesOf bs us ds ws ks → those (listed (codes "command")) (bs ++ us ++ ds ++ ws ++ ks) ≡ []
-unfolding is_among same
+unfolding is_among same injector
 no_commands bs us ds ws ks n =
     let names = listed (codes "command") in
     five_those names bs us ds ws ks [] [] [] [] [] (of_those binding_names names false (refl, (refl, (refl, (refl, (refl, tt))))) bs n.bindings) (of_those dir_names names false (refl, tt) us n.dirs)
     (of_those dep_names names false (refl, tt) ds n.deps) (of_those word_names names false (refl, (refl, tt)) ws n.words) (of_those runner_names names false (refl, tt) ks n.runners)
 
 abbrev IsPartHere : Elem → Type 0
-IsPartHere r = is_part None (codes "command") r ≡ true
+IsPartHere r = is_part AsWritten (codes "command") r ≡ true
 
 all_stand : (bs us ds ws ks : List Elem) → NamesOf bs us ds ws ks → Each IsPartHere (bs ++ us ++ ds ++ ws ++ ks)
-unfolding is_among same read_in
+unfolding is_among same read_in injector
 all_stand bs us ds ws ks n =
     each_append IsPartHere (bs ++ us ++ ds ++ ws) ks
     (each_append IsPartHere (bs ++ us ++ ds) ws
@@ -257,9 +260,9 @@ abbrev command_by : Option (List ℕ) → Option (List ℕ) → List Word → Op
 command_by n path ws k ds bs u = record { name = unwrap_or n []; path = path; words = ws; runner = k; deps = ds; bindings = bs; unbuilt = u }
 
 command_means : (name : List ℕ) (path : Option (List ℕ)) (f : Forest) (p : ℕ)
-    → command_of None (command_here name path f p) ≡ command_by (attribute (codes "name") (command_here name path f p)) (attribute (codes "path") (command_here name path f p))
-    (args_of None (command_here name path f p)) (option_map (runner_of None) (first (named None runner_names (command_here name path f p)))) (deps_of None (command_here name path f p))
-    (bindings_of None (command_here name path f p)) (option_map (λ w. w.name) (first (named None dir_names (command_here name path f p))))
+    → command_of AsWritten (command_here name path f p) ≡ command_by (attribute (codes "name") (command_here name path f p)) (attribute (codes "path") (command_here name path f p))
+    (args_of AsWritten (command_here name path f p)) (option_map (runner_of AsWritten) (first (named AsWritten runner_names (command_here name path f p)))) (deps_of AsWritten (command_here name path f p))
+    (bindings_of AsWritten (command_here name path f p)) (option_map (λ w. w.name) (first (named AsWritten dir_names (command_here name path f p))))
 unfolding command_of
 command_means name path f p = refl
 
@@ -267,11 +270,11 @@ command_plain : (name : List ℕ) (path : Option (List ℕ)) (f : Forest) (p : �
 command_plain name path f p = record { space = refl; named = refl; free = looked condition (command_fields name path) refl }
 
 no_recipe : same (codes "command") (codes "recipe") ≡ false
-unfolding same
+unfolding same injector
 no_recipe = refl
 
 command_parts : (name : List ℕ) (path : Option (List ℕ)) (f : Forest) (p : ℕ) (bs us ds ws ks : List Elem) → elements f ≡ bs ++ us ++ ds ++ ws ++ ks → NamesOf bs us ds ws ks
-    → parts None (command_here name path f p) ≡ bs ++ us ++ ds ++ ws ++ ks
+    → parts AsWritten (command_here name path f p) ≡ bs ++ us ++ ds ++ ws ++ ks
 command_parts name path f p bs us ds ws ks whole n =
     let e = command_here name path f p in
     all_parts e (plain_open (codes "command") e (command_plain name path f p) no_recipe) (subst (Each IsPartHere) (sym whole) (all_stand bs us ds ws ks n)) ∙ whole
@@ -279,33 +282,33 @@ command_parts name path f p bs us ds ws ks whole n =
 abbrev command_at : Command → Forest → ℕ → Elem
 command_at c f p = command_here c.name c.path f p
 
-command_here_back : (c : Command) (f : Forest) (p : ℕ) → IsProperCommand c → PartsOf c (elements f) → command_of None (command_at c f p) ≡ c
+command_here_back : (c : Command) (f : Forest) (p : ℕ) → IsProperCommand c → PartsOf c (elements f) → command_of AsWritten (command_at c f p) ≡ c
 command_here_back c f p h s =
     let n = names_of c (elements f) h s in
     let found = command_parts c.name c.path f p s.bindings s.dirs s.deps s.words s.runners s.whole n in
-    let words : args_of None (command_at c f p) ≡ c.words = ap (λ v. map (word_of None) (those word_names v)) found
-    ∙ (ap (map (word_of None)) (the_words s.bindings s.dirs s.deps s.words s.runners n) ∙ words_back c.words s.words h.words s.words_same) in
-    let deps : deps_of None (command_at c f p) ≡ c.deps = ap (λ v. map (dep_of None) (those (listed (codes "requires restricts")) v)) found
-    ∙ (ap (map (dep_of None)) (the_deps s.bindings s.dirs s.deps s.words s.runners n) ∙ deps_back c.deps s.deps h.deps s.deps_same) in
-    let bindings : bindings_of None (command_at c f p) ≡ c.bindings = ap (λ v. map binding_of (those binding_names v)) found
+    let words : args_of AsWritten (command_at c f p) ≡ c.words = ap (λ v. map (word_of AsWritten) (those word_names v)) found
+    ∙ (ap (map (word_of AsWritten)) (the_words s.bindings s.dirs s.deps s.words s.runners n) ∙ words_back c.words s.words h.words s.words_same) in
+    let deps : deps_of AsWritten (command_at c f p) ≡ c.deps = ap (λ v. map (dep_of AsWritten) (those (listed (codes "requires restricts")) v)) found
+    ∙ (ap (map (dep_of AsWritten)) (the_deps s.bindings s.dirs s.deps s.words s.runners n) ∙ deps_back c.deps s.deps h.deps s.deps_same) in
+    let bindings : bindings_of AsWritten (command_at c f p) ≡ c.bindings = ap (λ v. map binding_of (those binding_names v)) found
     ∙ (ap (map binding_of) (the_bindings s.bindings s.dirs s.deps s.words s.runners n) ∙ bindings_back c.bindings s.bindings h.bindings s.bindings_same) in
-    let runner : option_map (runner_of None) (first (named None runner_names (command_at c f p))) ≡ c.runner = ap (λ v. option_map (runner_of None) (first (those runner_names v))) found
-    ∙ (ap (λ v. option_map (runner_of None) (first v)) (the_runners s.bindings s.dirs s.deps s.words s.runners n)
-    ∙ one_back (runner_of None) c.runner s.runners (values_back runner_elem (runner_of None) IsProperRunner runner_back (optional c.runner) s.runners h.runner s.runners_same)) in
-    let dir : option_map (λ (w : Elem). w.name) (first (named None dir_names (command_at c f p))) ≡ c.unbuilt = ap (λ v. option_map (λ (w : Elem). w.name) (first (those dir_names v))) found
+    let runner : option_map (runner_of AsWritten) (first (named AsWritten runner_names (command_at c f p))) ≡ c.runner = ap (λ v. option_map (runner_of AsWritten) (first (those runner_names v))) found
+    ∙ (ap (λ v. option_map (runner_of AsWritten) (first v)) (the_runners s.bindings s.dirs s.deps s.words s.runners n)
+    ∙ one_back (runner_of AsWritten) c.runner s.runners (values_back runner_elem (runner_of AsWritten) IsProperRunner runner_back (optional c.runner) s.runners h.runner s.runners_same)) in
+    let dir : option_map (λ (w : Elem). w.name) (first (named AsWritten dir_names (command_at c f p))) ≡ c.unbuilt = ap (λ v. option_map (λ (w : Elem). w.name) (first (those dir_names v))) found
     ∙ (ap (λ v. option_map (λ (w : Elem). w.name) (first v)) (the_dirs s.bindings s.dirs s.deps s.words s.runners n)
     ∙ one_back (λ (w : Elem). w.name) c.unbuilt s.dirs (values_back unbuilt_elem (λ (w : Elem). w.name) IsDir dir_back (optional c.unbuilt) s.dirs h.unbuilt s.dirs_same)) in
     command_means c.name c.path f p
     ∙ app (app (app (app (app (app (ap command_by (looked (codes "name") (command_fields c.name c.path) refl)) (looked (codes "path") (command_fields c.name c.path) refl)) words) runner) deps) bindings) dir
 
 command_tested : (s : Said) (name : List ℕ) (path : Option (List ℕ)) (f : Forest) (p : ℕ)
-    → faults_with None s (command_here name path f p) ≡ tested_faults (command_here name path f p) (is_unclear (command_here name path f p)) false (is_bad_part (command_here name path f p))
-    false false (repeats_in None (command_here name path f p))
-unfolding faults_with kinds_at same is_among
+    → faults_with AsWritten s (command_here name path f p) ≡ tested_faults (command_here name path f p) (is_unclear (command_here name path f p)) false (is_bad_part (command_here name path f p))
+    false false (repeats_in AsWritten (command_here name path f p))
+unfolding faults_with kinds_at same is_among injector
 command_tested s name path f p = refl
 
 command_good : (name : List ℕ) (path : Option (List ℕ)) (f : Forest) (p : ℕ) → is_bad_part (command_here name path f p) ≡ false
-unfolding same
+unfolding same injector
 command_good name path f p = good_part (command_here name path f p) refl (ap (λ o. not (is_some o)) (looked (codes "name") (command_fields name path) refl)) refl refl
 
 command_here_clean : (c : Command) (f : Forest) (p : ℕ) → IsProperCommand c → PartsOf c (elements f) → IsClean (command_at c f p)
@@ -313,7 +316,7 @@ command_here_clean c f p h s =
     let n = names_of c (elements f) h s in
     let e = command_at c f p in
     let all = s.bindings ++ s.dirs ++ s.deps ++ s.words ++ s.runners in (
-      λ v. command_tested v c.name c.path f p ∙ quiet_where e (is_unclear e) false (is_bad_part e) false false (repeats_in None e)
+      λ v. command_tested v c.name c.path f p ∙ quiet_where e (is_unclear e) false (is_bad_part e) false false (repeats_in AsWritten e)
           (free_clear e (looked condition (command_fields c.name c.path) refl)) refl (command_good c.name c.path f p) refl refl
           (no_repeats e all (command_parts c.name c.path f p s.bindings s.dirs s.deps s.words s.runners s.whole n)
           (ap (repeated (λ a b. true)) (the_runners s.bindings s.dirs s.deps s.words s.runners n) ∙ single runner_elem (λ a b. true) c.runner s.runners s.runners_same)
@@ -343,8 +346,8 @@ command_inside c r s =
 pub command_is : (c : Command) (r : Elem) → IsProperCommand c → IsSame (command_elem c) r → IsPlain (codes "command") r
 command_is c r h s = subst (IsPlain (codes "command")) (command_same c r s) (command_plain c.name c.path r.inside r.place)
 
-pub command_back : (c : Command) (r : Elem) → IsProperCommand c → IsSame (command_elem c) r → command_of None r ≡ c
-command_back c r h s = ap (command_of None) (sym (command_same c r s)) ∙ command_here_back c r.inside r.place h (command_inside c r s)
+pub command_back : (c : Command) (r : Elem) → IsProperCommand c → IsSame (command_elem c) r → command_of AsWritten r ≡ c
+command_back c r h s = ap (command_of AsWritten) (sym (command_same c r s)) ∙ command_here_back c r.inside r.place h (command_inside c r s)
 
 pub command_clean : (c : Command) (r : Elem) → IsProperCommand c → IsSame (command_elem c) r → IsClean r
 command_clean c r h s = subst IsClean (command_same c r s) (command_here_clean c r.inside r.place h (command_inside c r s))

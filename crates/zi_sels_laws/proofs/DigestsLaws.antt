@@ -3,7 +3,8 @@ use Rattle.std.proofs.Common.{◌≡◌, ℕ, Bool, false, ◌||◌, List, [], �
 use Rattle.std.specs.Prelude.{not, is_some, option_map, option_and_then}
 use Rattle.std.specs.List.{find, filter_map, flat_map}
 use Rattle.hex.specs.Hex.{encode_lower}
-use Rattle.zi_forest.specs.Forest.{Forest, Elem, elements, attribute}
+use Rattle.zi_elements.specs.Forest.{Forest, Elem, elements, attribute}
+use Rattle.zi_elements.specs.Namespace.{injector}
 use Rattle.zi_docout.specs.Elements.{elem}
 use Rattle.zi_docout.specs.Same.{IsSame}
 use Rattle.zi_digest.specs.Name.{base32, IsDigest}
@@ -11,13 +12,14 @@ use Rattle.zi_digest.specs.declared.Algorithm.{Algorithm}
 use Rattle.zi_digest.specs.declared.Algorithm.TheVariants.{Sha1new, Sha256, Sha256new}
 use Rattle.zi_digest.specs.declared.DigestName.{DigestName}
 use Rattle.zi_digest.specs.declared.DigestName.TheVariants as digest
-use Rattle.zi_feed.specs.Texts.{same}
-use Rattle.zi_feed.specs.Words.{is_among, is_wrong, optional}
-use Rattle.zi_feed.specs.Digests.{digest_of, digest_by, attribute_by, algorithms}
-use Rattle.zi_feed.specs.Sites.{Said, is_unclear}
-use Rattle.zi_feed.specs.Impls.{said_digest, said_digests}
-use Rattle.zi_feed.specs.Faults.{faults_with, kinds_at, has_bad_digits, repeats_in}
-use Rattle.zi_feed.proofs.DigestLaws.{digest_spelled}
+use Rattle.zi_address.specs.Texts.{same}
+use Rattle.zi_reading.specs.Ways.{AsWritten}
+use Rattle.zi_reading.specs.Words.{is_among, is_wrong, optional}
+use Rattle.zi_parts.specs.Digests.{digest_of, digest_by, attribute_by, algorithms, said_digest, said_digests}
+use Rattle.zi_reading.specs.Reading.{is_unclear}
+use Rattle.zi_faults.specs.Said.{Said}
+use Rattle.zi_faults.specs.Faults.{faults_with, kinds_at, has_bad_digits, repeats_in}
+use Rattle.zi_parts.proofs.DigestLaws.{digest_spelled}
 use Rattle.zi_sels.specs.Written.{is_by, digest_attrs, digests_elems}
 use Rattle.zi_sels.specs.Read.{in_order_of_use}
 use Rattle.zi_sels_laws.proofs.LikeLaws.{AreSame, same_inside, Each}
@@ -148,15 +150,15 @@ digest_good n s o f p h =
     ∙ right_digits Sha1new (option_map encode_lower o) (option_map (λ b. digest.Sha1new b) o) (old_back o h.old) (kept_some (λ b. digest.Sha1new b) o ∙ sym (kept_some encode_lower o)))
 
 digest_tested : (v : Said) (n s o : Option (List ℕ)) (f : Forest) (p : ℕ)
-    → faults_with None v (digest_here n s o f p) ≡ tested_faults (digest_here n s o f p) (is_unclear (digest_here n s o f p)) (has_bad_digits (digest_here n s o f p)) false false false
-    (repeats_in None (digest_here n s o f p))
-unfolding faults_with kinds_at same is_among
+    → faults_with AsWritten v (digest_here n s o f p) ≡ tested_faults (digest_here n s o f p) (is_unclear (digest_here n s o f p)) (has_bad_digits (digest_here n s o f p)) false false false
+    (repeats_in AsWritten (digest_here n s o f p))
+unfolding faults_with kinds_at same is_among injector
 digest_tested v n s o f p = refl
 
 digest_here_clean : (n s o : Option (List ℕ)) (f : Forest) (p : ℕ) → AreWhole n s o → elements f ≡ [] → IsClean (digest_here n s o f p)
 digest_here_clean n s o f p h inside =
     let e = digest_here n s o f p in (
-      λ v. digest_tested v n s o f p ∙ quiet_where e (is_unclear e) (has_bad_digits e) false false false (repeats_in None e)
+      λ v. digest_tested v n s o f p ∙ quiet_where e (is_unclear e) (has_bad_digits e) false false false (repeats_in AsWritten e)
           (free_clear e (looked condition (digest_fields n s o) refl)) (digest_good n s o f p h) refl refl refl (empty_repeats e inside),
       clean_inside (codes "manifest-digest") f (subst (Each IsClean) (sym inside) tt),
     )

@@ -3,22 +3,25 @@ use Rattle.std.proofs.Common.{◌≡◌, ℕ, Bool, true, false, ◌&&◌, List,
 use Rattle.std.specs.Prelude.{not, option_map, option_and_then, is_some, if◌then◌else◌}
 use Rattle.std.specs.List.{filter_map, cons_option, flat_map, list_any}
 use Rattle.std.proofs.lemmas.Bool.{and_parts}
-use Rattle.zi_forest.specs.Forest.{Elem, value}
+use Rattle.zi_elements.specs.Forest.{Elem, value}
 use Rattle.zi_version.specs.Value.{value as version_value}
 use Rattle.zi_version.specs.Range.{a_version}
-use Rattle.zi_feed.specs.Texts.{is_none, pieces_of}
-use Rattle.zi_feed.specs.Words.{latest, is_wrong}
-use Rattle.zi_feed.specs.Forms.{is_version}
-use Rattle.zi_feed.specs.Address.{is_local, placed, path_of, settled, without_last}
-use Rattle.zi_feed.specs.Sites.{Ways, Site, is, is_unclear, path, Said, said}
-use Rattle.zi_feed.specs.Values.{deps_of, commands_of, bindings_of}
-use Rattle.zi_feed.specs.Impls.{are_alike, is_run, main_command, with_main, version_text, local_text, local_of, impl_with, impl_from, impl_of}
-use Rattle.zi_feed.specs.Faults.{faults_at, is_impl, root_faults, same_ids, implementations, counts, fault_at, least}
+use Rattle.zi_address.specs.Texts.{is_none, pieces_of}
+use Rattle.zi_reading.specs.Words.{latest, is_wrong}
+use Rattle.zi_reading.specs.Forms.{is_version}
+use Rattle.zi_address.specs.Address.{is_local, placed, path_of, settled, without_last}
+use Rattle.zi_reading.specs.Ways.{Ways, InFeed}
+use Rattle.zi_reading.specs.Reading.{is, is_unclear}
+use Rattle.zi_faults.specs.Sites.{Site, path}
+use Rattle.zi_faults.specs.Said.{Said, said, version_text, local_text}
+use Rattle.zi_parts.specs.Values.{deps_of, commands_of, bindings_of}
+use Rattle.zi_feed.specs.Impls.{are_alike, is_run, main_command, with_main, local_of, impl_with, impl_from, impl_of}
+use Rattle.zi_faults.specs.Faults.{faults_at, is_impl, root_faults, same_ids, implementations, counts, fault_at, least}
 use Rattle.zi_feed.specs.Feeds.{feed_sites, all_faults, feed_fault, feed_of}
-use Rattle.zi_feed.specs.declared.fault.Fault.{Fault}
-use Rattle.zi_feed.specs.declared.fault.FeedKind.TheVariants.{NotInterface}
-use Rattle.zi_feed.specs.declared.feed.Command.{Command}
-use Rattle.zi_feed.specs.declared.feed.Impl.{Impl}
+use Rattle.zi_faults.specs.declared.fault.Fault.{Fault}
+use Rattle.zi_faults.specs.declared.fault.FeedKind.TheVariants.{NotInterface}
+use Rattle.zi_parts.specs.declared.types.Command.{Command}
+use Rattle.zi_parts.specs.declared.types.Impl.{Impl}
 use Rattle.zi_sels_laws.proofs.LikeLaws.{Each, each_append, each_both}
 use Rattle.zi_sels_laws.proofs.BindingLaws.{IsProperBinding}
 use Rattle.zi_sels_laws.proofs.DigestsLaws.{AreProper}
@@ -58,7 +61,7 @@ placed_local base text = either (is_local text) refl
     either true h = ap not h
     either false h = of_parts (settled (without_last (pieces_of 47 base) ++ pieces_of 47 text))
 
-local_given : (uri : List ℕ) (s : Said) (e : Elem) → is_wrong is_local (local_of (Some uri) s e) ≡ false
+local_given : (uri : List ℕ) (s : Said) (e : Elem) → is_wrong is_local (local_of (InFeed uri) s e) ≡ false
 local_given uri s e = either (is_local uri) (local_text s e)
   where
     either : (b : Bool) (o : Option (List ℕ)) → is_wrong is_local (if b then option_and_then (placed uri) o else None) ≡ false
@@ -90,16 +93,16 @@ main_given (Some p) cs h = either (list_any is_run cs)
 abbrev read_as : List ℕ → Site → List ℕ → Impl
 read_as uri t version =
     let es = path t in
-    let ways : Ways = Some uri in
+    let ways : Ways = InFeed uri in
     impl_with ways (said es) (flat_map (deps_of ways) es) (flat_map (commands_of ways) es) (flat_map (bindings_of ways) es) t.element version
 
 no_id : (a b : Bool) → a ≡ true → (a && b) ≡ false → b ≡ false
 no_id true b h k = k
 no_id false b h k = absurd (cc h)
 
-given_with : (uri : List ℕ) (t : Site) → IsRightAlong (Some uri) t → is_none (value (codes "id") t.element) ≡ false → (v : List ℕ) → is_version v ≡ true → IsGiven (read_as uri t v)
+given_with : (uri : List ℕ) (t : Site) → IsRightAlong (InFeed uri) t → is_none (value (codes "id") t.element) ≡ false → (v : List ℕ) → is_version v ≡ true → IsGiven (read_as uri t v)
 given_with uri t right id v version =
-    let ways : Ways = Some uri in
+    let ways : Ways = InFeed uri in
     let cs = flat_map (commands_of ways) (path t) in record {
       id = id;
       version = version;
@@ -111,10 +114,10 @@ given_with uri t right id v version =
       bindings = each_flat IsProperBinding (bindings_of ways) (IsRight ways) (bindings_sound ways) (path t) right;
     }
 
-given_at : (uri : List ℕ) (t : Site) → faults_at (Some uri) t ≡ [] → IsRightAlong (Some uri) t → counts t.element ≡ true → (i : Impl) → impl_of (Some uri) t ≡ Some i → IsGiven i
+given_at : (uri : List ℕ) (t : Site) → faults_at (InFeed uri) t ≡ [] → IsRightAlong (InFeed uri) t → counts t.element ≡ true → (i : Impl) → impl_of (InFeed uri) t ≡ Some i → IsGiven i
 unfolding impl_of impl_from
 given_at uri t free right counted i h =
-    let s = sound (Some uri) (said (path t)) t.element free in
+    let s = sound (InFeed uri) (said (path t)) t.element free in
     let is_one = (and_parts (is_impl t.element) (not (is_unclear t.element)) counted).0 in
     let id = no_id (is_impl t.element) (is_none (value (codes "id") t.element)) is_one s.kinds.1.0 in
     by_text (version_text (said (path t))) id h
@@ -130,25 +133,25 @@ given_at uri t free right counted i h =
 -- All of a feed.
 
 record IsSeen (uri : List ℕ) (t : Site) : Type 0 where
-  pub free : faults_at (Some uri) t ≡ []
-  pub right : IsRightAlong (Some uri) t
+  pub free : faults_at (InFeed uri) t ≡ []
+  pub right : IsRightAlong (InFeed uri) t
 
 no_faults : (ways : Ways) (ss : List Site) → flat_map (faults_at ways) ss ≡ [] → Each (λ t. faults_at ways t ≡ []) ss
 no_faults ways [] h = tt
 no_faults ways (s ∷ ss) h = let b = empty_both (faults_at ways s) (flat_map (faults_at ways) ss) h in (b.0, no_faults ways ss b.1)
 
-each_given : (uri : List ℕ) (ts : List Site) → Each (λ t. IsSeen uri t × (counts t.element ≡ true)) ts → Each IsGiven (filter_map (impl_of (Some uri)) ts)
+each_given : (uri : List ℕ) (ts : List Site) → Each (λ t. IsSeen uri t × (counts t.element ≡ true)) ts → Each IsGiven (filter_map (impl_of (InFeed uri)) ts)
 each_given uri [] h = tt
-each_given uri (t ∷ ts) h = either (impl_of (Some uri) t) refl (each_given uri ts h.1)
+each_given uri (t ∷ ts) h = either (impl_of (InFeed uri) t) refl (each_given uri ts h.1)
   where
-    either : (o : Option Impl) → impl_of (Some uri) t ≡ o → Each IsGiven (filter_map (impl_of (Some uri)) ts) → Each IsGiven (cons_option o (filter_map (impl_of (Some uri)) ts))
+    either : (o : Option Impl) → impl_of (InFeed uri) t ≡ o → Each IsGiven (filter_map (impl_of (InFeed uri)) ts) → Each IsGiven (cons_option o (filter_map (impl_of (InFeed uri)) ts))
     either None e more = more
     either (Some i) e more = (given_at uri t h.0.0.free h.0.0.right h.0.1 i e, more)
 
-all_free : (root : Elem) (uri : List ℕ) → feed_fault root uri ≡ None → flat_map (faults_at (Some uri)) (feed_sites uri root) ≡ []
+all_free : (root : Elem) (uri : List ℕ) → feed_fault root uri ≡ None → flat_map (faults_at (InFeed uri)) (feed_sites uri root) ≡ []
 unfolding feed_fault
 all_free root uri h =
-    let faults = flat_map (faults_at (Some uri)) (feed_sites uri root) in
+    let faults = flat_map (faults_at (InFeed uri)) (feed_sites uri root) in
     let twice = same_ids (map (λ t. t.element) (feed_sites uri root)) in
     let none = least_none (all_faults uri root) (is_one (is (codes "interface") root) (least (all_faults uri root)) h) in
     (empty_both faults twice (empty_both (root_faults uri root) (faults ++ twice) none).1).0
@@ -163,8 +166,8 @@ unfolding feed_of
 feed_given root uri h =
     let ss = feed_sites uri root in
     let none = all_free root uri h in
-    let right = along (Some uri) root.name root.inside (free_all (Some uri) ss none) in
+    let right = along (InFeed uri) root.name root.inside (free_all (InFeed uri) ss none) in
     each_given uri (implementations ss)
     (each_filter (IsSeen uri) (λ t. counts t.element) ss
-    (each_weak (λ t. (faults_at (Some uri) t ≡ []) × IsRightAlong (Some uri) t) (IsSeen uri) (λ t k. record { free = k.0; right = k.1 }) ss
-    (each_both (λ t. faults_at (Some uri) t ≡ []) (IsRightAlong (Some uri)) ss (no_faults (Some uri) ss none) right)))
+    (each_weak (λ t. (faults_at (InFeed uri) t ≡ []) × IsRightAlong (InFeed uri) t) (IsSeen uri) (λ t k. record { free = k.0; right = k.1 }) ss
+    (each_both (λ t. faults_at (InFeed uri) t ≡ []) (IsRightAlong (InFeed uri)) ss (no_faults (InFeed uri) ss none) right)))

@@ -5,7 +5,7 @@ use Rattle.std.specs.List.{find, list_any}
 use Rattle.std.proofs.lemmas.Slice.Eq.{bytes_eq-Decides}
 use Rattle.std.proofs.lemmas.Bool.{and_parts, not-true}
 use Rattle.zi_elements.specs.declared.element.Attr.{Attr}
-use Rattle.zi_forest.specs.Forest.{is_attribute, value_among}
+use Rattle.zi_elements.specs.Forest.{is_attribute, value_among}
 use Rattle.zi_docout.specs.Elements.{attr}
 use Rattle.zi_sels.specs.Written.{attr_of, attr_unless}
 

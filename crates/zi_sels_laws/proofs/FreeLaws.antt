@@ -2,14 +2,17 @@
 use Rattle.std.proofs.Common.{◌≡◌, ℕ, Bool, true, false, cond, ◌&&◌, ◌||◌, List, [], ◌∷◌, ◌++◌, map, Option, Some, None, codes, refl, sym, ap, ◌∙◌}
 use Rattle.std.specs.Prelude.{not, filter, option_map, if◌then◌else◌}
 use Rattle.std.specs.List.{flat_map}
-use Rattle.zi_forest.specs.Forest.{Forest, none, words, child, Elem, elements}
-use Rattle.zi_feed.specs.Words.{is_among, listed, optional, first}
-use Rattle.zi_feed.specs.Sites.{Ways, Site, here, under, path, Said, said, sites, stands, is, is_ours, is_closed, is_unclear, is_part, parts}
-use Rattle.zi_feed.specs.Faults.{fault_at, faults_at, faults_with, kinds_at, all_kinds, has_fault, is_bad_part, repeats_in, lesser, is_first, least}
+use Rattle.zi_elements.specs.Forest.{Forest, none, words, child, Elem, elements}
+use Rattle.zi_reading.specs.Words.{is_among, listed, optional, first}
+use Rattle.zi_reading.specs.Ways.{Ways, AsWritten}
+use Rattle.zi_reading.specs.Reading.{stands, is, is_ours, is_closed, is_unclear, is_part, parts}
+use Rattle.zi_faults.specs.Sites.{Site, here, under, path, sites}
+use Rattle.zi_faults.specs.Said.{Said, said}
+use Rattle.zi_faults.specs.Faults.{fault_at, faults_at, faults_with, kinds_at, all_kinds, has_fault, is_bad_part, repeats_in, lesser, is_first, least}
 use Rattle.zi_feed.specs.Feeds.{part_fault}
-use Rattle.zi_feed.specs.declared.fault.Fault.{Fault}
-use Rattle.zi_feed.specs.declared.fault.FeedKind.{FeedKind}
-use Rattle.zi_feed.specs.declared.fault.FeedKind.TheVariants.{BadRange, BadPart}
+use Rattle.zi_faults.specs.declared.fault.Fault.{Fault}
+use Rattle.zi_faults.specs.declared.fault.FeedKind.{FeedKind}
+use Rattle.zi_faults.specs.declared.fault.FeedKind.TheVariants.{BadRange, BadPart}
 use Rattle.zi_sels_laws.proofs.LikeLaws.{Each, each_append}
 use Rattle.zi_sels_laws.proofs.FieldLaws.{app}
 
@@ -117,15 +120,15 @@ free_clear ways s e h = either (is_unclear e) (map (fault_at e) (kinds_at ways s
     either true fs k = absurd (cc k)
     either false fs k = refl
 
-pub part_right : (e : Elem) → part_fault e ≡ None → IsRight None e
+pub part_right : (e : Elem) → part_fault e ≡ None → IsRight AsWritten e
 unfolding part_fault
 part_right e h =
-    let all = least_none (faults_at None (here e) ++ (if is_unclear e then [] else flat_map (faults_at None) (sites None e.name e.inside))) h in
-    let b = empty_both (faults_at None (here e)) (if is_unclear e then [] else flat_map (faults_at None) (sites None e.name e.inside)) all in
-    let clear = free_clear None (said (e ∷ [])) e b.0 in record {
+    let all = least_none (faults_at AsWritten (here e) ++ (if is_unclear e then [] else flat_map (faults_at AsWritten) (sites AsWritten e.name e.inside))) h in
+    let b = empty_both (faults_at AsWritten (here e)) (if is_unclear e then [] else flat_map (faults_at AsWritten) (sites AsWritten e.name e.inside)) all in
+    let clear = free_clear AsWritten (said (e ∷ [])) e b.0 in record {
       said = said (e ∷ []);
       free = b.0;
-      inside = λ k. free_all None (sites None e.name e.inside) (sym (ap (λ v. if v then [] else flat_map (faults_at None) (sites None e.name e.inside)) clear) ∙ b.1);
+      inside = λ k. free_all AsWritten (sites AsWritten e.name e.inside) (sym (ap (λ v. if v then [] else flat_map (faults_at AsWritten) (sites AsWritten e.name e.inside)) clear) ∙ b.1);
     }
 
 -- an element that is read in one of this name
@@ -219,7 +222,7 @@ pub record IsOwn (c : Elem) : Type 0 where
   pub ours : is_ours c ≡ true
   pub kept : is_among (listed (codes "version restricts")) c.name ≡ false
 
-pub child_own : (parent : List ℕ) (c : Elem) → IsChild None parent c → IsOwn c
+pub child_own : (parent : List ℕ) (c : Elem) → IsChild AsWritten parent c → IsOwn c
 unfolding stands
 child_own parent c h = by (is_ours c) _ _ _ (is_among (listed (codes "version restricts")) c.name) refl refl h.part
   where

@@ -1,14 +1,15 @@
 -- What is read of the elements of a feed that have no fault: parts as a selection may have them, once the dependencies among them
 -- are plain.
 use Rattle.std.proofs.Common.{◌≡◌, ℕ, true, List, [], ◌∷◌, codes, refl}
-use Rattle.zi_forest.specs.Forest.{Elem}
-use Rattle.zi_feed.specs.Words.{is_among, optional}
-use Rattle.zi_feed.specs.Sites.{Ways, parts}
-use Rattle.zi_feed.specs.Values.{those, named, dep_of, deps_of, runner_of, command_of, commands_of}
-use Rattle.zi_feed.specs.declared.feed.Dep.{Dep}
-use Rattle.zi_feed.specs.declared.feed.DepKind.TheVariants.{Essential}
-use Rattle.zi_feed.specs.declared.feed.Runner.{Runner}
-use Rattle.zi_feed.specs.declared.feed.Command.{Command}
+use Rattle.zi_elements.specs.Forest.{Elem}
+use Rattle.zi_reading.specs.Words.{is_among, optional}
+use Rattle.zi_reading.specs.Ways.{Ways}
+use Rattle.zi_reading.specs.Reading.{parts, those, named}
+use Rattle.zi_parts.specs.Values.{dep_of, deps_of, runner_of, command_of, commands_of}
+use Rattle.zi_parts.specs.declared.types.Dep.{Dep}
+use Rattle.zi_parts.specs.declared.types.DepKind.TheVariants.{Essential}
+use Rattle.zi_parts.specs.declared.types.Runner.{Runner}
+use Rattle.zi_parts.specs.declared.types.Command.{Command}
 use Rattle.zi_sels.specs.Written.{command_wanted}
 use Rattle.zi_sels_laws.proofs.LikeLaws.{Each}
 use Rattle.zi_sels_laws.proofs.BindingLaws.{IsProperBinding}

@@ -3,27 +3,28 @@ use Rattle.std.proofs.Common.{◌≡◌, ℕ, Bool, true, false, cond, ◌&&◌,
 use Rattle.std.specs.Prelude.{not, filter, is_some, option_map, unwrap_or, if◌then◌else◌}
 use Rattle.std.specs.List.{flat_map, list_any}
 use Rattle.zi_elements.specs.declared.element.Attr.{Attr}
-use Rattle.zi_forest.specs.Forest.{Forest, Elem, elements, attribute, value}
+use Rattle.zi_elements.specs.Forest.{Forest, Elem, elements, attribute, value}
+use Rattle.zi_elements.specs.Namespace.{injector}
 use Rattle.zi_docout.specs.Elements.{attr}
 use Rattle.zi_docout.specs.Same.{IsSame}
 use Rattle.zi_digest.specs.declared.DigestName.{DigestName}
-use Rattle.zi_feed.specs.Texts.{same, is_none}
-use Rattle.zi_feed.specs.Words.{is_among, listed, optional, is_wrong, is_amiss, repeated, repeated_after}
-use Rattle.zi_feed.specs.Forms.{is_version}
-use Rattle.zi_feed.specs.Address.{is_local}
-use Rattle.zi_feed.specs.Digests.{digest_of}
-use Rattle.zi_feed.specs.Sites.{is_unclear, binding_names}
-use Rattle.zi_feed.specs.Impls.{said_digests}
-use Rattle.zi_feed.specs.Values.{binding_of, dep_of, command_of}
+use Rattle.zi_address.specs.Texts.{same, is_none}
+use Rattle.zi_reading.specs.Ways.{AsWritten}
+use Rattle.zi_reading.specs.Words.{is_among, listed, optional, is_wrong, is_amiss, repeated, repeated_after}
+use Rattle.zi_reading.specs.Forms.{is_version}
+use Rattle.zi_address.specs.Address.{is_local}
+use Rattle.zi_parts.specs.Digests.{digest_of, said_digests}
+use Rattle.zi_reading.specs.Reading.{is_unclear, binding_names}
+use Rattle.zi_parts.specs.Values.{binding_of, dep_of, command_of}
 use Rattle.zi_feed.specs.Means.{counts_as, counts_as_binding}
-use Rattle.zi_feed.specs.Faults.{share, fault_at, least}
+use Rattle.zi_faults.specs.Faults.{share, fault_at, least}
 use Rattle.zi_feed.specs.Feeds.{part_fault}
-use Rattle.zi_feed.specs.declared.fault.Fault.{Fault}
-use Rattle.zi_feed.specs.declared.fault.FeedKind.{FeedKind}
-use Rattle.zi_feed.specs.declared.fault.FeedKind.TheVariants.{NoId, BadVersion, BadRange, BadPart, NoInterface, BadAddress}
-use Rattle.zi_feed.specs.declared.feed.Binding.{Binding}
-use Rattle.zi_feed.specs.declared.feed.Dep.{Dep}
-use Rattle.zi_feed.specs.declared.feed.Command.{Command}
+use Rattle.zi_faults.specs.declared.fault.Fault.{Fault}
+use Rattle.zi_faults.specs.declared.fault.FeedKind.{FeedKind}
+use Rattle.zi_faults.specs.declared.fault.FeedKind.TheVariants.{NoId, BadVersion, BadRange, BadPart, NoInterface, BadAddress}
+use Rattle.zi_parts.specs.declared.types.Binding.{Binding}
+use Rattle.zi_parts.specs.declared.types.Dep.{Dep}
+use Rattle.zi_parts.specs.declared.types.Command.{Command}
 use Rattle.zi_sels.specs.declared.types.Selection.{Selection}
 use Rattle.zi_sels.specs.Written.{attr_of, binding_elem, dep_elem, command_elem, digests_elems, selection_attrs, selection_elem}
 use Rattle.zi_sels.specs.Read.{counting, bindings_in, said_in, in_order_of_use, selection_of}
@@ -133,11 +134,11 @@ pub record NamedInside (gs bs ds cs : List Elem) : Type 0 where
   pub commands : Each (IsOf command_names) cs
 
 digest_known : is_among digest_names (codes "manifest-digest") ≡ true
-unfolding is_among same
+unfolding is_among same injector
 digest_known = refl
 
 command_known : is_among command_names (codes "command") ≡ true
-unfolding is_among same
+unfolding is_among same injector
 command_known = refl
 
 digests_are : (rs : List Elem) → Each IsDigestElem rs → Each (IsOf digest_names) rs
@@ -176,7 +177,7 @@ of_binding : (names : List (List ℕ)) (b : Bool) → Each (λ n. is_among bindi
 of_binding names b all rs h = sifted counts_as_binding b rs (of_test names (is_among binding_names) b all counts_as_binding plain_binding rs h)
 
 count_digests : (gs bs ds cs : List Elem) → NamedInside gs bs ds cs → filter (counts_as (codes "manifest-digest")) (gs ++ bs ++ ds ++ cs) ≡ gs
-unfolding same
+unfolding same injector
 count_digests gs bs ds cs n =
     let other = codes "manifest-digest" in
     four_filtered (counts_as other) gs bs ds cs gs [] [] [] (of_counting digest_names other true (refl, tt) gs n.digests) (of_counting binding_names other false (refl, (refl, (refl, (refl, (refl, tt))))) bs n.bindings)
@@ -184,14 +185,14 @@ count_digests gs bs ds cs n =
     ∙ (append-nil (gs ++ [] ++ []) ∙ (append-nil (gs ++ []) ∙ append-nil gs))
 
 count_bindings : (gs bs ds cs : List Elem) → NamedInside gs bs ds cs → filter counts_as_binding (gs ++ bs ++ ds ++ cs) ≡ bs
-unfolding is_among same
+unfolding is_among same injector
 count_bindings gs bs ds cs n =
     four_filtered counts_as_binding gs bs ds cs [] bs [] [] (of_binding digest_names false (refl, tt) gs n.digests) (of_binding binding_names true (refl, (refl, (refl, (refl, (refl, tt))))) bs n.bindings)
     (of_binding dep_names false (refl, tt) ds n.deps) (of_binding command_names false (refl, tt) cs n.commands)
     ∙ (append-nil (bs ++ []) ∙ append-nil bs)
 
 count_deps : (gs bs ds cs : List Elem) → NamedInside gs bs ds cs → filter (counts_as (codes "requires")) (gs ++ bs ++ ds ++ cs) ≡ ds
-unfolding same
+unfolding same injector
 count_deps gs bs ds cs n =
     let other = codes "requires" in
     four_filtered (counts_as other) gs bs ds cs [] [] ds [] (of_counting digest_names other false (refl, tt) gs n.digests) (of_counting binding_names other false (refl, (refl, (refl, (refl, (refl, tt))))) bs n.bindings)
@@ -199,7 +200,7 @@ count_deps gs bs ds cs n =
     ∙ append-nil ds
 
 count_commands : (gs bs ds cs : List Elem) → NamedInside gs bs ds cs → filter (counts_as (codes "command")) (gs ++ bs ++ ds ++ cs) ≡ cs
-unfolding same
+unfolding same injector
 count_commands gs bs ds cs n =
     let other = codes "command" in
     four_filtered (counts_as other) gs bs ds cs [] [] [] cs (of_counting digest_names other false (refl, tt) gs n.digests) (of_counting binding_names other false (refl, (refl, (refl, (refl, (refl, tt))))) bs n.bindings)
@@ -262,15 +263,15 @@ item_means : (item : Selection) (f : Forest) (p : ℕ)
     → selection_of (item_here item f p) ≡ item_by (attribute (codes "interface") (item_here item f p)) (attribute (codes "id") (item_here item f p)) (attribute (codes "version") (item_here item f p))
     (attribute (codes "from-feed") (item_here item f p)) (attribute (codes "local-path") (item_here item f p)) (attribute (codes "arch") (item_here item f p))
     (attribute (codes "released") (item_here item f p)) (attribute (codes "stability") (item_here item f p)) (in_order_of_use (said_in (item_here item f p)))
-    (map (dep_of None) (counting (codes "requires") (item_here item f p))) (map (command_of None) (counting (codes "command") (item_here item f p))) (map binding_of (bindings_in (item_here item f p)))
+    (map (dep_of AsWritten) (counting (codes "requires") (item_here item f p))) (map (command_of AsWritten) (counting (codes "command") (item_here item f p))) (map binding_of (bindings_in (item_here item f p)))
 unfolding selection_of
 item_means item f p = refl
 
 item_id : (item : Selection) (f : Forest) (p : ℕ) → attribute (codes "id") (item_here item f p) ≡ Some item.id
 item_id item f p = looked (codes "id") (item_fields item) refl
 
-commands_back : (cs : List Command) (rs : List Elem) → Each IsProperCommand cs → AreSame (map command_elem cs) rs → map (command_of None) rs ≡ cs
-commands_back cs rs h s = values_back command_elem (command_of None) IsProperCommand command_back cs rs h s
+commands_back : (cs : List Command) (rs : List Elem) → Each IsProperCommand cs → AreSame (map command_elem cs) rs → map (command_of AsWritten) rs ≡ cs
+commands_back cs rs h s = values_back command_elem (command_of AsWritten) IsProperCommand command_back cs rs h s
 
 item_here_back : (item : Selection) (f : Forest) (p : ℕ) → IsProperItem item → InsideOf item (elements f) → selection_of (item_here item f p) ≡ item
 item_here_back item f p h s =
@@ -281,11 +282,11 @@ item_here_back item f p h s =
     app (ap {B = Option (List ℕ) → List DigestName} (λ gs d. in_order_of_use (flat_map said_digests gs ++ optional (digest_of (unwrap_or d []))))
     (ap (filter (counts_as (codes "manifest-digest"))) s.whole ∙ count_digests s.digests s.bindings s.deps s.commands n)) (item_id item f p)
     ∙ (ap (λ v. in_order_of_use (v ++ optional (digest_of item.id))) read.1 ∙ h.digests.with_id) in
-    let deps : map (dep_of None) (counting (codes "requires") (item_here item f p)) ≡ item.deps =
-    ap (λ v. map (dep_of None) (filter (counts_as (codes "requires")) v)) s.whole ∙ (ap (map (dep_of None)) (count_deps s.digests s.bindings s.deps s.commands n) ∙ deps_back item.deps s.deps h.deps s.deps_same) in
-    let commands : map (command_of None) (counting (codes "command") (item_here item f p)) ≡ item.commands =
-    ap (λ v. map (command_of None) (filter (counts_as (codes "command")) v)) s.whole
-    ∙ (ap (map (command_of None)) (count_commands s.digests s.bindings s.deps s.commands n) ∙ commands_back item.commands s.commands h.commands s.commands_same) in
+    let deps : map (dep_of AsWritten) (counting (codes "requires") (item_here item f p)) ≡ item.deps =
+    ap (λ v. map (dep_of AsWritten) (filter (counts_as (codes "requires")) v)) s.whole ∙ (ap (map (dep_of AsWritten)) (count_deps s.digests s.bindings s.deps s.commands n) ∙ deps_back item.deps s.deps h.deps s.deps_same) in
+    let commands : map (command_of AsWritten) (counting (codes "command") (item_here item f p)) ≡ item.commands =
+    ap (λ v. map (command_of AsWritten) (filter (counts_as (codes "command")) v)) s.whole
+    ∙ (ap (map (command_of AsWritten)) (count_commands s.digests s.bindings s.deps s.commands n) ∙ commands_back item.commands s.commands h.commands s.commands_same) in
     let bindings : map binding_of (bindings_in (item_here item f p)) ≡ item.bindings =
     ap (λ v. map binding_of (filter counts_as_binding v)) s.whole ∙ (ap (map binding_of) (count_bindings s.digests s.bindings s.deps s.commands n) ∙ bindings_back item.bindings s.bindings h.bindings s.bindings_same) in
     item_means item f p

@@ -7,7 +7,7 @@ use Rattle.zi_elements.specs.declared.element.Attr.{Attr}
 use Rattle.zi_elements.specs.declared.element.Element.{Element}
 use Rattle.zi_elements.specs.declared.element.Node.{Node}
 use Rattle.zi_elements.specs.declared.element.Node.TheVariants as nodes
-use Rattle.zi_forest.specs.Forest.{Forest, none, words, child, Elem, joined, gathered, elements, nodes_view, element_view, text_in}
+use Rattle.zi_elements.specs.Forest.{Forest, none, words, child, Elem, joined, gathered, elements, nodes_view, element_view, text_in}
 use Rattle.zi_docout.specs.Amiss.{alone}
 use Rattle.zi_docout.specs.Elements as made
 use Rattle.zi_docout.specs.Same.{has_child, bare, unplaced, IsSame}

@@ -5,10 +5,10 @@ use Rattle.std.specs.List.{AllZip, list_any}
 use Rattle.zi_policy.specs.declared.types.Policy.{Policy}
 use Rattle.zi_policy.specs.Platform.{is_active, listed}
 use Rattle.zi_outside.specs.Views.{Holding}
-use Rattle.zi_forest.specs.Forest.{element_view}
-use Rattle.zi_feed.specs.declared.feed.Dep.{Dep}
-use Rattle.zi_feed.specs.declared.feed.Command.{Command}
-use Rattle.zi_feed.specs.declared.feed.Impl.{Impl}
+use Rattle.zi_elements.specs.Forest.{element_view}
+use Rattle.zi_parts.specs.declared.types.Dep.{Dep}
+use Rattle.zi_parts.specs.declared.types.Command.{Command}
+use Rattle.zi_parts.specs.declared.types.Impl.{Impl}
 use Rattle.zi_feed.specs.declared.feed.Feed.{Feed}
 use Rattle.zi_universe.specs.declared.types.Requirement.{Requirement}
 use Rattle.zi_universe.specs.declared.types.Candidate.{Candidate}

@@ -3,15 +3,15 @@ use Rattle.std.proofs.Common.{◌≡◌, ℕ, Bool, true, false, cond, ◌&&◌,
 use Rattle.std.specs.Prelude.{not, filter, if◌then◌else◌}
 use Rattle.std.specs.List.{list_any}
 use Rattle.zi_elements.specs.declared.element.Attr.{Attr}
-use Rattle.zi_forest.specs.Forest.{Forest, Elem, elements, attribute}
-use Rattle.zi_docout.specs.Canonical as canonical
+use Rattle.zi_elements.specs.Forest.{Forest, Elem, elements, attribute}
+use Rattle.zi_elements.specs.Namespace.{injector}
 use Rattle.zi_docout.specs.Same.{IsSame}
-use Rattle.zi_feed.specs.Texts.{same}
-use Rattle.zi_feed.specs.Words.{is_among, listed}
-use Rattle.zi_feed.specs.Sites.{injector, is, is_unclear, is_left_out, is_unbuilt, is_closed, is_part, stands, read_in, parts, is_refused_by, binding_names}
+use Rattle.zi_address.specs.Texts.{same}
+use Rattle.zi_reading.specs.Ways.{AsWritten}
+use Rattle.zi_reading.specs.Words.{is_among, listed}
+use Rattle.zi_reading.specs.Reading.{is, is_unclear, is_left_out, is_unbuilt, is_closed, is_part, stands, read_in, parts, is_refused_by, binding_names, those}
 use Rattle.zi_feed.specs.Means.{counts_as, counts_as_binding}
-use Rattle.zi_feed.specs.Values.{those}
-use Rattle.zi_feed.proofs.TableLaws.{same_text}
+use Rattle.zi_reading.proofs.TableLaws.{same_text}
 use Rattle.zi_sels_laws.proofs.LikeLaws.{Each, if_all, sifted}
 
 -- an element of the namespace of feeds
@@ -19,11 +19,10 @@ abbrev pub here_is : List ℕ → List Attr → Forest → ℕ → Elem
 here_is name attrs inside place = record { space = injector; name = name; attrs = attrs; inside = inside; place = place }
 
 -- what is read where this was made
-pub made_is : (n : List ℕ) (a : List Attr) (f : Forest) (r : Elem) → IsSame (record { space = canonical.injector; name = n; attrs = a; inside = f; place = 0 }) r → here_is n a r.inside r.place ≡ r
-unfolding canonical.injector
+pub made_is : (n : List ℕ) (a : List Attr) (f : Forest) (r : Elem) → IsSame (record { space = injector; name = n; attrs = a; inside = f; place = 0 }) r → here_is n a r.inside r.place ≡ r
 made_is n a f r s = step (sym s.space) (sym s.name) (sym s.attrs)
   where
-    step : canonical.injector ≡ r.space → n ≡ r.name → a ≡ r.attrs → here_is n a r.inside r.place ≡ r
+    step : injector ≡ r.space → n ≡ r.name → a ≡ r.attrs → here_is n a r.inside r.place ≡ r
     step p q t = ap (λ (v : List ℕ). record { space = v; name = n; attrs = a; inside = r.inside; place = r.place }) p
         ∙ (ap (λ (v : List ℕ). record { space = r.space; name = v; attrs = a; inside = r.inside; place = r.place }) q
         ∙ ap (λ (v : List Attr). record { space = r.space; name = r.name; attrs = v; inside = r.inside; place = r.place }) t)
@@ -50,10 +49,10 @@ abbrev pub stood : List ℕ → List ℕ → Bool
 stood parent name = is_among (read_in parent) name && not (is_among (listed (codes "version restricts")) name)
 
 ours : (s : List ℕ) → s ≡ injector → same s injector ≡ true
-unfolding same
+unfolding same injector
 ours s h = rw h refl
 
-pub plain_part : (parent name : List ℕ) (r : Elem) → IsPlain name r → is_part None parent r ≡ stood parent name
+pub plain_part : (parent name : List ℕ) (r : Elem) → IsPlain name r → is_part AsWritten parent r ≡ stood parent name
 unfolding stands
 plain_part parent name r p = rw (free_stays r p.free, free_clear r p.free, ours r.space p.space, p.named) (ends (is_among (read_in parent) name) (is_among (listed (codes "version restricts")) name))
   where
@@ -81,13 +80,13 @@ pub plain_among : (names : List (List ℕ)) (name : List ℕ) (r : Elem) → IsP
 plain_among names name r p = ap (is_among names) p.named
 
 -- all that stands in an element that isn't closed is read
-pub all_parts : (e : Elem) → is_closed e ≡ false → Each (λ r. is_part None e.name r ≡ true) (elements e.inside) → parts None e ≡ elements e.inside
+pub all_parts : (e : Elem) → is_closed e ≡ false → Each (λ r. is_part AsWritten e.name r ≡ true) (elements e.inside) → parts AsWritten e ≡ elements e.inside
 unfolding parts
-all_parts e open_ h = ap (λ b. if b then [] else filter (is_part None e.name) (elements e.inside)) open_ ∙ kept (elements e.inside) h
+all_parts e open_ h = ap (λ b. if b then [] else filter (is_part AsWritten e.name) (elements e.inside)) open_ ∙ kept (elements e.inside) h
   where
-    kept : (rs : List Elem) → Each (λ r. is_part None e.name r ≡ true) rs → filter (is_part None e.name) rs ≡ rs
+    kept : (rs : List Elem) → Each (λ r. is_part AsWritten e.name r ≡ true) rs → filter (is_part AsWritten e.name) rs ≡ rs
     kept [] k = refl
-    kept (r ∷ rs) k = ap (λ b. cond b (r ∷ filter (is_part None e.name) rs) (filter (is_part None e.name) rs)) k.0 ∙ ap (λ v. r ∷ v) (kept rs k.1)
+    kept (r ∷ rs) k = ap (λ b. cond b (r ∷ filter (is_part AsWritten e.name) rs) (filter (is_part AsWritten e.name) rs)) k.0 ∙ ap (λ v. r ∷ v) (kept rs k.1)
 
 -- an element of another name than that of a recipe is open, where its condition is none
 pub plain_open : (name : List ℕ) (r : Elem) → IsPlain name r → same name (codes "recipe") ≡ false → is_closed r ≡ false
@@ -123,8 +122,8 @@ of_those names others b all rs h =
     sifted (λ c. is_among others c.name) b rs (of_test names (is_among others) b all (λ c. is_among others c.name) (plain_among others) rs h)
 
 -- all of them are read in an element
-pub of_parts : (names : List (List ℕ)) (parent : List ℕ) → Each (λ n. stood parent n ≡ true) names → (rs : List Elem) → Each (IsOf names) rs → Each (λ r. is_part None parent r ≡ true) rs
-of_parts names parent all rs h = of_test names (stood parent) true all (is_part None parent) (plain_part parent) rs h
+pub of_parts : (names : List (List ℕ)) (parent : List ℕ) → Each (λ n. stood parent n ≡ true) names → (rs : List Elem) → Each (IsOf names) rs → Each (λ r. is_part AsWritten parent r ≡ true) rs
+of_parts names parent all rs h = of_test names (stood parent) true all (is_part AsWritten parent) (plain_part parent) rs h
 
 -- elements of one name
 pub of_one : (name : List ℕ) (r : Elem) → IsPlain name r → is_among (name ∷ []) name ≡ true → IsOf (name ∷ []) r

@@ -2,18 +2,19 @@
 use Rattle.std.proofs.Common.{◌≡◌, ℕ, Bool, true, false, cond, ◌&&◌, List, [], ◌∷◌, ◌++◌, map, Option, Some, None, codes, refl, sym, ap, subst, ◌∙◌}
 use Rattle.std.specs.Prelude.{not, filter, option_and_then, unwrap_or, if◌then◌else◌}
 use Rattle.std.proofs.lemmas.Bool.{or_left, or_right}
-use Rattle.zi_forest.specs.Forest.{Elem, elements, attribute, value, element_view}
+use Rattle.zi_elements.specs.Forest.{Elem, elements, attribute, value, element_view}
+use Rattle.zi_elements.specs.Namespace.{injector}
 use Rattle.zi_docout.specs.Amiss.{first_amiss}
-use Rattle.zi_feed.specs.Texts.{same}
-use Rattle.zi_feed.specs.Words.{is_among, optional, first, repeated}
-use Rattle.zi_feed.specs.Forms.{importance_of}
-use Rattle.zi_feed.specs.Sites.{is, is_ours, is_closed, is_left_out, is_part, parts, meaning, stands}
-use Rattle.zi_feed.specs.Values.{those, dep_of, runner_of, command_of}
+use Rattle.zi_address.specs.Texts.{same}
+use Rattle.zi_reading.specs.Ways.{AsWritten}
+use Rattle.zi_reading.specs.Words.{is_among, optional, first, repeated}
+use Rattle.zi_parts.specs.Values.{importance_of, dep_of, runner_of, command_of}
+use Rattle.zi_reading.specs.Reading.{is, is_ours, is_closed, is_left_out, is_part, parts, meaning, stands, those}
 use Rattle.zi_feed.specs.Means.{counts_as}
-use Rattle.zi_feed.specs.declared.fault.Fault.{Fault}
-use Rattle.zi_feed.specs.declared.feed.DepKind.{DepKind}
-use Rattle.zi_feed.specs.declared.feed.DepKind.TheVariants.{Essential, Recommended, Restricts}
-use Rattle.zi_feed.proofs.TableLaws.{same_text}
+use Rattle.zi_faults.specs.declared.fault.Fault.{Fault}
+use Rattle.zi_parts.specs.declared.types.DepKind.{DepKind}
+use Rattle.zi_parts.specs.declared.types.DepKind.TheVariants.{Essential, Recommended, Restricts}
+use Rattle.zi_reading.proofs.TableLaws.{same_text}
 use Rattle.zi_sels.specs.declared.types.Selection.{Selection}
 use Rattle.zi_sels.specs.declared.types.Selections.{Selections}
 use Rattle.zi_sels.specs.declared.fault.SelsFault.{SelsFault}
@@ -52,19 +53,19 @@ of_filter P test (x ∷ xs) h = either (test x) refl h (of_filter P test xs)
 
 -- Dependencies.
 
-plain_address : (o : Option (List ℕ)) → unwrap_or (option_and_then (meaning None) o) [] ≡ unwrap_or o []
+plain_address : (o : Option (List ℕ)) → unwrap_or (option_and_then (meaning AsWritten) o) [] ≡ unwrap_or o []
 plain_address None = refl
 plain_address (Some t) = refl
 
 not_restricts : same (codes "requires") (codes "restricts") ≡ false
-unfolding same
+unfolding same injector
 not_restricts = refl
 
 recommends : importance_of (codes "recommended") ≡ Some Recommended
-unfolding importance_of same
+unfolding importance_of same injector
 recommends = refl
 
-dep_kind : (c : Elem) → c.name ≡ codes "requires" → (dep_of None c).kind ≡ unwrap_or (option_and_then importance_of (attribute (codes "importance") c)) Essential
+dep_kind : (c : Elem) → c.name ≡ codes "requires" → (dep_of AsWritten c).kind ≡ unwrap_or (option_and_then importance_of (attribute (codes "importance") c)) Essential
 unfolding dep_of
 dep_kind c name =
     ap (λ b. if b then Restricts else unwrap_or (option_and_then importance_of (attribute (codes "importance") c)) Essential) (ends (is_ours c) (same c.name (codes "restricts")) (ap (λ n. same n (codes "restricts")) name ∙ not_restricts))
@@ -73,7 +74,7 @@ dep_kind c name =
     ends true b k = k
     ends false b k = refl
 
-dep_address : (c : Elem) → (dep_of None c).interface ≡ value (codes "interface") c
+dep_address : (c : Elem) → (dep_of AsWritten c).interface ≡ value (codes "interface") c
 unfolding dep_of
 dep_address c = plain_address (attribute (codes "interface") c)
 
@@ -96,11 +97,11 @@ not_recommended o h = either (same (unwrap_or o []) (codes "recommended")) refl
     either false k = refl
 
 -- one that counts and is essential asks
-dep_asks : (c : Elem) → counts_as (codes "requires") c ≡ true → c.name ≡ codes "requires" → (dep_of None c).kind ≡ Essential → asks c ≡ true
+dep_asks : (c : Elem) → counts_as (codes "requires") c ≡ true → c.name ≡ codes "requires" → (dep_of AsWritten c).kind ≡ Essential → asks c ≡ true
 dep_asks c h name k = app (ap {B = Bool → Bool} (λ x y. x && not y) h) (not_recommended (attribute (codes "importance") c) (sym (dep_kind c name) ∙ k))
 
 not_command : same (codes "requires") (codes "command") ≡ false
-unfolding same
+unfolding same injector
 not_command = refl
 
 not_counted : (name other : List ℕ) (c : Elem) → c.name ≡ name → same name other ≡ false → counts_as other c ≡ false
@@ -110,7 +111,7 @@ not_counted name other c h k = ends (is_ours c) (same c.name other) (not (is_lef
     ends true b d p = ap (λ v. v && d) p
     ends false b d p = refl
 
-dep_met : (is : List (List ℕ)) (c : Elem) → counts_as (codes "requires") c ≡ true → c.name ≡ codes "requires" → Each (IsIn is) (asking_at c) → IsMet is (dep_of None c)
+dep_met : (is : List (List ℕ)) (c : Elem) → counts_as (codes "requires") c ≡ true → c.name ≡ codes "requires" → Each (IsIn is) (asking_at c) → IsMet is (dep_of AsWritten c)
 dep_met is c h name k essential =
     let asked : asking_at c ≡ c ∷ [] = app (ap {B = Bool → List Elem} (λ x y. if x then filter asks_within (elements c.inside) else if y then c ∷ [] else []) (not_counted (codes "requires") (codes "command") c name not_command))
     (dep_asks c h name essential) in
@@ -119,7 +120,7 @@ dep_met is c h name k essential =
 -- Commands.
 
 -- a child counts under its name
-child_counts : (parent name : List ℕ) (c : Elem) → IsChild None parent c → c.name ≡ name → counts_as name c ≡ true
+child_counts : (parent name : List ℕ) (c : Elem) → IsChild AsWritten parent c → c.name ≡ name → counts_as name c ≡ true
 unfolding stands
 child_counts parent name c h k = by (is_ours c) _ (is_left_out c) _ _ refl refl h.part
   where
@@ -129,17 +130,17 @@ child_counts parent name c h k = by (is_ours c) _ (is_left_out c) _ _ refl refl 
     by true false l u r p q e = absurd (cc e)
     by false b l u r p q e = absurd (cc e)
 
-child_dep_met : (is : List (List ℕ)) (parent : List ℕ) (d : Elem) → IsChild None parent d → is_among asked_names d.name ≡ true → (asks_within d ≡ true → IsIn is d) → IsMet is (dep_of None d)
+child_dep_met : (is : List (List ℕ)) (parent : List ℕ) (d : Elem) → IsChild AsWritten parent d → is_among asked_names d.name ≡ true → (asks_within d ≡ true → IsIn is d) → IsMet is (dep_of AsWritten d)
 child_dep_met is parent d h k asked essential =
     let name = dep_child parent d h k in
     let counts = child_counts parent (codes "requires") d h name in
     subst (λ i. is_among is i ≡ true) (sym (dep_address d)) (asked (or_left (asks d) (counts_as (codes "runner") d) (dep_asks d counts name essential)))
 
-runner_address : (c : Elem) → (runner_of None c).dep.interface ≡ value (codes "interface") c
+runner_address : (c : Elem) → (runner_of AsWritten c).dep.interface ≡ value (codes "interface") c
 unfolding runner_of
 runner_address c = plain_address (attribute (codes "interface") c)
 
-child_runner_met : (is : List (List ℕ)) (parent : List ℕ) (d : Elem) → IsChild None parent d → is_among runner_names d.name ≡ true → (asks_within d ≡ true → IsIn is d) → IsMetRunner is (runner_of None d)
+child_runner_met : (is : List (List ℕ)) (parent : List ℕ) (d : Elem) → IsChild AsWritten parent d → is_among runner_names d.name ≡ true → (asks_within d ≡ true → IsIn is d) → IsMetRunner is (runner_of AsWritten d)
 child_runner_met is parent d h k asked =
     let counts = child_counts parent (codes "runner") d h (only_name d.name (codes "runner") k) in
     subst (λ i. is_among is i ≡ true) (sym (runner_address d)) (asked (or_right (asks d) (counts_as (codes "runner") d) counts))
@@ -147,26 +148,26 @@ child_runner_met is parent d h k asked =
 abbrev Asked : List (List ℕ) → Elem → Type 0
 Asked is d = asks_within d ≡ true → IsIn is d
 
-asked_parts : (is : List (List ℕ)) (c : Elem) → Each (Asked is) (elements c.inside) → Each (Asked is) (parts None c)
+asked_parts : (is : List (List ℕ)) (c : Elem) → Each (Asked is) (elements c.inside) → Each (Asked is) (parts AsWritten c)
 unfolding parts
 asked_parts is c h = either (is_closed c)
   where
-    either : (b : Bool) → Each (Asked is) (if b then [] else filter (is_part None c.name) (elements c.inside))
+    either : (b : Bool) → Each (Asked is) (if b then [] else filter (is_part AsWritten c.name) (elements c.inside))
     either true = tt
-    either false = sub_filter (Asked is) (is_part None c.name) (elements c.inside) h
+    either false = sub_filter (Asked is) (is_part AsWritten c.name) (elements c.inside) h
 
-command_met : (is : List (List ℕ)) (c : Elem) → IsRight None c → c.name ≡ codes "command" → counts_as (codes "command") c ≡ true → Each (IsIn is) (asking_at c) → IsMetCommand is (command_of None c)
+command_met : (is : List (List ℕ)) (c : Elem) → IsRight AsWritten c → c.name ≡ codes "command" → counts_as (codes "command") c ≡ true → Each (IsIn is) (asking_at c) → IsMetCommand is (command_of AsWritten c)
 unfolding command_of
 command_met is c right name counts h =
     let within = subst (Each (IsIn is)) (ap (λ b. if b then filter asks_within (elements c.inside) else if asks c then c ∷ [] else []) counts) h in
     let asked = asked_parts is c (of_filter (IsIn is) asks_within (elements c.inside) within) in
-    let all = each_both (IsChild None c.name) (Asked is) (parts None c) (right_parts None c right) asked in record {
-      deps = each_map (IsMet is) (dep_of None) (those asked_names (parts None c))
-          (each_weak (λ d. (IsChild None c.name d × Asked is d) × (is_among asked_names d.name ≡ true)) (λ d. IsMet is (dep_of None d)) (λ d k. child_dep_met is c.name d k.0.0 k.1 k.0.1) (those asked_names (parts None c))
-          (each_filter (λ d. IsChild None c.name d × Asked is d) (λ d. is_among asked_names d.name) (parts None c) all));
-      runner = each_first (IsMetRunner is) (runner_of None) (those runner_names (parts None c))
-          (each_weak (λ d. (IsChild None c.name d × Asked is d) × (is_among runner_names d.name ≡ true)) (λ d. IsMetRunner is (runner_of None d)) (λ d k. child_runner_met is c.name d k.0.0 k.1 k.0.1) (those runner_names (parts None c))
-          (each_filter (λ d. IsChild None c.name d × Asked is d) (λ d. is_among runner_names d.name) (parts None c) all));
+    let all = each_both (IsChild AsWritten c.name) (Asked is) (parts AsWritten c) (right_parts AsWritten c right) asked in record {
+      deps = each_map (IsMet is) (dep_of AsWritten) (those asked_names (parts AsWritten c))
+          (each_weak (λ d. (IsChild AsWritten c.name d × Asked is d) × (is_among asked_names d.name ≡ true)) (λ d. IsMet is (dep_of AsWritten d)) (λ d k. child_dep_met is c.name d k.0.0 k.1 k.0.1) (those asked_names (parts AsWritten c))
+          (each_filter (λ d. IsChild AsWritten c.name d × Asked is d) (λ d. is_among asked_names d.name) (parts AsWritten c) all));
+      runner = each_first (IsMetRunner is) (runner_of AsWritten) (those runner_names (parts AsWritten c))
+          (each_weak (λ d. (IsChild AsWritten c.name d × Asked is d) × (is_among runner_names d.name ≡ true)) (λ d. IsMetRunner is (runner_of AsWritten d)) (λ d k. child_runner_met is c.name d k.0.0 k.1 k.0.1) (those runner_names (parts AsWritten c))
+          (each_filter (λ d. IsChild AsWritten c.name d × Asked is d) (λ d. is_among runner_names d.name) (parts AsWritten c) all));
     }
 
 -- Selections.
@@ -187,13 +188,13 @@ item_met is e h k =
     let at = each_of_flat (IsIn is) asking_at (elements e.inside) k in
     let requires = counting (codes "requires") e in
     let commands = counting (codes "command") e in record {
-      deps = each_map (IsMet is) (dep_of None) requires
-          (each_weak (λ c. (IsCounted (codes "requires") c × (counts_as (codes "requires") c ≡ true)) × MeetsAt is c) (λ c. IsMet is (dep_of None c)) (λ c m. dep_met is c m.0.1 m.0.0.named m.1) requires
+      deps = each_map (IsMet is) (dep_of AsWritten) requires
+          (each_weak (λ c. (IsCounted (codes "requires") c × (counts_as (codes "requires") c ≡ true)) × MeetsAt is c) (λ c. IsMet is (dep_of AsWritten c)) (λ c m. dep_met is c m.0.1 m.0.0.named m.1) requires
           (each_both (λ c. IsCounted (codes "requires") c × (counts_as (codes "requires") c ≡ true)) (MeetsAt is) requires
           (each_both (IsCounted (codes "requires")) (λ c. counts_as (codes "requires") c ≡ true) requires h.deps (counts_all (codes "requires") (elements e.inside)))
           (sub_filter (MeetsAt is) (counts_as (codes "requires")) (elements e.inside) at)));
-      commands = each_map (IsMetCommand is) (command_of None) commands
-          (each_weak (λ c. (IsCounted (codes "command") c × (counts_as (codes "command") c ≡ true)) × MeetsAt is c) (λ c. IsMetCommand is (command_of None c)) (λ c m. command_met is c m.0.0.right m.0.0.named m.0.1 m.1) commands
+      commands = each_map (IsMetCommand is) (command_of AsWritten) commands
+          (each_weak (λ c. (IsCounted (codes "command") c × (counts_as (codes "command") c ≡ true)) × MeetsAt is c) (λ c. IsMetCommand is (command_of AsWritten c)) (λ c m. command_met is c m.0.0.right m.0.0.named m.0.1 m.1) commands
           (each_both (λ c. IsCounted (codes "command") c × (counts_as (codes "command") c ≡ true)) (MeetsAt is) commands
           (each_both (IsCounted (codes "command")) (λ c. counts_as (codes "command") c ≡ true) commands h.commands (counts_all (codes "command") (elements e.inside)))
           (sub_filter (MeetsAt is) (counts_as (codes "command")) (elements e.inside) at)));

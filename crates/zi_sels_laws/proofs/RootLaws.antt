@@ -4,18 +4,19 @@ use Rattle.std.specs.Prelude.{not, is_some, unwrap_or, if◌then◌else◌}
 use Rattle.std.specs.List.{flat_map}
 use Rattle.zi_elements.specs.declared.element.Attr.{Attr}
 use Rattle.zi_elements.specs.declared.element.Element.{Element}
-use Rattle.zi_forest.specs.Forest.{Forest, Elem, elements, attribute, value, element_view}
+use Rattle.zi_elements.specs.Forest.{Forest, Elem, elements, attribute, value, element_view}
+use Rattle.zi_elements.specs.Namespace.{injector}
 use Rattle.zi_doc.specs.Documents as doc
 use Rattle.zi_docout.specs.Elements.{attr}
 use Rattle.zi_docout.specs.Amiss.{first_amiss}
 use Rattle.zi_docout.specs.Canonical as canonical
 use Rattle.zi_docout.specs.Same.{IsSame, IsReadBack}
-use Rattle.zi_feed.specs.Texts.{same}
-use Rattle.zi_feed.specs.Words.{is_among, first, repeated}
+use Rattle.zi_address.specs.Texts.{same}
+use Rattle.zi_reading.specs.Words.{is_among, first, repeated}
 use Rattle.zi_feed.specs.Means.{counts_as}
-use Rattle.zi_feed.specs.Faults.{least, fault_at}
-use Rattle.zi_feed.specs.declared.fault.Fault.{Fault}
-use Rattle.zi_feed.specs.declared.fault.FeedKind.TheVariants.{BadRange}
+use Rattle.zi_faults.specs.Faults.{least, fault_at}
+use Rattle.zi_faults.specs.declared.fault.Fault.{Fault}
+use Rattle.zi_faults.specs.declared.fault.FeedKind.TheVariants.{BadRange}
 use Rattle.zi_sels.specs.declared.types.Selection.{Selection}
 use Rattle.zi_sels.specs.declared.types.Selections.{Selections}
 use Rattle.zi_sels.specs.declared.fault.SelsFault.{SelsFault}
@@ -61,7 +62,7 @@ unfolding tree
 root_inside s r k = same_inside (codes "selections") (root_attrs s) (map selection_elem s.items) r k
 
 self_name : same (codes "selection") (codes "selection") ≡ true
-unfolding same
+unfolding same injector
 self_name = refl
 
 counted : (is : List (List ℕ)) (item : Selection) (r : Elem) → IsMetWhole is item → IsSame (selection_elem item) r → counts_as (codes "selection") r ≡ true
@@ -132,7 +133,7 @@ abbrev tree_by : Bool → Option Fault → Option SelsFault → Option SelsFault
 tree_by right found rest = if not right then Some fault.NotSelections else or_else (λ (g : Fault). fault.Feed g.kind g.place) found rest
 
 root_is : (s : Selections) (f : Forest) (p : ℕ) → is_selections (root_here s f p) ≡ true
-unfolding same
+unfolding same injector
 root_is s f p = ap (λ o. is_some o) (looked (codes "interface") (root_fields s) refl)
 
 root_right : (s : Selections) (f : Forest) (p : ℕ) → IsProper s → AreSame (map selection_elem s.items) (elements f) → tree_fault (root_here s f p) ≡ None

@@ -5,26 +5,26 @@ use Rattle.std.specs.Option.{option_or}
 use Rattle.std.specs.List.{find, filter_map, cons_option, flat_map, list_any}
 use Rattle.std.proofs.lemmas.List.Folds.{find-append}
 use Rattle.std.proofs.lemmas.Bool.{and_parts, not-false}
-use Rattle.zi_forest.specs.Forest.{Elem, elements, attribute, has, lacks, value}
+use Rattle.zi_elements.specs.Forest.{Elem, elements, attribute, has, lacks, value}
 use Rattle.zi_digest.specs.Name.{IsDigest}
 use Rattle.zi_digest.specs.declared.Algorithm.{Algorithm}
 use Rattle.zi_digest.specs.declared.Algorithm.TheVariants.{Sha1new, Sha256, Sha256new}
 use Rattle.zi_digest.specs.declared.DigestName.{DigestName}
 use Rattle.zi_digest.specs.declared.DigestName.TheVariants as digest
-use Rattle.zi_feed.specs.Texts.{same, is_none}
-use Rattle.zi_feed.specs.Words.{is_among, optional, is_wrong, is_amiss, repeated, repeated_after}
-use Rattle.zi_feed.specs.Forms.{is_version, importance_of}
-use Rattle.zi_feed.specs.Address.{is_local}
-use Rattle.zi_feed.specs.Digests.{digest_of, digest_by, attribute_by, front_by, algorithms}
-use Rattle.zi_feed.specs.Sites.{is, is_ours, is_unclear, is_left_out, binding_names}
-use Rattle.zi_feed.specs.Impls.{said_digest, said_digests}
-use Rattle.zi_feed.specs.Values.{binding_of, dep_of, command_of}
+use Rattle.zi_address.specs.Texts.{same, is_none}
+use Rattle.zi_reading.specs.Ways.{AsWritten}
+use Rattle.zi_reading.specs.Words.{is_among, optional, is_wrong, is_amiss, repeated, repeated_after}
+use Rattle.zi_reading.specs.Forms.{is_version}
+use Rattle.zi_parts.specs.Values.{importance_of, binding_of, dep_of, command_of}
+use Rattle.zi_address.specs.Address.{is_local}
+use Rattle.zi_parts.specs.Digests.{digest_of, digest_by, attribute_by, front_by, algorithms, said_digest, said_digests}
+use Rattle.zi_reading.specs.Reading.{is, is_ours, is_unclear, is_left_out, binding_names}
 use Rattle.zi_feed.specs.Means.{counts_as, counts_as_binding}
-use Rattle.zi_feed.specs.Faults.{share, fault_at, least, is_bad_environment, is_bad_for_each}
+use Rattle.zi_faults.specs.Faults.{share, fault_at, least, is_bad_environment, is_bad_for_each}
 use Rattle.zi_feed.specs.Feeds.{part_fault}
-use Rattle.zi_feed.specs.declared.fault.Fault.{Fault}
-use Rattle.zi_feed.specs.declared.fault.FeedKind.TheVariants.{NoId, BadVersion, BadRange, BadPart, NoInterface, BadAddress}
-use Rattle.zi_feed.proofs.DigestLaws.{digest_is}
+use Rattle.zi_faults.specs.declared.fault.Fault.{Fault}
+use Rattle.zi_faults.specs.declared.fault.FeedKind.TheVariants.{NoId, BadVersion, BadRange, BadPart, NoInterface, BadAddress}
+use Rattle.zi_parts.proofs.DigestLaws.{digest_is}
 use Rattle.zi_sels.specs.Written.{is_by}
 use Rattle.zi_sels.specs.Read.{counting, bindings_in, in_order_of_use, selection_of}
 use Rattle.zi_sels.specs.Notes.{faults_of}
@@ -41,7 +41,7 @@ use Rattle.zi_sels_laws.proofs.SoundLaws.{is_name, is_of_name, second_cause, bin
 
 -- Parts without a fault.
 
-each_right : (es : List Elem) → faults_of part_fault es ≡ [] → Each (IsRight None) es
+each_right : (es : List Elem) → faults_of part_fault es ≡ [] → Each (IsRight AsWritten) es
 each_right [] h = tt
 each_right (e ∷ es) h =
     let b = empty_both (optional (part_fault e)) (faults_of part_fault es) h in
@@ -49,11 +49,11 @@ each_right (e ∷ es) h =
 
 -- an element that counts, and has no fault
 pub record IsCounted (name : List ℕ) (c : Elem) : Type 0 where
-  pub right : IsRight None c
+  pub right : IsRight AsWritten c
   pub ours : is_ours c ≡ true
   pub named : c.name ≡ name
 
-pub counted : (name : List ℕ) (c : Elem) → IsRight None c → counts_as name c ≡ true → IsCounted name c
+pub counted : (name : List ℕ) (c : Elem) → IsRight AsWritten c → counts_as name c ≡ true → IsCounted name c
 counted name c h k =
     let n = is_name name c (and_parts (is name c) (not (is_left_out c)) k).0 in
     record { right = h; ours = n.0; named = n.1 }
@@ -62,16 +62,16 @@ counted name c h k =
 passed : {A : Type 0} (test : A → Bool) (xs : List A) → Each (λ x. test x ≡ true) (filter test xs)
 passed test xs = each_weak (λ x. Unit {0} × (test x ≡ true)) (λ x. test x ≡ true) (λ x h. h.1) (filter test xs) (each_filter (λ x. Unit {0}) test xs (each_true xs))
 
-all_counted : (name : List ℕ) (es : List Elem) → Each (IsRight None) (filter (counts_as name) es) → Each (IsCounted name) (filter (counts_as name) es)
+all_counted : (name : List ℕ) (es : List Elem) → Each (IsRight AsWritten) (filter (counts_as name) es) → Each (IsCounted name) (filter (counts_as name) es)
 all_counted name es h =
-    each_weak (λ c. IsRight None c × (counts_as name c ≡ true)) (IsCounted name) (λ c k. counted name c k.0 k.1) (filter (counts_as name) es)
-    (each_both (IsRight None) (λ c. counts_as name c ≡ true) (filter (counts_as name) es) h (passed (counts_as name) es))
+    each_weak (λ c. IsRight AsWritten c × (counts_as name c ≡ true)) (IsCounted name) (λ c k. counted name c k.0 k.1) (filter (counts_as name) es)
+    (each_both (IsRight AsWritten) (λ c. counts_as name c ≡ true) (filter (counts_as name) es) h (passed (counts_as name) es))
 
-binding_counted : (c : Elem) → IsRight None c → counts_as_binding c ≡ true → IsProperBinding (binding_of c)
+binding_counted : (c : Elem) → IsRight AsWritten c → counts_as_binding c ≡ true → IsProperBinding (binding_of c)
 binding_counted c h k = by (is_ours c) (is_among binding_names c.name) (not (is_left_out c)) refl refl k
   where
     by : (a b d : Bool) → is_ours c ≡ a → is_among binding_names c.name ≡ b → (a && b && d) ≡ true → IsProperBinding (binding_of c)
-    by true true d p q e = binding_sound c p (right_part None c h) q
+    by true true d p q e = binding_sound c p (right_part AsWritten c h) q
     by true false d p q e = absurd (cc e)
     by false b d p q e = absurd (cc e)
 
@@ -82,7 +82,7 @@ command_named c h = there (attribute (codes "name") c) (not_lacking (has (codes 
   where
     lacking : (not (has (codes "name") c)) ≡ false
     lacking = sym (ap (λ b. b && not (has (codes "name") c)) (is_of_name (codes "command") c h.ours h.named)) ∙ second_cause (is (codes "environment") c && is_bad_environment c) (is (codes "command") c && lacks (codes "name") c) (is (codes "for-each") c && is_bad_for_each c)
-        (is (codes "requires") c && is_wrong (λ t. is_some (importance_of t)) (attribute (codes "importance") c)) (right_part None c h.right)
+        (is (codes "requires") c && is_wrong (λ t. is_some (importance_of t)) (attribute (codes "importance") c)) (right_part AsWritten c h.right)
 
     not_lacking : (b : Bool) → not b ≡ false → b ≡ true
     not_lacking true k = refl
@@ -107,7 +107,7 @@ names_apart before seen (n ∷ ns) (r ∷ rs) h k none =
     either true e more = absurd (cc e)
     either false e more = more e
 
-read_named : (cs : List Elem) → Each (IsCounted (codes "command")) cs → AreNamed (map (λ c. c.name) (map (command_of None) cs)) cs
+read_named : (cs : List Elem) → Each (IsCounted (codes "command")) cs → AreNamed (map (λ c. c.name) (map (command_of AsWritten) cs)) cs
 unfolding command_of
 read_named [] h = tt
 read_named (c ∷ cs) h = (command_named c h.0, read_named cs h.1)
@@ -115,7 +115,7 @@ read_named (c ∷ cs) h = (command_named c h.0, read_named cs h.1)
 stay_clear : (cs : List Elem) → Each (IsCounted (codes "command")) cs → filter (λ c. not (is_unclear c)) cs ≡ cs
 stay_clear [] h = refl
 stay_clear (c ∷ cs) h =
-    ap (λ b. cond (not b) (c ∷ filter (λ d. not (is_unclear d)) cs) (filter (λ d. not (is_unclear d)) cs)) (right_clear None c h.0.right) ∙ ap (λ v. c ∷ v) (stay_clear cs h.1)
+    ap (λ b. cond (not b) (c ∷ filter (λ d. not (is_unclear d)) cs) (filter (λ d. not (is_unclear d)) cs)) (right_clear AsWritten c h.0.right) ∙ ap (λ v. c ∷ v) (stay_clear cs h.1)
 
 -- Digests.
 
@@ -298,7 +298,7 @@ own_right e h = by (is_none (value (codes "id") e)) (is_amiss is_version (attrib
 pub record IsSound (e : Elem) : Type 0 where
   pub own : HasOwn e
   pub seconds : second_commands e ≡ []
-  pub bindings : Each (IsRight None) (bindings_in e)
+  pub bindings : Each (IsRight AsWritten) (bindings_in e)
   pub deps : Each (IsCounted (codes "requires")) (counting (codes "requires") e)
   pub commands : Each (IsCounted (codes "command")) (counting (codes "command") e)
 
@@ -312,9 +312,9 @@ selection_sound e h =
     let b = empty_both (kinds ++ seconds) faults all in
     let c = empty_both kinds seconds b.0 in
     let right = each_right (parts_in e) b.1 in
-    let p3 = each_front (IsRight None) (bindings_in e ++ counting (codes "requires") e ++ counting (codes "command") e) (counting (codes "manifest-digest") e) right in
-    let p2 = each_front (IsRight None) (bindings_in e ++ counting (codes "requires") e) (counting (codes "command") e) p3.0 in
-    let p1 = each_front (IsRight None) (bindings_in e) (counting (codes "requires") e) p2.0 in record {
+    let p3 = each_front (IsRight AsWritten) (bindings_in e ++ counting (codes "requires") e ++ counting (codes "command") e) (counting (codes "manifest-digest") e) right in
+    let p2 = each_front (IsRight AsWritten) (bindings_in e ++ counting (codes "requires") e) (counting (codes "command") e) p3.0 in
+    let p1 = each_front (IsRight AsWritten) (bindings_in e) (counting (codes "requires") e) p2.0 in record {
       own = own_right e (empty_optional (fault_at e) (own_kind e) c.0);
       seconds = empty_map (λ c. fault_at c BadPart) (second_commands e) c.1;
       bindings = p1.0;
@@ -333,13 +333,13 @@ item_proper e h = record {
   version = h.own.version;
   local = h.own.local;
   digests = proper_digests (value (codes "id") e) (flat_map said_digests (counting (codes "manifest-digest") e)) (all_digests (counting (codes "manifest-digest") e));
-  deps = each_map IsProperDep (dep_of None) (counting (codes "requires") e)
-      (each_weak (IsCounted (codes "requires")) (λ c. IsProperDep (dep_of None c)) (λ c k. dep_sound c k.right k.named) (counting (codes "requires") e) h.deps);
-  commands = each_map IsProperCommand (command_of None) (counting (codes "command") e)
-      (each_weak (IsCounted (codes "command")) (λ c. IsProperCommand (command_of None c)) (λ c k. command_sound c k.right k.named) (counting (codes "command") e) h.commands);
-  apart = names_apart [] [] (map (λ c. c.name) (map (command_of None) (counting (codes "command") e))) (counting (codes "command") e) tt (read_named (counting (codes "command") e) h.commands)
+  deps = each_map IsProperDep (dep_of AsWritten) (counting (codes "requires") e)
+      (each_weak (IsCounted (codes "requires")) (λ c. IsProperDep (dep_of AsWritten c)) (λ c k. dep_sound c k.right k.named) (counting (codes "requires") e) h.deps);
+  commands = each_map IsProperCommand (command_of AsWritten) (counting (codes "command") e)
+      (each_weak (IsCounted (codes "command")) (λ c. IsProperCommand (command_of AsWritten c)) (λ c k. command_sound c k.right k.named) (counting (codes "command") e) h.commands);
+  apart = names_apart [] [] (map (λ c. c.name) (map (command_of AsWritten) (counting (codes "command") e))) (counting (codes "command") e) tt (read_named (counting (codes "command") e) h.commands)
       (sym (ap (repeated (share (codes "name"))) (stay_clear (counting (codes "command") e) h.commands)) ∙ h.seconds);
   bindings = each_map IsProperBinding binding_of (bindings_in e)
-      (each_weak (λ c. IsRight None c × (counts_as_binding c ≡ true)) (λ c. IsProperBinding (binding_of c)) (λ c k. binding_counted c k.0 k.1) (bindings_in e)
-      (each_both (IsRight None) (λ c. counts_as_binding c ≡ true) (bindings_in e) h.bindings (passed counts_as_binding (elements e.inside))));
+      (each_weak (λ c. IsRight AsWritten c × (counts_as_binding c ≡ true)) (λ c. IsProperBinding (binding_of c)) (λ c k. binding_counted c k.0 k.1) (bindings_in e)
+      (each_both (IsRight AsWritten) (λ c. counts_as_binding c ≡ true) (bindings_in e) h.bindings (passed counts_as_binding (elements e.inside))));
 }

@@ -3,10 +3,11 @@ use Rattle.std.proofs.Common.{◌≡◌, ℕ, zero, suc, ◌+◌, Bool, true, fa
 use Rattle.std.specs.Prelude.{slice_get, bytes_eq, is_some, option_map, option_and_then, option_to_list}
 use Rattle.std.specs.List.{position_from}
 use Rattle.std.proofs.lemmas.Option.{same_Some}
-use Rattle.zi_feed.specs.Texts.{same}
-use Rattle.zi_feed.specs.Words.{is_among}
-use Rattle.zi_feed.specs.declared.feed.Dep.{Dep}
-use Rattle.zi_feed.proofs.TableLaws.{same_text}
+use Rattle.zi_elements.specs.Namespace.{injector}
+use Rattle.zi_address.specs.Texts.{same}
+use Rattle.zi_reading.specs.Words.{is_among}
+use Rattle.zi_parts.specs.declared.types.Dep.{Dep}
+use Rattle.zi_reading.proofs.TableLaws.{same_text}
 use Rattle.zi_universe.specs.declared.types.Candidate.{Candidate}
 use Rattle.zi_universe.specs.declared.types.Interface.{Interface}
 use Rattle.zi_universe.specs.Whole.{uris_of}
@@ -66,7 +67,7 @@ pub record IsPlaced (u : List Interface) (uri : List ℕ) (n m : ℕ) : Type 0 w
   pub named : interface.uri ≡ uri
 
 address_is : (x y : List ℕ) → bytes_eq x y ≡ true → y ≡ x
-unfolding same
+unfolding same injector
 address_is x y h = sym (same_text x y h)
 
 pub placed : (u : List Interface) (uri : List ℕ) (n m : ℕ) → position_from (bytes_eq uri) n (uris_of u) ≡ Some m → IsPlaced u uri n m

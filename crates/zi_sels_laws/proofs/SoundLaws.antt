@@ -3,18 +3,19 @@ use Rattle.std.proofs.Common.{◌≡◌, ℕ, Bool, true, false, ◌&&◌, ◌||
 use Rattle.std.specs.Prelude.{not, is_some, option_and_then, unwrap_or, if◌then◌else◌}
 use Rattle.std.specs.List.{list_any}
 use Rattle.std.proofs.lemmas.Bool.{and_parts, or_parts}
-use Rattle.zi_forest.specs.Forest.{Elem, attribute, lacks, value, text_in}
-use Rattle.zi_feed.specs.Texts.{same, is_none}
-use Rattle.zi_feed.specs.Words.{is_among, listed, is_wrong}
-use Rattle.zi_feed.specs.Forms.{mode_of, importance_of}
-use Rattle.zi_feed.specs.Sites.{Ways, is, is_ours, parts, binding_names}
-use Rattle.zi_feed.specs.Values.{those, binding_of, bindings_of, dep_of, deps_of, ranges_of, extra_of, word_of, args_of, runner_of, command_of}
-use Rattle.zi_feed.specs.Faults.{is_bad_part, is_bad_environment, is_bad_for_each}
-use Rattle.zi_feed.specs.declared.feed.Binding.TheVariants.{Env, Unbuilt}
-use Rattle.zi_feed.specs.declared.feed.Mode.TheVariants.{Prepend}
-use Rattle.zi_feed.specs.declared.feed.Word.TheVariants.{Arg, ForEach}
-use Rattle.zi_feed.specs.declared.feed.DepKind.TheVariants.{Essential, Recommended, Restricts}
-use Rattle.zi_feed.proofs.TableLaws.{same_text, same_refl}
+use Rattle.zi_elements.specs.Forest.{Elem, attribute, lacks, value, text_in}
+use Rattle.zi_elements.specs.Namespace.{injector}
+use Rattle.zi_address.specs.Texts.{same, is_none}
+use Rattle.zi_reading.specs.Words.{is_among, listed, is_wrong}
+use Rattle.zi_parts.specs.Values.{mode_of, importance_of, binding_of, bindings_of, dep_of, deps_of, ranges_of, extra_of, word_of, args_of, runner_of, command_of}
+use Rattle.zi_reading.specs.Ways.{Ways, AsWritten}
+use Rattle.zi_reading.specs.Reading.{is, is_ours, parts, binding_names, those}
+use Rattle.zi_faults.specs.Faults.{is_bad_part, is_bad_environment, is_bad_for_each}
+use Rattle.zi_parts.specs.declared.types.Binding.TheVariants.{Env, Unbuilt}
+use Rattle.zi_parts.specs.declared.types.Mode.TheVariants.{Prepend}
+use Rattle.zi_parts.specs.declared.types.Word.TheVariants.{Arg, ForEach}
+use Rattle.zi_parts.specs.declared.types.DepKind.TheVariants.{Essential, Recommended, Restricts}
+use Rattle.zi_reading.proofs.TableLaws.{same_text, same_refl}
 use Rattle.zi_sels_laws.proofs.LikeLaws.{Each}
 use Rattle.zi_sels_laws.proofs.FieldLaws.{app}
 use Rattle.zi_sels_laws.proofs.BindingLaws.{IsProperBinding, other_names}
@@ -115,10 +116,10 @@ asked (Some t) = either (same t (codes "essential")) (same t (codes "recommended
     either false false = tt
 
 not_restricts : same (codes "requires") (codes "restricts") ≡ false
-unfolding same
+unfolding same injector
 not_restricts = refl
 
-pub dep_sound : (c : Elem) → IsRight None c → c.name ≡ codes "requires" → IsProperDep (dep_of None c)
+pub dep_sound : (c : Elem) → IsRight AsWritten c → c.name ≡ codes "requires" → IsProperDep (dep_of AsWritten c)
 unfolding dep_of ranges_of
 dep_sound c h name = record {
   kind = subst IsAsked (sym (ap (λ b. if b then Restricts else unwrap_or (option_and_then importance_of (attribute (codes "importance") c)) Essential) (ends (is_ours c) (same c.name (codes "restricts")) (ap (λ n. same n (codes "restricts")) name ∙ not_restricts))))
@@ -127,7 +128,7 @@ dep_sound c h name = record {
   os = refl;
   wanted = refl;
   commands = refl;
-  bindings = bindings_sound None c h;
+  bindings = bindings_sound AsWritten c h;
 }
   where
     ends : (a b : Bool) → b ≡ false → (a && b) ≡ false
@@ -176,7 +177,7 @@ words_sound ways e h =
 
 -- Runners.
 
-pub runner_sound : (c : Elem) → IsRight None c → c.name ≡ codes "runner" → IsProperRunner (runner_of None c)
+pub runner_sound : (c : Elem) → IsRight AsWritten c → c.name ≡ codes "runner" → IsProperRunner (runner_of AsWritten c)
 unfolding runner_of ranges_of
 runner_sound c h name = record {
   kind = refl;
@@ -184,8 +185,8 @@ runner_sound c h name = record {
   os = refl;
   wanted = refl;
   commands = refl;
-  bindings = bindings_sound None c h;
-  words = words_sound None c h;
+  bindings = bindings_sound AsWritten c h;
+  words = words_sound AsWritten c h;
 }
 
 -- Commands.
@@ -203,27 +204,27 @@ requires_name n h k = same_text n (codes "requires") (by (same n (codes "require
     by false false true p q = absurd (cc q)
     by false true r p q = absurd (cc q)
 
-pub dep_child : (parent : List ℕ) (c : Elem) → IsChild None parent c → is_among asked_names c.name ≡ true → c.name ≡ codes "requires"
+pub dep_child : (parent : List ℕ) (c : Elem) → IsChild AsWritten parent c → is_among asked_names c.name ≡ true → c.name ≡ codes "requires"
 dep_child parent c h k = requires_name c.name k (child_own parent c h).kept
 
-pub deps_sound : (e : Elem) → IsRight None e → Each IsProperDep (deps_of None e)
+pub deps_sound : (e : Elem) → IsRight AsWritten e → Each IsProperDep (deps_of AsWritten e)
 deps_sound e h =
-    each_map IsProperDep (dep_of None) (those asked_names (parts None e))
-    (each_weak (λ c. IsChild None e.name c × (is_among asked_names c.name ≡ true)) (λ c. IsProperDep (dep_of None c))
-    (λ c k. dep_sound c k.0.right (dep_child e.name c k.0 k.1)) (those asked_names (parts None e))
-    (each_filter (IsChild None e.name) (λ c. is_among asked_names c.name) (parts None e) (right_parts None e h)))
+    each_map IsProperDep (dep_of AsWritten) (those asked_names (parts AsWritten e))
+    (each_weak (λ c. IsChild AsWritten e.name c × (is_among asked_names c.name ≡ true)) (λ c. IsProperDep (dep_of AsWritten c))
+    (λ c k. dep_sound c k.0.right (dep_child e.name c k.0 k.1)) (those asked_names (parts AsWritten e))
+    (each_filter (IsChild AsWritten e.name) (λ c. is_among asked_names c.name) (parts AsWritten e) (right_parts AsWritten e h)))
 
-pub command_sound : (c : Elem) → IsRight None c → c.name ≡ codes "command" → IsProperCommand (command_of None c)
+pub command_sound : (c : Elem) → IsRight AsWritten c → c.name ≡ codes "command" → IsProperCommand (command_of AsWritten c)
 unfolding command_of
 command_sound c h name =
-    let all = right_parts None c h in record {
-      words = words_sound None c h;
-      runner = each_first IsProperRunner (runner_of None) (those runner_names (parts None c))
-          (each_weak (λ r. IsChild None c.name r × (is_among runner_names r.name ≡ true)) (λ r. IsProperRunner (runner_of None r)) (λ r k. runner_sound r k.0.right (only_name r.name (codes "runner") k.1))
-          (those runner_names (parts None c)) (each_filter (IsChild None c.name) (λ r. is_among runner_names r.name) (parts None c) all));
+    let all = right_parts AsWritten c h in record {
+      words = words_sound AsWritten c h;
+      runner = each_first IsProperRunner (runner_of AsWritten) (those runner_names (parts AsWritten c))
+          (each_weak (λ r. IsChild AsWritten c.name r × (is_among runner_names r.name ≡ true)) (λ r. IsProperRunner (runner_of AsWritten r)) (λ r k. runner_sound r k.0.right (only_name r.name (codes "runner") k.1))
+          (those runner_names (parts AsWritten c)) (each_filter (IsChild AsWritten c.name) (λ r. is_among runner_names r.name) (parts AsWritten c) all));
       deps = deps_sound c h;
-      bindings = bindings_sound None c h;
-      unbuilt = each_first IsDir (λ (w : Elem). w.name) (those dir_names (parts None c))
-          (each_weak (λ r. IsChild None c.name r × (is_among dir_names r.name ≡ true)) (λ r. IsDir r.name) (λ r k. only_name r.name (codes "working-dir") k.1)
-          (those dir_names (parts None c)) (each_filter (IsChild None c.name) (λ r. is_among dir_names r.name) (parts None c) all));
+      bindings = bindings_sound AsWritten c h;
+      unbuilt = each_first IsDir (λ (w : Elem). w.name) (those dir_names (parts AsWritten c))
+          (each_weak (λ r. IsChild AsWritten c.name r × (is_among dir_names r.name ≡ true)) (λ r. IsDir r.name) (λ r k. only_name r.name (codes "working-dir") k.1)
+          (those dir_names (parts AsWritten c)) (each_filter (IsChild AsWritten c.name) (λ r. is_among dir_names r.name) (parts AsWritten c) all));
     }

@@ -4,18 +4,17 @@ use Rattle.std.proofs.Common.{◌≡◌, ℕ, Bool, true, false, cond, List, ◌
 use Rattle.std.specs.Prelude.{find, nat_eq, option_map, option_and_then, if◌then◌else◌}
 use Rattle.std.specs.Option.{option_or}
 use Rattle.std.specs.List.{starts_with, filter_map}
-use Rattle.zi_forest.specs.Forest.{Elem, value}
+use Rattle.zi_elements.specs.Forest.{Elem, value}
 use Rattle.zi_digest.specs.Name.{spelling, IsDigest}
 use Rattle.zi_digest.specs.declared.Algorithm.{Algorithm}
 use Rattle.zi_digest.specs.declared.Algorithm.TheVariants.{Sha1new, Sha256, Sha256new}
 use Rattle.zi_digest.specs.declared.DigestName.{DigestName}
 use Rattle.zi_digest.specs.declared.DigestName.TheVariants as digest
-use Rattle.zi_feed.specs.Words.{listed, optional}
-use Rattle.zi_feed.specs.Sites.{Ways}
-use Rattle.zi_feed.specs.Values.{named}
-use Rattle.zi_feed.specs.Digests.{digest_of, digest_by, front_by, algorithms}
-use Rattle.zi_feed.specs.Impls.{said_digest, id_digest, digests_of}
-use Rattle.zi_feed.proofs.DigestLaws.{digest_is}
+use Rattle.zi_reading.specs.Words.{listed, optional}
+use Rattle.zi_reading.specs.Ways.{Ways}
+use Rattle.zi_reading.specs.Reading.{named}
+use Rattle.zi_parts.specs.Digests.{digest_of, digest_by, front_by, algorithms, said_digest, id_digest, digests_of}
+use Rattle.zi_parts.proofs.DigestLaws.{digest_is}
 use Rattle.zi_sels.specs.Written.{is_by}
 use Rattle.zi_sels.specs.Read.{in_order_of_use}
 use Rattle.zi_sels_laws.proofs.LikeLaws.{Each}

@@ -2,12 +2,13 @@
 use Rattle.std.proofs.Common.{◌≡◌, ℕ, ◌==◌, true, ◌&&◌, List, [], ◌∷◌, ◌++◌, Option, Some, None, refl, ap, ◌∙◌, eqb-true}
 use Rattle.std.specs.Prelude.{All, IfSome, filter, bytes_eq, is_some, option_map, option_and_then}
 use Rattle.std.proofs.lemmas.Bool.{and_parts}
-use Rattle.zi_feed.specs.Texts.{same}
-use Rattle.zi_feed.specs.Words.{is_among, optional}
-use Rattle.zi_feed.specs.declared.feed.Dep.{Dep}
-use Rattle.zi_feed.specs.declared.feed.Runner.{Runner}
-use Rattle.zi_feed.specs.declared.feed.Command.{Command}
-use Rattle.zi_feed.proofs.TableLaws.{same_text}
+use Rattle.zi_elements.specs.Namespace.{injector}
+use Rattle.zi_address.specs.Texts.{same}
+use Rattle.zi_reading.specs.Words.{is_among, optional}
+use Rattle.zi_parts.specs.declared.types.Dep.{Dep}
+use Rattle.zi_parts.specs.declared.types.Runner.{Runner}
+use Rattle.zi_parts.specs.declared.types.Command.{Command}
+use Rattle.zi_reading.proofs.TableLaws.{same_text}
 use Rattle.zi_universe.specs.declared.types.Candidate.{Candidate}
 use Rattle.zi_universe.specs.declared.types.Interface.{Interface}
 use Rattle.zi_choice.specs.Choice.{Choice, chosen, command_of, command_at, needs_of, with_runner}
@@ -30,7 +31,7 @@ abbrev pub AreUsesMet : List Interface → Choice → Walk → Type 0
 AreUsesMet u s w = All (λ (x : Use). IfSome (command_at u s x.interface x.command) (λ m. AreMet u s (needs_of m))) w.used
 
 text_is : (x y : List ℕ) → bytes_eq x y ≡ true → x ≡ y
-unfolding same
+unfolding same injector
 text_is x y h = same_text x y h
 
 -- what a command needs that is used is met

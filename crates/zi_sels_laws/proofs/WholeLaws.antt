@@ -2,15 +2,16 @@
 use Rattle.std.proofs.Common.{◌≡◌, ℕ, Bool, true, false, cond, List, [], ◌∷◌, ◌++◌, map, Option, Some, None, refl, sym, ap, ◌∙◌, subst, arith, inl, inr}
 use Rattle.std.specs.Prelude.{All, IsSome, IfSome, IsSomeAnd, slice_get, find, filter, bytes_eq, option_map, option_and_then, if◌then◌else◌}
 use Rattle.std.proofs.lemmas.List.Sorted.{IsPermutation-sym}
+use Rattle.zi_elements.specs.Namespace.{injector}
 use Rattle.zi_policy.specs.declared.types.Policy.{Policy}
 use Rattle.zi_outside.specs.Views.{Holding}
-use Rattle.zi_feed.specs.Texts.{same}
-use Rattle.zi_feed.specs.Words.{optional}
-use Rattle.zi_feed.specs.declared.feed.Dep.{Dep}
-use Rattle.zi_feed.specs.declared.feed.DepKind.TheVariants.{Essential}
-use Rattle.zi_feed.specs.declared.feed.Runner.{Runner}
-use Rattle.zi_feed.specs.declared.feed.Command.{Command}
-use Rattle.zi_feed.proofs.TableLaws.{same_text, same_refl}
+use Rattle.zi_address.specs.Texts.{same}
+use Rattle.zi_reading.specs.Words.{optional}
+use Rattle.zi_parts.specs.declared.types.Dep.{Dep}
+use Rattle.zi_parts.specs.declared.types.DepKind.TheVariants.{Essential}
+use Rattle.zi_parts.specs.declared.types.Runner.{Runner}
+use Rattle.zi_parts.specs.declared.types.Command.{Command}
+use Rattle.zi_reading.proofs.TableLaws.{same_text, same_refl}
 use Rattle.zi_universe.specs.declared.types.Requirement.{Requirement}
 use Rattle.zi_universe.specs.declared.types.Candidate.{Candidate}
 use Rattle.zi_universe.specs.declared.types.Interface.{Interface}
@@ -51,13 +52,13 @@ abbrev IsApart : Selection → Selection → Type 0
 IsApart x y = same x.interface y.interface ≡ false
 
 first_behind : (x : Selection) (items ys : List Selection) → Each (IsApart x) ys → Each (IsFirst items) ys → Each (IsFirst (x ∷ items)) ys
-unfolding same
+unfolding same injector
 first_behind x items [] h k = tt
 first_behind x items (y ∷ ys) h k =
     (ap (λ b. cond b (Some x) (find (λ (z : Selection). bytes_eq z.interface y.interface) items)) h.0 ∙ k.0, first_behind x items ys h.1 k.1)
 
 itself : (x : List ℕ) → bytes_eq x x ≡ true
-unfolding same
+unfolding same injector
 itself x = same_refl x x refl
 
 apart_from : (x : Selection) (items : List Selection) → Each (λ (m : List ℕ). same x.interface m ≡ false) (map (λ (y : Selection). y.interface) items) → Each (IsApart x) items
@@ -119,7 +120,7 @@ chosen_for u s d kind m = by_number (number u d.interface) refl (m.there kind) m
 
 -- the command of a name has that name
 name_of : (k : Candidate) (name : List ℕ) (m : Command) → command_of k name ≡ Some m → m.name ≡ name
-unfolding same
+unfolding same injector
 name_of k name m e = same_text m.name name (stands_at k name m e).called
 
 module _ (u : List Interface) (req : Requirement) (s : Choice) (sels : Selections) (first : BeginsWith u req.interface) (given : Each AreGivenIn u) (valid : IsValid u req s) (are : AreSelected u req s sels) where

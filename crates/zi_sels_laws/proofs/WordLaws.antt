@@ -2,16 +2,19 @@
 use Rattle.std.proofs.Common.{◌≡◌, ℕ, Bool, true, false, ◌||◌, List, [], ◌∷◌, ◌++◌, map, Option, Some, None, codes, refl, sym, ap, subst, ◌∙◌, append-nil}
 use Rattle.std.specs.Prelude.{not, bytes_eq, is_some, unwrap_or, if◌then◌else◌}
 use Rattle.zi_elements.specs.declared.element.Attr.{Attr}
-use Rattle.zi_forest.specs.Forest.{Forest, none, words, child, Elem, elements, attribute, text_in}
+use Rattle.zi_elements.specs.Forest.{Forest, none, words, child, Elem, elements, attribute, text_in}
+use Rattle.zi_elements.specs.Namespace.{injector}
 use Rattle.zi_docout.specs.Elements.{attr}
 use Rattle.zi_docout.specs.Same.{IsSame, has_child, bare, unplaced}
-use Rattle.zi_feed.specs.Texts.{same, is_none}
-use Rattle.zi_feed.specs.Words.{is_among, listed, is_wrong, repeated}
-use Rattle.zi_feed.specs.Sites.{Said, is_unclear, parts, read_in}
-use Rattle.zi_feed.specs.Values.{word_of}
-use Rattle.zi_feed.specs.Faults.{faults_with, kinds_at, is_bad_part, repeats_in, share}
-use Rattle.zi_feed.specs.declared.feed.Word.{Word}
-use Rattle.zi_feed.specs.declared.feed.Word.TheVariants.{Arg, ForEach}
+use Rattle.zi_address.specs.Texts.{same, is_none}
+use Rattle.zi_reading.specs.Ways.{AsWritten}
+use Rattle.zi_reading.specs.Words.{is_among, listed, is_wrong, repeated}
+use Rattle.zi_reading.specs.Reading.{is_unclear, parts, read_in}
+use Rattle.zi_faults.specs.Said.{Said}
+use Rattle.zi_parts.specs.Values.{word_of}
+use Rattle.zi_faults.specs.Faults.{faults_with, kinds_at, is_bad_part, repeats_in, share}
+use Rattle.zi_parts.specs.declared.types.Word.{Word}
+use Rattle.zi_parts.specs.declared.types.Word.TheVariants.{Arg, ForEach}
 use Rattle.zi_sels.specs.Written.{attr_of, attr_unless, text_node, arg_elem, word_elem}
 use Rattle.zi_sels_laws.proofs.LikeLaws.{AreSame, same_inside, Each, each_read, values_back, no_child, same_text}
 use Rattle.zi_sels_laws.proofs.FieldLaws.{Field, field, fields, looked, unless, unless_field, unless_back, app}
@@ -57,23 +60,23 @@ arg_empty text r s = childless r.inside (sym (no_child (has_child r.inside) r.in
 pub arg_text : (text : List ℕ) (r : Elem) → IsSame (arg_elem text) r → text_in r.inside ≡ text
 arg_text text r s = same_text r.inside (text_node text) (text_alone text) (arg_inside text r s) ∙ text_again text
 
-arg_means : (f : Forest) (p : ℕ) → word_of None (here_is (codes "arg") [] f p) ≡ Arg (text_in f)
-unfolding word_of same
+arg_means : (f : Forest) (p : ℕ) → word_of AsWritten (here_is (codes "arg") [] f p) ≡ Arg (text_in f)
+unfolding word_of same injector
 arg_means f p = refl
 
-arg_back : (text : List ℕ) (r : Elem) → IsSame (arg_elem text) r → word_of None r ≡ Arg text
-arg_back text r s = ap (word_of None) (sym (arg_same text r s)) ∙ (arg_means r.inside r.place ∙ ap Arg (arg_text text r s))
+arg_back : (text : List ℕ) (r : Elem) → IsSame (arg_elem text) r → word_of AsWritten r ≡ Arg text
+arg_back text r s = ap (word_of AsWritten) (sym (arg_same text r s)) ∙ (arg_means r.inside r.place ∙ ap Arg (arg_text text r s))
 
 arg_tested : (s : Said) (f : Forest) (p : ℕ)
-    → faults_with None s (here_is (codes "arg") [] f p) ≡ tested_faults (here_is (codes "arg") [] f p) false false false false false (repeats_in None (here_is (codes "arg") [] f p))
-unfolding faults_with kinds_at same is_among is_unclear
+    → faults_with AsWritten s (here_is (codes "arg") [] f p) ≡ tested_faults (here_is (codes "arg") [] f p) false false false false false (repeats_in AsWritten (here_is (codes "arg") [] f p))
+unfolding faults_with kinds_at same is_among is_unclear injector
 arg_tested s f p = refl
 
 arg_clean : (text : List ℕ) (r : Elem) → IsSame (arg_elem text) r → IsClean r
 arg_clean text r s =
     let e = here_is (codes "arg") [] r.inside r.place in
     subst IsClean (arg_same text r s) (
-      λ v. arg_tested v r.inside r.place ∙ quiet_where e false false false false false (repeats_in None e) refl refl refl refl refl (empty_repeats e (arg_empty text r s)),
+      λ v. arg_tested v r.inside r.place ∙ quiet_where e false false false false false (repeats_in AsWritten e) refl refl refl refl refl (empty_repeats e (arg_empty text r s)),
       clean_inside (codes "arg") r.inside (subst (Each IsClean) (sym (arg_empty text r s)) tt),
     )
 
@@ -84,15 +87,15 @@ abbrev pub arg_names : List (List ℕ)
 arg_names = listed (codes "arg")
 
 arg_known : is_among word_names (codes "arg") ≡ true
-unfolding is_among same
+unfolding is_among same injector
 arg_known = refl
 
 arg_alone : is_among arg_names (codes "arg") ≡ true
-unfolding is_among same
+unfolding is_among same injector
 arg_alone = refl
 
 loop_known : is_among word_names (codes "for-each") ≡ true
-unfolding is_among same
+unfolding is_among same injector
 loop_known = refl
 
 arg_plain : (text : List ℕ) (r : Elem) → IsSame (arg_elem text) r → IsPlain (codes "arg") r
@@ -123,35 +126,35 @@ abbrev text_of : Elem → List ℕ
 text_of a = text_in a.inside
 
 loop_means : (fs : List Field) (f : Forest) (p : ℕ)
-    → word_of None (loop_here fs f p) ≡ loop_by (attribute (codes "item-from") (loop_here fs f p)) (attribute (codes "separator") (loop_here fs f p)) (map text_of (parts None (loop_here fs f p)))
-unfolding word_of same
+    → word_of AsWritten (loop_here fs f p) ≡ loop_by (attribute (codes "item-from") (loop_here fs f p)) (attribute (codes "separator") (loop_here fs f p)) (map text_of (parts AsWritten (loop_here fs f p)))
+unfolding word_of same injector
 loop_means fs f p = refl
 
 loop_tested : (s : Said) (fs : List Field) (f : Forest) (p : ℕ)
-    → faults_with None s (loop_here fs f p) ≡ tested_faults (loop_here fs f p) (is_unclear (loop_here fs f p)) false (is_bad_part (loop_here fs f p)) false false (repeats_in None (loop_here fs f p))
-unfolding faults_with kinds_at same is_among
+    → faults_with AsWritten s (loop_here fs f p) ≡ tested_faults (loop_here fs f p) (is_unclear (loop_here fs f p)) false (is_bad_part (loop_here fs f p)) false false (repeats_in AsWritten (loop_here fs f p))
+unfolding faults_with kinds_at same is_among injector
 loop_tested s fs f p = refl
 
 stood_loop : Each (λ n. stood (codes "for-each") n ≡ true) arg_names
-unfolding is_among same read_in
+unfolding is_among same read_in injector
 stood_loop = (refl, tt)
 
 arg_no_runner : Each (λ n. is_among (listed (codes "runner")) n ≡ false) arg_names
-unfolding is_among same
+unfolding is_among same injector
 arg_no_runner = (refl, tt)
 
 arg_no_command : Each (λ n. is_among (listed (codes "command")) n ≡ false) arg_names
-unfolding is_among same
+unfolding is_among same injector
 arg_no_command = (refl, tt)
 
 no_recipe : same (codes "for-each") (codes "recipe") ≡ false
-unfolding same
+unfolding same injector
 no_recipe = refl
 
 loop_plain : (item_from separator : List ℕ) (f : Forest) (p : ℕ) → IsPlain (codes "for-each") (loop_here (loop_fields item_from separator) f p)
 loop_plain item_from separator f p = record { space = refl; named = refl; free = looked condition (loop_fields item_from separator) refl }
 
-loop_parts : (item_from separator : List ℕ) (f : Forest) (p : ℕ) → Each (IsOf arg_names) (elements f) → parts None (loop_here (loop_fields item_from separator) f p) ≡ elements f
+loop_parts : (item_from separator : List ℕ) (f : Forest) (p : ℕ) → Each (IsOf arg_names) (elements f) → parts AsWritten (loop_here (loop_fields item_from separator) f p) ≡ elements f
 loop_parts item_from separator f p h =
     let e = loop_here (loop_fields item_from separator) f p in
     all_parts e (plain_open (codes "for-each") e (loop_plain item_from separator f p) no_recipe) (of_parts arg_names (codes "for-each") stood_loop (elements f) h)
@@ -173,7 +176,7 @@ args_clean : (args : List (List ℕ)) (rs : List Elem) → AreSame (map arg_elem
 args_clean args rs s = each_read arg_elem any IsClean (λ text r h k. arg_clean text r k) args rs (each_any args) s
 
 loop_here_back : (item_from separator : List ℕ) (args : List (List ℕ)) (f : Forest) (p : ℕ) → AreSame (map arg_elem args) (elements f)
-    → word_of None (loop_here (loop_fields item_from separator) f p) ≡ ForEach item_from separator args
+    → word_of AsWritten (loop_here (loop_fields item_from separator) f p) ≡ ForEach item_from separator args
 loop_here_back item_from separator args f p s =
     let fs = loop_fields item_from separator in
     let found = ap (map text_of) (loop_parts item_from separator f p (args_are args (elements f) s)) ∙ args_back args (elements f) s in
@@ -182,7 +185,7 @@ loop_here_back item_from separator args f p s =
     ∙ ap (λ v. ForEach item_from v args) (unless_back (codes ":") separator))
 
 loop_good : (item_from separator : List ℕ) (f : Forest) (p : ℕ) → is_none separator ≡ false → is_bad_part (loop_here (loop_fields item_from separator) f p) ≡ false
-unfolding same
+unfolding same injector
 loop_good item_from separator f p h =
     good_part (loop_here (loop_fields item_from separator) f p) refl refl
     (app (ap {B = Bool → Bool} (λ x y. x || y) (ap (λ o. not (is_some o)) (looked (codes "item-from") (loop_fields item_from separator) refl)))
@@ -199,7 +202,7 @@ loop_here_clean item_from separator args f p h s =
     let fs = loop_fields item_from separator in
     let e = loop_here fs f p in
     let are = args_are args (elements f) s in (
-      λ v. loop_tested v fs f p ∙ quiet_where e (is_unclear e) false (is_bad_part e) false false (repeats_in None e)
+      λ v. loop_tested v fs f p ∙ quiet_where e (is_unclear e) false (is_bad_part e) false false (repeats_in AsWritten e)
           (free_clear e (looked condition fs refl)) refl (loop_good item_from separator f p h) refl refl
           (no_repeats e (elements f) (loop_parts item_from separator f p are) (ap (repeated (λ a b. true)) (of_those arg_names (listed (codes "runner")) false arg_no_runner (elements f) are))
           (ap (repeated (share (codes "name"))) (of_those arg_names (listed (codes "command")) false arg_no_command (elements f) are))),
@@ -223,11 +226,11 @@ word_is (Arg text) r h s = record { name = codes "arg"; plain = arg_plain text r
 word_is (ForEach item_from separator args) r h s =
     record { name = codes "for-each"; plain = subst (IsPlain (codes "for-each")) (loop_same item_from separator args r s) (loop_plain item_from separator r.inside r.place); known = loop_known }
 
-pub word_back : (w : Word) (r : Elem) → IsProperWord w → IsSame (word_elem w) r → word_of None r ≡ w
+pub word_back : (w : Word) (r : Elem) → IsProperWord w → IsSame (word_elem w) r → word_of AsWritten r ≡ w
 unfolding word_elem
 word_back (Arg text) r h s = arg_back text r s
 word_back (ForEach item_from separator args) r h s =
-    ap (word_of None) (sym (loop_same item_from separator args r s)) ∙ loop_here_back item_from separator args r.inside r.place (loop_inside item_from separator args r s)
+    ap (word_of AsWritten) (sym (loop_same item_from separator args r s)) ∙ loop_here_back item_from separator args r.inside r.place (loop_inside item_from separator args r s)
 
 pub word_clean : (w : Word) (r : Elem) → IsProperWord w → IsSame (word_elem w) r → IsClean r
 unfolding word_elem
@@ -239,8 +242,8 @@ word_clean (ForEach item_from separator args) r h s =
 pub words_are : (ws : List Word) (rs : List Elem) → Each IsProperWord ws → AreSame (map word_elem ws) rs → Each (IsOf word_names) rs
 words_are ws rs h s = each_read word_elem IsProperWord (IsOf word_names) word_is ws rs h s
 
-pub words_back : (ws : List Word) (rs : List Elem) → Each IsProperWord ws → AreSame (map word_elem ws) rs → map (word_of None) rs ≡ ws
-words_back ws rs h s = values_back word_elem (word_of None) IsProperWord word_back ws rs h s
+pub words_back : (ws : List Word) (rs : List Elem) → Each IsProperWord ws → AreSame (map word_elem ws) rs → map (word_of AsWritten) rs ≡ ws
+words_back ws rs h s = values_back word_elem (word_of AsWritten) IsProperWord word_back ws rs h s
 
 pub words_clean : (ws : List Word) (rs : List Elem) → Each IsProperWord ws → AreSame (map word_elem ws) rs → Each IsClean rs
 words_clean ws rs h s = each_read word_elem IsProperWord IsClean word_clean ws rs h s

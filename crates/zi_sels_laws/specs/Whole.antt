@@ -1,7 +1,7 @@
 -- Selections that lack no command (the published format of selections documents, and "Commands" in that of feeds).
 use Rattle.std.specs.Prelude.{ℕ, List, bytes_eq, find, IsSome, IfSome, IsSomeAnd, All}
-use Rattle.zi_feed.specs.declared.feed.Runner.{Runner}
-use Rattle.zi_feed.specs.declared.feed.Command.{Command}
+use Rattle.zi_parts.specs.declared.types.Runner.{Runner}
+use Rattle.zi_parts.specs.declared.types.Command.{Command}
 use Rattle.zi_sels.specs.declared.types.Selection.{Selection}
 use Rattle.zi_sels.specs.declared.types.Selections.{Selections}
 use Rattle.zi_sels.specs.Written.{command_wanted}

@@ -1,7 +1,8 @@
 -- What a session keeps of the shelf that it works on.
 use Rattle.std.specs.Prelude.{◌≡◌, ◌≤◌, ℕ, List, Some, slice_get, slice_set}
 use Rattle.zi_tree.specs.Dir.{Dir}
-use Rattle.zi_shelf.specs.Told.{Told, Rose}
+use Rattle.zi_text.specs.Count.{Rose}
+use Rattle.zi_shelf.specs.Told.{Told}
 use Rattle.zi_shelf.specs.Shelving.{Shelving, Stays}
 use Rattle.zi_session.specs.Machine.{Adder}
 use Rattle.zi_session.specs.Invariant.{Inv}

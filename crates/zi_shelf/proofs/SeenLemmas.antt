@@ -5,7 +5,8 @@ use Rattle.zi_tree.specs.Dir.{Dir}
 use Rattle.zi_shelf.specs.Names.{Name}
 use Rattle.zi_shelf.specs.Shelved.{Top, Shelved, Call, Reply, Did, Exists, Failed, Memory, Answers, Fits}
 use Rattle.zi_shelf.specs.Filling.{Work, trees}
-use Rattle.zi_shelf.specs.Told.{Told, Rose, HasCause, is_planned, FailsAsPlanned, change_call, fault_reply}
+use Rattle.zi_text.specs.Count.{Rose}
+use Rattle.zi_shelf.specs.Told.{Told, HasCause, is_planned, FailsAsPlanned, change_call, fault_reply}
 use Rattle.zi_shelf.specs.Reading.{Question, question_call, FitsReading}
 use Rattle.zi_shelf.specs.Shelving.{Shelving, Stays, FailsOnly, Does, Reads}
 use Rattle.zi_shelf.specs.InMemory.{held_seen}

@@ -5,7 +5,8 @@
 ghost use Rattle.std.specs.Prelude.{◌≡◌, ◌<◌, ◌≤◌, ◌-◌, ◌^◌, ◌++◌, ◌∷◌, [], true, Some, nat_eq, option_copied, IfOk, OnOk, OnErr, refl};
 ghost use Rattle.std.specs.List.{list_any};
 ghost use Rattle.zi_shelf.specs.Memory.{are_apart, are_trees, told_of, root_of, StaysSure};
-ghost use Rattle.zi_shelf.specs.Told.{Rose, plain_call, nothing_told, placed, tree_at};
+ghost use Rattle.zi_text.specs.Count.{Rose};
+ghost use Rattle.zi_shelf.specs.Told.{plain_call, nothing_told, placed, tree_at};
 
 use crate::call::{CallKind, ShelfCall};
 use crate::filling::Filling;

@@ -6,7 +6,8 @@ use Rattle.zi_tree.specs.Dir.{Dir}
 use Rattle.zi_tree.specs.declared.tree.TreeNode.{TreeNode}
 use Rattle.zi_shelf.specs.Names.{Name}
 use Rattle.zi_shelf.specs.Shelved.{Shelved, Reply, Did, Exists, Failed, Memory}
-use Rattle.zi_shelf.specs.Told.{Told, Rose, recorded}
+use Rattle.zi_text.specs.Count.{Rose}
+use Rattle.zi_shelf.specs.Told.{Told, recorded}
 use Rattle.zi_shelf.specs.Shelving.{Shelving, Stays, Reads, IsSure}
 use Rattle.zi_shelf.specs.Reading.{Question, question_call}
 use Rattle.zi_shelf.specs.declared.call.ShelfCall.{ShelfCall}

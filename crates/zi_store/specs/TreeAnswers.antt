@@ -5,7 +5,8 @@ use Rattle.zi_shelf.specs.Names.{Name}
 use Rattle.zi_shelf.specs.Shelved.{Top, Shelved}
 use Rattle.zi_shelf.specs.declared.shelf.ShelfFault.{ShelfFault}
 use Rattle.zi_manifest.specs.Manifest.{as_read}
-use Rattle.zi_store.specs.Walking.{passed, limit_of}
+use Rattle.zi_tree.specs.Limits.{limit_of}
+use Rattle.zi_store.specs.Walking.{passed}
 use Rattle.zi_store.specs.declared.stop.Stop.{Stop}
 use Rattle.zi_store.specs.declared.stop.Stop.TheVariants as stop
 use Rattle.zi_store.specs.declared.trees.TreeRead.{TreeRead}

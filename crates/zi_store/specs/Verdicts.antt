@@ -6,7 +6,8 @@ use Rattle.zi_tree.specs.Dir.{Dir}
 use Rattle.zi_shelf.specs.Shelved.{Top, Shelved}
 use Rattle.zi_shelf.specs.declared.shelf.ShelfFault.{ShelfFault}
 use Rattle.zi_manifest.specs.Manifest.{as_read, first_bad, digest_of}
-use Rattle.zi_store.specs.Walking.{passed, limit_of}
+use Rattle.zi_tree.specs.Limits.{limit_of}
+use Rattle.zi_store.specs.Walking.{passed}
 use Rattle.zi_store.specs.declared.verdicts.Verdict.{Verdict}
 use Rattle.zi_store.specs.declared.verdicts.Verdict.TheVariants as verdict
 

@@ -1,6 +1,7 @@
 -- A tree entry by entry, in the order of its manifest, and the first limit that it passes there.
 use Rattle.std.specs.Prelude.{◌≡◌, ℕ, ◌+◌, List, [], ◌∷◌, ◌++◌, length, Option, Some, None, nat_lt, if◌then◌else◌}
 use Rattle.zi_tree.specs.Dir.{Dir, Nothing, AFile, ALink, AFolder}
+use Rattle.zi_tree.specs.Limits.{depth_limit, nodes_limit, size_limit}
 use Rattle.zi_tree.specs.declared.change.TreeLimit.{TreeLimit}
 use Rattle.zi_tree.specs.declared.change.TreeLimit.TheVariants as limit
 
@@ -26,21 +27,6 @@ folders_met depth (AFolder n inside rest) = record { depth = depth; size = 0 } �
 -- all entries of a folder that is so deep; the top folder has the depth 0
 abbrev pub met : ℕ → Dir → List Met
 met depth d = leaves_met d ++ folders_met (depth + 1) d
-
-abbrev pub depth_limit : ℕ
-depth_limit = 64
-
-abbrev pub nodes_limit : ℕ
-nodes_limit = 100000
-
--- 256 MiB
-abbrev pub size_limit : ℕ
-size_limit = 268435456
-
-abbrev pub limit_of : TreeLimit → ℕ
-limit_of limit.Depth = depth_limit
-limit_of limit.Nodes = nodes_limit
-limit_of limit.Size = size_limit
 
 -- The first limit that is passed from so many entries and bytes on: at each entry that of depth first, then that of entries, then that of bytes. A number equal to its limit doesn't pass it.
 abbrev pub first_passed : (nodes bytes : ℕ) → List Met → Option TreeLimit

@@ -1,7 +1,8 @@
 //! The calls on a shelf that read, each with what it leaves of the shelf and when it fails.
 
 ghost use Rattle.std.specs.Prelude.{◌≡◌, Err, Some};
-ghost use Rattle.zi_shelf.specs.Told.{Told, Rose};
+ghost use Rattle.zi_text.specs.Count.{Rose};
+ghost use Rattle.zi_shelf.specs.Told.{Told};
 ghost use Rattle.zi_shelf.specs.Reading.{Entries, Read, Target, NamesAnswer, EntriesAnswer, ReadAnswer, TargetAnswer, Grows};
 ghost use Rattle.zi_store.specs.Keeping.{Keeps, is_names, is_reading};
 ghost use Rattle.zi_store.specs.Entries.{Fits};

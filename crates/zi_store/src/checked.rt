@@ -4,7 +4,8 @@ ghost use Rattle.std.specs.Prelude.{◌≡◌, ◌⊎◌, true, false, Ok, Err, 
 ghost use Rattle.std.specs.Option.{option_copied};
 ghost use Rattle.zi_digest.specs.Name.{spelling, IsDigest};
 ghost use Rattle.zi_digest.specs.declared.DigestName.{DigestName as Name};
-ghost use Rattle.zi_shelf.specs.Told.{Told, Rose};
+ghost use Rattle.zi_text.specs.Count.{Rose};
+ghost use Rattle.zi_shelf.specs.Told.{Told};
 ghost use Rattle.zi_store.specs.Keeping.{Keeps, is_reading};
 ghost use Rattle.zi_store.specs.Kept.{HoldsSound};
 ghost use Rattle.zi_store.specs.KeptNames.{IsKept};

@@ -1,21 +1,11 @@
 //! How much of a tree was met so far, and the limits of that.
 
 ghost use Rattle.std.specs.Prelude.{◌≡◌, ◌≤◌, ◌<◌, [], ◌∷◌, OnOk, OnErr, Err};
-ghost use Rattle.zi_store.specs.Walking.{limit_of};
 ghost use Rattle.zi_shelf.specs.declared.shelf.ShelfFault.{ShelfFault as Fault};
 ghost use Rattle.zi_store.specs.Entries.{Walks};
 
 use crate::stop::Stop;
-use zi_tree::TreeLimit;
-
-/// How deep folders may lie one in another: the top folder has the depth 0.
-pub(crate) const DEPTH_LIMIT: u64 = 64;
-
-/// How many files, links and folders a tree may have.
-pub(crate) const NODES_LIMIT: u64 = 100_000;
-
-/// How many bytes the files of a tree may have together: 256 MiB.
-pub(crate) const SIZE_LIMIT: u64 = 256 * 1024 * 1024;
+use zi_tree::{DEPTH_LIMIT, NODES_LIMIT, SIZE_LIMIT, TreeLimit};
 
 /// The files, links and folders met so far, and the bytes of the files, each within its limit.
 #[derive(Clone, Copy)]
@@ -74,16 +64,5 @@ impl Counts {
             bytes: self.bytes + size,
         };
         Ok(())
-    }
-}
-
-/// The limit of what a tree may have too much of.
-pub(crate) fn limit_of(what: TreeLimit) -> u64
-    ensures { result ≡ limit_of what }
-{
-    match what {
-        TreeLimit::Size => SIZE_LIMIT,
-        TreeLimit::Nodes => NODES_LIMIT,
-        TreeLimit::Depth => DEPTH_LIMIT,
     }
 }

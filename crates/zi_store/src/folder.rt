@@ -7,7 +7,7 @@ ghost use Rattle.zi_tree.specs.Paths.{items, node_in, replaced, changed, found};
 ghost use Rattle.zi_tree.specs.Views.{dir, node_is_tree};
 ghost use Rattle.zi_tree.specs.declared.tree.TreeNode.{TreeNode as Node};
 ghost use Rattle.zi_tree.specs.declared.tree.TreeNode.TheVariants.{Folder};
-ghost use Rattle.zi_shelf.specs.Told.{Rose};
+ghost use Rattle.zi_text.specs.Count.{Rose};
 ghost use Rattle.zi_manifest.specs.Walk.{shown};
 ghost use Rattle.zi_store.specs.Keeping.{Keeps, is_reading};
 ghost use Rattle.zi_store.specs.Standing.{Stands, IsListed};

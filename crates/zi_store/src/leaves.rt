@@ -7,7 +7,7 @@ ghost use Rattle.zi_tree.specs.Paths.{items, node_in, placed};
 ghost use Rattle.zi_tree.specs.Views.{dir};
 ghost use Rattle.zi_tree.specs.declared.tree.TreeNode.{TreeNode as Node};
 ghost use Rattle.zi_tree.specs.declared.tree.TreeNode.TheVariants.{File};
-ghost use Rattle.zi_shelf.specs.Told.{Rose};
+ghost use Rattle.zi_text.specs.Count.{Rose};
 ghost use Rattle.zi_shelf.specs.Reading.{kind_of};
 ghost use Rattle.zi_manifest.specs.Walk.{shown};
 ghost use Rattle.zi_store.specs.Keeping.{Keeps, is_reading};
@@ -17,12 +17,12 @@ ghost use Rattle.zi_store.specs.Entries.{entries_of, emptied, bare, leaf_met, Wa
 
 use crate::bytes::read_bytes;
 use crate::calls::ask_target;
-use crate::counts::{Counts, SIZE_LIMIT};
+use crate::counts::Counts;
 use crate::stop::Stop;
 use std::alloc::Global;
 use zi_shelf::{Entry, EntryKind, Shelf, ShelfFault};
 use zi_text::{Bytes, Memory};
-use zi_tree::{InsertFault, RelPath, Tree, TreeLimit, TreeNode};
+use zi_tree::{InsertFault, RelPath, SIZE_LIMIT, Tree, TreeLimit, TreeNode};
 
 /// The tree of a folder's entries with its files and links, each counted, and with its subfolders empty.
 pub(crate) fn read_leaves<K: Shelf>(

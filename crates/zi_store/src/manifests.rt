@@ -2,12 +2,12 @@
 
 ghost use Rattle.std.specs.Prelude.{◌≡◌, Err, Some, IfOk};
 ghost use Rattle.zi_digest.specs.declared.Algorithm.{Algorithm as Alg};
-ghost use Rattle.zi_shelf.specs.Told.{Told, Rose};
+ghost use Rattle.zi_text.specs.Count.{Rose};
+ghost use Rattle.zi_shelf.specs.Told.{Told};
 ghost use Rattle.zi_store.specs.Keeping.{Keeps, is_reading};
 ghost use Rattle.zi_store.specs.ManifestAnswers.{Ends, IsOfSomeTree, ReadsManifest, WritesWhole};
 ghost use Rattle.zi_store.specs.Written.{IsOfTree};
 
-use crate::counts::limit_of;
 use crate::listings::listing;
 use crate::stop::Stop;
 use crate::written::{Place, Written, write_folder};
@@ -55,7 +55,7 @@ pub fn manifest_of<K: Shelf>(
         Err(Stop::Missing) => Ok(ManifestRead::Missing),
         Err(Stop::TooLarge(what)) => Ok(ManifestRead::TooLarge {
             what,
-            limit: limit_of(what),
+            limit: what.most(),
         }),
         Err(Stop::Fault(fault)) => Err(fault),
     }

@@ -2,7 +2,7 @@
 
 ghost use Rattle.std.specs.Prelude.{◌≡◌, ◌≤◌, ◌<◌, ◌++◌, ◌∷◌, [], Err, ℕ, ℤ, Bool, List, length, IfOk};
 ghost use Rattle.zi_tree.specs.declared.tree.TreeNode.TheVariants.{File};
-ghost use Rattle.zi_shelf.specs.Told.{Rose};
+ghost use Rattle.zi_text.specs.Count.{Rose};
 ghost use Rattle.zi_store.specs.Keeping.{Keeps, is_reading};
 ghost use Rattle.zi_store.specs.Standing.{StandsNode};
 ghost use Rattle.zi_store.specs.Written.{HashesBytes, HashesSome};

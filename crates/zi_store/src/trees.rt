@@ -1,11 +1,12 @@
 //! A tree on a shelf.
 
 ghost use Rattle.std.specs.Prelude.{◌≡◌, Err, Some};
-ghost use Rattle.zi_shelf.specs.Told.{Told, Rose};
+ghost use Rattle.zi_text.specs.Count.{Rose};
+ghost use Rattle.zi_shelf.specs.Told.{Told};
 ghost use Rattle.zi_store.specs.Keeping.{Keeps, is_reading};
 ghost use Rattle.zi_store.specs.TreeAnswers.{ReadsTree, ReadsWhole};
 
-use crate::counts::{Counts, limit_of};
+use crate::counts::Counts;
 use crate::folder::read_folder;
 use crate::listings::listing;
 use crate::stop::Stop;
@@ -43,7 +44,7 @@ pub fn read_tree<K: Shelf>(alloc: Global, top: &str, k: &mut K) -> Result<TreeRe
         Err(Stop::Missing) => Ok(TreeRead::Missing),
         Err(Stop::TooLarge(what)) => Ok(TreeRead::TooLarge {
             what,
-            limit: limit_of(what),
+            limit: what.most(),
         }),
         Err(Stop::Fault(fault)) => Err(fault),
     }

@@ -7,7 +7,7 @@ ghost use Rattle.zi_tree.specs.Order.{is_tree};
 ghost use Rattle.zi_tree.specs.Views.{node_is_tree};
 ghost use Rattle.zi_tree.specs.declared.tree.TreeNode.{TreeNode as Node};
 ghost use Rattle.zi_tree.specs.declared.tree.TreeNode.TheVariants.{File, Link};
-ghost use Rattle.zi_shelf.specs.Told.{Rose};
+ghost use Rattle.zi_text.specs.Count.{Rose};
 ghost use Rattle.zi_manifest.specs.Sketch.{hash_text, sketch, leaf_text, folder_text, file_line, folder_line};
 ghost use Rattle.zi_manifest.specs.Manifest.{leaf_bad, folder_bad};
 ghost use Rattle.zi_manifest.specs.Walk.{shown, node_bad, node_text, inner_bad, inner_text, bad_name};
@@ -18,7 +18,7 @@ ghost use Rattle.zi_store.specs.Entries.{entries_of, leaf_met, inner_met, Walks}
 ghost use Rattle.zi_store.specs.Written.{Adds, AddsAll, AddsFolder, AddsFolders, AddsLeaves};
 
 use crate::calls::ask_target;
-use crate::counts::{Counts, SIZE_LIMIT};
+use crate::counts::Counts;
 use crate::listings::{is_folder, listing};
 use crate::pieces::{Hashed, hash_file};
 use crate::stop::Stop;
@@ -27,7 +27,7 @@ use zi_digest::Algorithm;
 use zi_manifest::{folder_line, hashed_line, is_bad, joined, link_line};
 use zi_shelf::{Entry, EntryKind, Shelf, ShelfFault};
 use zi_text::{Memory, Text};
-use zi_tree::RelPath;
+use zi_tree::{RelPath, SIZE_LIMIT};
 
 /// What was written of a manifest so far.
 #[derive(Drop)]

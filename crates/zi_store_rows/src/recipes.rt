@@ -1,8 +1,8 @@
 //! Ways to fetch that no feed says, and inputs that are made to cost much. Other ways to fetch are rows of what the program answers.
 use std::alloc::Global;
 use std::test::Fail;
-use zi_feed::{Method, Step};
 use zi_outside::{Got, SureWeb, Web, WebFault};
+use zi_parts::{Method, Step};
 use zi_recipe::{RecipeFault, make_tree};
 use zi_text::{List, Memory, Text};
 use zi_tree::{RelPath, TreeLimit};

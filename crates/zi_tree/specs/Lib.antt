@@ -6,3 +6,4 @@ pub mod Paths
 pub mod Places
 pub mod Parts
 pub mod Ways
+pub mod Limits

@@ -1,27 +1,19 @@
 -- What the parts of a loading ask for, put together.
-use Rattle.std.proofs.Common.{◌≡◌, ℕ, ◌+◌, ◌<◌, ◌≤◌, inl, inr, Bool, true, false, List, [], ◌∷◌, ◌++◌, length, get_or, Some, None, Option, slice_get, refl, sym, ap, subst, ◌∙◌, arith, append_assoc, length-append, if◌then◌else◌}
+use Rattle.std.proofs.Common.{◌≡◌, ℕ, ◌+◌, ◌<◌, ◌≤◌, inl, inr, Bool, true, false, List, [], ◌∷◌, ◌++◌, length, Some, Option, slice_get, refl, sym, ap, subst, ◌∙◌, arith, append_assoc, length-append, if◌then◌else◌}
 use Rattle.std.proofs.lemmas.List.{append-nil}
 use Rattle.zi_policy.specs.declared.types.Policy.{Policy}
 use Rattle.zi_policy.specs.Platform.{listed}
 use Rattle.zi_feed.specs.declared.feed.Feed.{Feed}
-use Rattle.zi_outside.specs.Count.{Rose}
 use Rattle.zi_outside.specs.Views.{Holding, Feeding, holding}
-use Rattle.zi_outside.specs.Outside.{Asks}
 use Rattle.zi_outside.proofs.AskingLemmas.{asking-nil, asks_none, asks_more, holding_asked}
-use Rattle.zi_universe.specs.declared.types.Requirement.{Requirement}
-use Rattle.zi_universe.specs.declared.types.Interface.{Interface}
-use Rattle.zi_universe.specs.declared.types.Candidate.{Candidate}
 use Rattle.zi_universe.specs.declared.fault.LoadFault.{LoadFault}
 use Rattle.zi_universe.specs.declared.fault.LoadFault.TheVariants as fault
-use Rattle.zi_universe.specs.declared.loading.Loading.{Loading}
-use Rattle.zi_universe.specs.Naming.{Uri, Uris, with_one, joined}
-use Rattle.zi_universe.specs.Candidates.{Store}
+use Rattle.zi_universe.specs.Naming.{Uri, Uris, with_one}
 use Rattle.zi_universe.specs.Whole.{most_feeds}
-use Rattle.zi_universe.specs.Loading.{AreAsked, CountsFault, Refuses, asked_until}
+use Rattle.zi_universe.specs.Loading.{AreAsked}
 use Rattle.zi_universe.specs.Tables.{addresses}
-use Rattle.zi_universe.specs.Stages.{RefusesBytes, StopsOnce, GetsOnce, HasListed, StopsListing}
-use Rattle.zi_universe.specs.Asked.{unless_there, StopsAt, GetsMore, AsksNext, EndsNext, RefusesAt, LeavesNext, RefusesListing, EndsListing, LeavesListing}
-use Rattle.zi_universe.specs.Listing.{ListsNext, StopsNext}
+use Rattle.zi_universe.specs.Stages.{RefusesBytes, StopsOnce, GetsOnce, HasListed}
+use Rattle.zi_universe.specs.Asked.{unless_there, StopsAt, GetsMore, EndsNext, RefusesAt, LeavesNext, RefusesListing, EndsListing, LeavesListing}
 use Rattle.zi_universe.proofs.NamingLemmas.{length-map}
 use Rattle.zi_universe.proofs.ListingLemmas.{listed_begins}
 

@@ -4,6 +4,10 @@ pub mod OfferLemmas
 pub mod LookupLemmas
 pub mod ReadingLemmas
 pub mod TableLemmas
+pub mod KeyLemmas
+pub mod NumberLemmas
+pub mod LevelLemmas
+pub mod OfferingLemmas
 pub mod ListingLemmas
 pub mod LoadedLemmas
 pub mod RefusalLemmas

@@ -15,8 +15,8 @@ use Rattle.zi_universe.specs.Loading.{Reading}
 use Rattle.zi_universe.specs.Tables.{addresses, imports_at, IsActiveOf, Agrees, AllRead}
 use Rattle.zi_universe.specs.declared.fault.LoadFault.{LoadFault}
 use Rattle.zi_universe.specs.declared.fault.LoadFault.TheVariants as fault
-use Rattle.zi_universe.specs.Stages.{RefusesFeed, RefusesNext, GetsOnce, HasListed, StopsListing}
-use Rattle.zi_universe.specs.Listing.{ListsNext, StopsNext}
+use Rattle.zi_universe.specs.Stages.{RefusesFeed, RefusesNext, GetsOnce, HasListed}
+use Rattle.zi_universe.specs.Listing.{ListsNext}
 use Rattle.zi_universe.proofs.NamingLemmas.{joined-append, named_begins, member_names, map-append, listed-with_one, take_joined}
 use Rattle.zi_universe.proofs.TableLemmas.{All-front, imports_agreed}
 

@@ -1,5 +1,5 @@
 -- One interface more: its feeds offer these, and it is finished.
-use Rattle.std.proofs.Common.{Option, ◌≡◌, ℕ, ◌+◌, ◌<◌, ◌≤◌, true, List, [], ◌∷◌, ◌++◌, length, map, get_or, All, Some, slice_get, refl, sym, ap, subst, ◌∙◌, arith, length-append}
+use Rattle.std.proofs.Common.{Option, ◌≡◌, ◌+◌, ◌<◌, ◌≤◌, true, List, [], ◌∷◌, ◌++◌, length, map, get_or, All, Some, slice_get, refl, sym, ap, subst, ◌∙◌, arith, length-append}
 use Rattle.std.specs.Prelude.{Result, Ok, Err, MatchResult, OnOk, IsPermutation}
 use Rattle.std.proofs.lemmas.List.Sums.{sum_by_push}
 use Rattle.std.proofs.lemmas.Option.{slice_get_within, get_or_from_slice_get}
@@ -19,7 +19,7 @@ use Rattle.zi_outside.specs.Views.{Feeding}
 use Rattle.zi_universe.specs.declared.fault.LoadFault.TheVariants as fault
 use Rattle.zi_universe.specs.Loading.{Reading, Refuses, asked_until, CountsFault}
 use Rattle.zi_universe.specs.Asked.{GetsMore, StopsLoading}
-use Rattle.zi_universe.specs.Tables.{addresses, held, Agrees}
+use Rattle.zi_universe.specs.Tables.{addresses, Agrees}
 use Rattle.zi_universe.specs.Stages.{Gathers, HasLoaded, IsAt, IsBegun, ArePlaced, IsSorting, Finishes, StopsFinishing, LoadsNext}
 use Rattle.zi_universe.proofs.NamingLemmas.{without_repeats_apart}
 use Rattle.zi_universe.proofs.TableLemmas.{addresses_agreed, held_agreed, reading_of, reading_agrees}

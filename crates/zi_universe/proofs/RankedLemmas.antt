@@ -1,10 +1,10 @@
 -- Sorted candidates that stand at different places each stand before all behind them.
 use Rattle.std.proofs.Common.{◌≡◌, ◌≢◌, ◌⊎◌, inl, inr, ℕ, zero, suc, ◌+◌, ◌<◌, ◌≤◌, Bool, true, false, ◌&&◌, ◌||◌, eqb, cond, List, [], ◌∷◌, ◌++◌, map, filter, length, get_or, All, bytes_eq, refl, sym, ap, subst, ◌∙◌, arith}
-use Rattle.std.specs.Prelude.{IsPermutation, IsSortedBy}
+use Rattle.std.specs.Prelude.{IsPermutation, IsSortedBy, slice_get, Some}
 use Rattle.std.specs.Ordering.{is_lt}
 use Rattle.std.specs.List.{IsDistinct, AllByRecursion}
 use Rattle.std.proofs.lemmas.List.{get_or-map}
-use Rattle.std.proofs.lemmas.List.Elements.{All-nil, All-cons}
+use Rattle.std.proofs.lemmas.List.Elements.{All-nil, All-cons, All-head, All-tail}
 use Rattle.std.proofs.lemmas.List.Sorted.{ranks_by, sorted_far, IsPermutation-map, All-permutation}
 use Rattle.std.proofs.lemmas.Map.Keys.{IsDistinct-IsPermutation, IsDistinct-head, IsDistinct-tail, IsDistinct-cons, apart_from_distinct, IsDistinct-from_apart}
 use Rattle.std.proofs.lemmas.Bool.Decides.{nat_tests}
@@ -13,17 +13,24 @@ use Rattle.zi_policy.specs.Platform.{listed}
 use Rattle.zi_rank.specs.Laws.{RanksAreStrict}
 use Rattle.zi_rank.specs.Rank.{rank_cmp}
 use Rattle.zi_rank.specs.declared.rating.Rating.{Rating}
-use Rattle.zi_rank.specs.Ratings.{rating_of, rated_cmp}
-use Rattle.zi_rank.specs.RankOrder.{rank_total, rated_ranks}
+use Rattle.zi_rank.specs.declared.types.Standing.{Standing}
+use Rattle.zi_rank.specs.Ratings.{rating_of, Numbered, numbered_cmp}
+use Rattle.zi_rank.specs.RankOrder.{rank_total}
+use Rattle.zi_rank.proofs.RankLemmas.{numbered_ranks}
+use Rattle.zi_feed.specs.declared.shares.Shares.{Shares}
 use Rattle.zi_feed.specs.declared.feed.Feed.{Feed}
-use Rattle.zi_feed.specs.declared.feed.Impl.{Impl}
+use Rattle.zi_parts.specs.declared.types.Impl.{Impl}
 use Rattle.zi_universe.specs.declared.types.Candidate.{Candidate}
+use Rattle.zi_universe.specs.declared.offers.Offered.{Offered}
+use Rattle.zi_universe.specs.declared.ranking.PlacedCandidate.{PlacedCandidate}
 use Rattle.zi_universe.specs.declared.ranking.RatedCandidate.{RatedCandidate}
 use Rattle.zi_universe.specs.declared.types.Requirement.{Requirement}
 use Rattle.zi_universe.specs.Naming.{Uri, Uris, AreApart}
 use Rattle.zi_universe.specs.Candidates.{Store, standing_of, candidate_of, offered_from, is_admitted, admitted_by, admitted, AreRanked}
 use Rattle.zi_universe.specs.Tables.{addresses}
-use Rattle.zi_universe.specs.Stages.{place_of, alike, ArePlaced, rated_one, IsSorting}
+use Rattle.zi_universe.specs.Stages.{place_of, alike, ArePlaced, IsSorting}
+use Rattle.zi_universe.specs.Offering.{candidates_of, IsNumbered, AreNumbered, IsPlacedIn, ArePlacedIn, AreNumbersOf, rated_one}
+use Rattle.zi_universe.proofs.KeyLemmas.{All-into, All-out}
 use Rattle.zi_universe.proofs.NamingLemmas.{bytes_eq-true, bytes_eq-refl, bytes_eq-false, listed-cons, listed-Contains, map-append, length-map}
 
 -- Two places are alike, or not, either way.
@@ -77,42 +84,83 @@ ranked_pairs strict p cs up placed i j d lt in_list =
 sorting : RanksAreStrict → (p : Policy) (cs ds : List Candidate) → IsPermutation cs ds → IsSortedBy (λ c d. is_lt (rank_cmp p c.standing d.standing)) ds → IsSorting p cs ds
 sorting strict p cs ds same up = record { same = same; ranked = λ placed. ranked_pairs strict p ds up (placed_sorted cs ds same placed) }
 
--- Candidates with their ratings.
-unrated_back : (p : Policy) (cs : List Candidate) → map (λ (r : RatedCandidate). r.candidate) (map (rated_one p) cs) ≡ cs
-unrated_back p [] = refl
-unrated_back p (c ∷ cs) = ap (λ q. c ∷ q) (unrated_back p cs)
+-- Candidates with their ratings, and with the numbers of their versions.
+record IsRated (p : Policy) (vs : List (List ℕ)) (ns : List ℕ) (r : RatedCandidate) : Type 0 where
+  rating : r.rating ≡ rating_of p r.one.candidate.standing
+  place : ℕ
+  version : slice_get vs place ≡ Some r.one.candidate.standing.version
+  number : r.number ≡ get_or ns place 0
 
-abbrev IsRated : Policy → RatedCandidate → Type 0
-IsRated p r = r.rating ≡ rating_of p r.candidate.standing
+all_rated : (p : Policy) (vs : List (List ℕ)) (ns : List ℕ) (cs : List PlacedCandidate) → ArePlacedIn vs cs → All (IsRated p vs ns) (map (rated_one p ns) cs)
+all_rated p vs ns [] h = All-nil (IsRated p vs ns)
+all_rated p vs ns (c ∷ cs) h =
+    All-cons (IsRated p vs ns) (rated_one p ns c) (map (rated_one p ns) cs)
+    (record { rating = refl; place = c.place; version = All-head (IsPlacedIn vs) c cs h; number = refl })
+    (all_rated p vs ns cs (All-tail (IsPlacedIn vs) c cs h))
 
-all_rated : (p : Policy) (cs : List Candidate) → All (IsRated p) (map (rated_one p) cs)
-all_rated p [] = All-nil (IsRated p)
-all_rated p (c ∷ cs) = All-cons (IsRated p) (rated_one p c) (map (rated_one p) cs) refl (all_rated p cs)
+abbrev of_rated : RatedCandidate → Numbered
+of_rated r = (r.rating, r.number, r.one.candidate.standing)
 
-rated_up : (p : Policy) (rs : List RatedCandidate) → All (IsRated p) rs → IsSortedBy (λ x y. is_lt (rated_cmp (x.rating, x.candidate.standing) (y.rating, y.candidate.standing))) rs
-    → IsSortedBy (λ c d. is_lt (rank_cmp p c.standing d.standing)) (map (λ (r : RatedCandidate). r.candidate) rs)
-rated_up p rs rated up k d low high =
-    let unrate : RatedCandidate → Candidate = λ r. r.candidate in
-    let in_list : k + 1 < length rs = omega (arith, high, length-map unrate rs) in
-    let e : RatedCandidate = rated_one p d in
+abbrev candidate_in : RatedCandidate → Candidate
+candidate_in r = r.one.candidate
+
+-- by ratings and numbers two stand as by their ranks
+rated_pair : (p : Policy) (vs : List (List ℕ)) (ns : List ℕ) → AreNumbersOf vs ns → (r s : RatedCandidate) → IsRated p vs ns r → IsRated p vs ns s
+    → numbered_cmp (of_rated r) (of_rated s) ≡ rank_cmp p r.one.candidate.standing s.one.candidate.standing
+rated_pair p vs ns numbers r s a b =
+    let c : Standing = r.one.candidate.standing in
+    let d : Standing = s.one.candidate.standing in
+    let m : ℕ = get_or ns a.place 0 in
+    let n : ℕ = get_or ns b.place 0 in
+    ap (λ (q : Rating). numbered_cmp (q, r.number, c) (s.rating, s.number, d)) a.rating
+    ∙ ap (λ (q : ℕ). numbered_cmp (rating_of p c, q, c) (s.rating, s.number, d)) a.number
+    ∙ ap (λ (q : Rating). numbered_cmp (rating_of p c, m, c) (q, s.number, d)) b.rating
+    ∙ ap (λ (q : ℕ). numbered_cmp (rating_of p c, m, c) (rating_of p d, q, d)) b.number
+    ∙ numbered_ranks p c d m n (numbers.alike b.place a.place d.version c.version b.version a.version)
+
+rated_up : (p : Policy) (vs : List (List ℕ)) (ns : List ℕ) → AreNumbersOf vs ns → (rs : List RatedCandidate) → All (IsRated p vs ns) rs
+    → IsSortedBy (λ x y. is_lt (numbered_cmp (of_rated x) (of_rated y))) rs → IsSortedBy (λ c d. is_lt (rank_cmp p c.standing d.standing)) (map candidate_in rs)
+rated_up p vs ns numbers rs rated up k d low high =
+    let in_list : k + 1 < length rs = omega (arith, high, length-map candidate_in rs) in
+    let e : RatedCandidate = record { rating = rating_of p d.standing; number = 0; one = record { candidate = d; feed = 0; numbers = record { version = 0; langs = 0; level = 0 } } } in
     let x : RatedCandidate = get_or rs (k + 1) e in
     let y : RatedCandidate = get_or rs k e in
-    ap (λ (q : Candidate). is_lt (rank_cmp p q.standing (get_or (map unrate rs) k d).standing)) (get_or-map unrate rs (k + 1) e d in_list)
-    ∙ ap (λ (q : Candidate). is_lt (rank_cmp p x.candidate.standing q.standing)) (get_or-map unrate rs k e d (omega (arith, in_list)))
-    ∙ ap is_lt (sym (rated_ranks p x.candidate.standing y.candidate.standing))
-    ∙ ap (λ (q : Rating). is_lt (rated_cmp (q, x.candidate.standing) (rating_of p y.candidate.standing, y.candidate.standing))) (sym (rated (k + 1) e in_list))
-    ∙ ap (λ (q : Rating). is_lt (rated_cmp (x.rating, x.candidate.standing) (q, y.candidate.standing))) (sym (rated k e (omega (arith, in_list))))
+    ap (λ (q : Candidate). is_lt (rank_cmp p q.standing (get_or (map candidate_in rs) k d).standing)) (get_or-map candidate_in rs (k + 1) e d in_list)
+    ∙ ap (λ (q : Candidate). is_lt (rank_cmp p x.one.candidate.standing q.standing)) (get_or-map candidate_in rs k e d (omega (arith, in_list)))
+    ∙ ap is_lt (sym (rated_pair p vs ns numbers x y (rated (k + 1) e in_list) (rated k e (omega (arith, in_list)))))
     ∙ up k e low in_list
 
+unrated_back : (p : Policy) (ns : List ℕ) (cs : List PlacedCandidate) → map candidate_in (map (rated_one p ns) cs) ≡ candidates_of (map (λ (c : PlacedCandidate). c.one) cs)
+unrated_back p ns [] = refl
+unrated_back p ns (c ∷ cs) = ap (λ q. c.one.candidate ∷ q) (unrated_back p ns cs)
+
+unrated_all : (rs : List RatedCandidate) → candidates_of (map (λ (r : RatedCandidate). r.one) rs) ≡ map candidate_in rs
+unrated_all [] = refl
+unrated_all (r ∷ rs) = ap (λ q. r.one.candidate ∷ q) (unrated_all rs)
+
+rated_all : (p : Policy) (ns : List ℕ) (cs : List PlacedCandidate) → map (λ (r : RatedCandidate). r.one) (map (rated_one p ns) cs) ≡ map (λ (c : PlacedCandidate). c.one) cs
+rated_all p ns [] = refl
+rated_all p ns (c ∷ cs) = ap (λ q. c.one ∷ q) (rated_all p ns cs)
+
 -- candidates that were rated, and sorted by that
-pub rated_sorting : RanksAreStrict → (p : Policy) (cs : List Candidate) (rs ss : List RatedCandidate) (ds : List Candidate) → rs ≡ map (rated_one p) cs → IsPermutation rs ss
-    → IsSortedBy (λ x y. is_lt (rated_cmp (x.rating, x.candidate.standing) (y.rating, y.candidate.standing))) ss → ds ≡ map (λ r. r.candidate) ss → IsSorting p cs ds
-rated_sorting strict p cs rs ss ds rates same up back =
-    let unrate : RatedCandidate → Candidate = λ r. r.candidate in
-    let P : List Candidate → Type 0 = λ q. IsPermutation q (map unrate ss) in
-    let rated : All (IsRated p) ss = All-permutation (IsRated p) rs ss same (subst (All (IsRated p)) (sym rates) (all_rated p cs)) in
-    let moved : IsPermutation cs (map unrate ss) = subst P (ap (map unrate) rates ∙ unrated_back p cs) (IsPermutation-map unrate rs ss same) in
-    subst (IsSorting p cs) (sym back) (sorting strict p cs (map unrate ss) moved (rated_up p ss rated up))
+module _ (p : Policy) (vs : List (List ℕ)) (ns : List ℕ) (os : List Offered) (cs : List PlacedCandidate) (rs ss : List RatedCandidate) (ts : List Offered)
+    (ones : map (λ (c : PlacedCandidate). c.one) cs ≡ os) (rates : rs ≡ map (rated_one p ns) cs) (same : IsPermutation rs ss) (back : ts ≡ map (λ (r : RatedCandidate). r.one) ss) where
+  pub rated_sorting : RanksAreStrict → AreNumbersOf vs ns → ArePlacedIn vs cs → IsSortedBy (λ x y. is_lt (numbered_cmp (of_rated x) (of_rated y))) ss
+      → IsSorting p (candidates_of os) (candidates_of ts)
+  rated_sorting strict numbers placed up =
+      let P : List Candidate → Type 0 = λ q. IsPermutation q (map candidate_in ss) in
+      let rated : All (IsRated p vs ns) ss = All-permutation (IsRated p vs ns) rs ss same (subst (All (IsRated p vs ns)) (sym rates) (all_rated p vs ns cs placed)) in
+      let moved : IsPermutation (candidates_of os) (map candidate_in ss) =
+      subst P (ap (map candidate_in) rates ∙ unrated_back p ns cs ∙ ap candidates_of ones) (IsPermutation-map candidate_in rs ss same) in
+      let end : candidates_of ts ≡ map candidate_in ss = ap candidates_of back ∙ unrated_all ss in
+      subst (IsSorting p (candidates_of os)) (sym end) (sorting strict p (candidates_of os) (map candidate_in ss) moved (rated_up p vs ns numbers ss rated up))
+
+  pub rated_numbered : (feeds : List Shares) → AreNumbered feeds os → AreNumbered feeds ts
+  rated_numbered feeds h =
+      let one : RatedCandidate → Offered = λ r. r.one in
+      let Q : Offered → Type 0 = λ o. IsNumbered feeds o in
+      let all : All Q (map one rs) = subst (All Q) (sym (ap (map one) rates ∙ rated_all p ns cs ∙ ones)) h in
+      subst (All Q) (sym back) (All-out one Q ss (All-permutation (λ r. Q (one r)) rs ss same (All-into one Q rs all)))
 
 -- Those of feeds of different addresses stand at different places.
 weaker : {X : Type 0} (P Q : X → Type 0) → ((x : X) → P x → Q x) → (xs : List X) → AllByRecursion P xs → AllByRecursion Q xs

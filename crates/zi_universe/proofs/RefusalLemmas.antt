@@ -14,7 +14,7 @@ use Rattle.zi_universe.specs.declared.types.Candidate.{Candidate}
 use Rattle.zi_universe.specs.declared.loading.Loading.{Loading}
 use Rattle.zi_universe.specs.Candidates.{Store, admitted, AreCandidates, asked_by_all}
 use Rattle.zi_universe.specs.Whole.{candidates_in, most_feeds, most_interfaces, feed_limit}
-use Rattle.zi_universe.specs.Loading.{Reading, AreRead, IsHeld, HasFault, reached, ComesTo, ComesToGet, HasGot, Finds, Refuses, asked_until}
+use Rattle.zi_universe.specs.Loading.{Reading, AreRead, IsHeld, HasFault, reached, ComesTo, HasGot, Finds, Refuses, asked_until}
 use Rattle.zi_universe.specs.Tables.{addresses, Agrees, AllRead}
 use Rattle.zi_universe.specs.Stages.{RefusesNext, HasListed, StopsListing, HasLoaded, IsSorting, StopsFinishing}
 use Rattle.zi_universe.specs.Asked.{up_to}

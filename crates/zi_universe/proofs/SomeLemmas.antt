@@ -8,12 +8,12 @@ use Rattle.zi_policy.specs.declared.types.Policy.{Policy}
 use Rattle.zi_policy.specs.Platform.{listed}
 use Rattle.zi_rank.specs.Laws.{RanksAreStrict}
 use Rattle.zi_elements.specs.declared.element.Element.{Element}
-use Rattle.zi_forest.specs.Forest.{element_view}
+use Rattle.zi_elements.specs.Forest.{element_view}
 use Rattle.zi_doc.specs.Documents as doc
 use Rattle.zi_doc.specs.Laws.{IsSettled}
 use Rattle.zi_feed.specs.declared.feed.Feed.{Feed}
 use Rattle.zi_feed.specs.Active.{active_feed}
-use Rattle.zi_feed.specs.declared.fault.Fault.{Fault}
+use Rattle.zi_faults.specs.declared.fault.Fault.{Fault}
 use Rattle.zi_feed.specs.Feeds.{feed_of, feed_fault}
 use Rattle.zi_outside.specs.Views.{Holding}
 use Rattle.zi_universe.specs.declared.types.Requirement.{Requirement}

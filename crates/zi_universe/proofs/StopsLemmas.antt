@@ -1,9 +1,8 @@
 -- A loading that stops: what it asked for until then.
-use Rattle.std.proofs.Common.{◌≡◌, ℕ, ◌<◌, ◌≤◌, inl, inr, Bool, true, false, List, [], ◌∷◌, ◌++◌, length, get_or, Some, None, Option, slice_get, refl, sym, ap, subst, ◌∙◌, arith, append_assoc, append-nil, true≢false}
+use Rattle.std.proofs.Common.{◌≡◌, ℕ, ◌<◌, ◌≤◌, inl, inr, Bool, true, false, List, [], ◌∷◌, ◌++◌, length, get_or, Some, Option, slice_get, refl, sym, ap, subst, ◌∙◌, arith, append_assoc, append-nil, true≢false}
 use Rattle.std.proofs.lemmas.Option.{slice_get-get_or}
 use Rattle.zi_policy.specs.declared.types.Policy.{Policy}
 use Rattle.zi_feed.specs.declared.feed.Feed.{Feed}
-use Rattle.zi_outside.specs.Count.{Rose}
 use Rattle.zi_outside.specs.Views.{Holding, Feeding, holding}
 use Rattle.zi_outside.specs.Outside.{Asks}
 use Rattle.zi_outside.proofs.AskingLemmas.{asks_none, asks_more}
@@ -14,11 +13,11 @@ use Rattle.zi_universe.specs.declared.fault.LoadFault.TheVariants as fault
 use Rattle.zi_universe.specs.declared.loading.Loading.{Loading}
 use Rattle.zi_universe.specs.Naming.{Uri, Uris}
 use Rattle.zi_universe.specs.Candidates.{Store}
-use Rattle.zi_universe.specs.Loading.{Task, AreAsked, CountsFault, Refuses, HasGot, asked_until, LoadsAsking, RefusesAsking}
+use Rattle.zi_universe.specs.Loading.{Task, AreAsked, CountsFault, LoadsAsking, RefusesAsking}
 use Rattle.zi_universe.specs.Tables.{addresses}
 use Rattle.zi_universe.specs.Stages.{HasLoaded, IsAt}
 use Rattle.zi_universe.specs.Asked.{up_to, StopsAt, GetsMore, EndsNext, RefusesListing, EndsListing, LeavesListing, StopsLoading}
-use Rattle.zi_universe.proofs.AskedLemmas.{gets_none, gets_all, holding_got}
+use Rattle.zi_universe.proofs.AskedLemmas.{gets_all, holding_got}
 use Rattle.zi_universe.proofs.NamingLemmas.{length-map}
 use Rattle.zi_universe.proofs.ListingLemmas.{listed_begins}
 use Rattle.zi_universe.proofs.LoadedLemmas.{loaded_none, loads}

@@ -1,6 +1,6 @@
 -- Feeds by their addresses, and the readings that agree with them.
 use Rattle.std.proofs.Common.{◌+◌, ◌≡◌, ◌≢◌, ℕ, zero, suc, ◌<◌, Bool, true, false, true≢false, ◌||◌, List, [], ◌∷◌, ◌++◌, length, map, filter, get_or, Option, Some, None, option_map, All, Contains, bytes_eq, refl, sym, ap, subst, ◌∙◌, arith, if◌then◌else◌}
-use Rattle.std.specs.Prelude.{unwrap_or, is_some, option_copied}
+use Rattle.std.specs.Prelude.{unwrap_or, is_some, option_copied, IfSome}
 use Rattle.std.specs.Borrow.{Bor}
 use Rattle.std.specs.List.{cons_option}
 use Rattle.std.specs.Map.{lookup}
@@ -10,8 +10,10 @@ use Rattle.indexmap.specs.IndexMap.{IndexMap, insert_entry}
 use Rattle.indexmap.proofs.CallerLemmas.{insert_entry-new}
 use Rattle.zi_policy.specs.declared.types.Policy.{Policy}
 use Rattle.zi_policy.specs.Platform.{listed}
-use Rattle.zi_feed.specs.declared.feed.Impl.{Impl}
+use Rattle.zi_parts.specs.declared.types.Impl.{Impl}
 use Rattle.zi_feed.specs.declared.feed.Feed.{Feed}
+use Rattle.zi_feed.specs.declared.shares.ReadFeed.{ReadFeed}
+use Rattle.zi_feed.specs.Shares.{AreShared}
 use Rattle.zi_feed.specs.Active.{active_part, active_feed}
 use Rattle.zi_outside.specs.Views.{Holding}
 use Rattle.zi_universe.specs.Naming.{Uri, Uris, AreApart}
@@ -231,30 +233,64 @@ module _ (told : Option Holding) (root : Uri) (p : Policy) where
   pub reading_reads : (fs : List Feed) (all : AllRead told root p fs) → AreRead told root (reading_of fs all) (addresses fs)
   reading_reads fs all uri c = (stands fs all uri (Contains-listed uri (addresses fs) c)).is_read
 
--- The feeds in a map under their addresses.
-pub lookup_feed : (es : List (Uri × Feed)) (uri : Uri) → All (λ e. e.0 ≡ e.1.uri) es → lookup (bytes_eq uri) es ≡ find_feed (map (λ e. e.1) es) uri
+-- The feeds in a map under their addresses, each with what its implementations share.
+abbrev Kept : Uri × ReadFeed → Type 0
+Kept e = (e.0 ≡ e.1.feed.uri) × AreShared e.1.shares e.1.feed.impls
+
+abbrev feeds_of : List (Uri × ReadFeed) → List Feed
+feeds_of es = map (λ e. e.1.feed) es
+
+pub lookup_feed : (es : List (Uri × ReadFeed)) (uri : Uri) → All Kept es → option_map (λ (r : ReadFeed). r.feed) (lookup (bytes_eq uri) es) ≡ find_feed (feeds_of es) uri
 lookup_feed [] uri all = refl
 lookup_feed (e ∷ es) uri all =
-    let same : bytes_eq uri e.0 ≡ bytes_eq uri e.1.uri = ap (bytes_eq uri) (All-head (λ (x : Uri × Feed). x.0 ≡ x.1.uri) e es all) in
-    ap (λ b. if b then Some e.1 else lookup (bytes_eq uri) es) same
-    ∙ ap (λ o. if bytes_eq uri e.1.uri then Some e.1 else o) (lookup_feed es uri (All-tail (λ (x : Uri × Feed). x.0 ≡ x.1.uri) e es all))
+    let same : bytes_eq uri e.0 ≡ bytes_eq uri e.1.feed.uri = ap (bytes_eq uri) (All-head Kept e es all).0 in
+    ap (λ b. option_map (λ (r : ReadFeed). r.feed) (if b then Some e.1 else lookup (bytes_eq uri) es)) same
+    ∙ by (bytes_eq uri e.1.feed.uri) (lookup_feed es uri (All-tail Kept e es all))
+  where
+    by : (b : Bool) → option_map (λ (r : ReadFeed). r.feed) (lookup (bytes_eq uri) es) ≡ find_feed (feeds_of es) uri
+        → option_map (λ (r : ReadFeed). r.feed) (if b then Some e.1 else lookup (bytes_eq uri) es) ≡ (if b then Some e.1.feed else find_feed (feeds_of es) uri)
+    by true h = refl
+    by false h = h
+
+lookup_shared : (es : List (Uri × ReadFeed)) (uri : Uri) (r : ReadFeed) → All Kept es → lookup (bytes_eq uri) es ≡ Some r → AreShared r.shares r.feed.impls
+lookup_shared [] uri r all e = (cc)
+lookup_shared (x ∷ es) uri r all e = by (bytes_eq uri x.0) refl (lookup_shared es uri r (All-tail Kept x es all))
+  where
+    by : (b : Bool) → bytes_eq uri x.0 ≡ b → (lookup (bytes_eq uri) es ≡ Some r → AreShared r.shares r.feed.impls) → AreShared r.shares r.feed.impls
+    by true t rest =
+        let same : Some x.1 ≡ Some r = sym (ap (λ b. if b then Some x.1 else lookup (bytes_eq uri) es) t) ∙ e in
+        let one : x.1 ≡ r = cc in
+        let P : ReadFeed → Type 0 = λ q. AreShared q.shares q.feed.impls in
+        subst P one (All-head Kept x es all).1
+    by false t rest = rest (sym (ap (λ b. if b then Some x.1 else lookup (bytes_eq uri) es) t) ∙ e)
+
+-- what is lent has its shares
+pub lent_shared : (o : Option (Bor ReadFeed)) (es : List (Uri × ReadFeed)) (uri : Uri) → option_copied o ≡ lookup (bytes_eq uri) es → All Kept es → IfSome o (λ r. AreShared r.now.shares r.now.feed.impls)
+lent_shared None es uri e all = tt
+lent_shared (Some r) es uri e all = lookup_shared es uri r.now all (sym e)
+
+nothing_mapped : (o : Option ReadFeed) → option_map (λ (r : ReadFeed). r.feed) o ≡ None → o ≡ None
+nothing_mapped None e = refl
+nothing_mapped (Some r) e = (cc)
 
 -- one feed more in the map
-pub record Grows {S : Type 0} (n : IndexMap Uri Feed S) (fs : List Feed) (f : Feed) : Type 0 where
-  pub placed : All (λ e. e.0 ≡ e.1.uri) n.entries
-  pub grown : map (λ e. e.1) n.entries ≡ fs ++ f ∷ []
+pub record Grows {S : Type 0} (n : IndexMap Uri ReadFeed S) (fs : List Feed) (f : Feed) : Type 0 where
+  pub placed : All (λ e. (e.0 ≡ e.1.feed.uri) × AreShared e.1.shares e.1.feed.impls) n.entries
+  pub grown : map (λ e. e.1.feed) n.entries ≡ fs ++ f ∷ []
 
-pub grows : {S : Type 0} (m n : IndexMap Uri Feed S) (fs : List Feed) (uri : Uri) (f : Feed) → All (λ e. e.0 ≡ e.1.uri) m.entries → map (λ e. e.1) m.entries ≡ fs
-    → uri ≡ f.uri → listed f.uri (addresses fs) ≡ false → n.entries ≡ insert_entry bytes_eq m.entries uri f → Grows n fs f
-grows m n fs uri f all view same none e =
-    let empty : lookup (bytes_eq uri) m.entries ≡ None = lookup_feed m.entries uri all ∙ ap (λ gs. find_feed gs uri) view ∙ ap (find_feed fs) same ∙ absent fs f.uri none in
-    let more : n.entries ≡ m.entries ++ (uri, f) ∷ [] = e ∙ insert_entry-new bytes_eq m uri f empty in
+pub grows : {S : Type 0} (m n : IndexMap Uri ReadFeed S) (fs : List Feed) (uri : Uri) (r : ReadFeed) → All (λ e. (e.0 ≡ e.1.feed.uri) × AreShared e.1.shares e.1.feed.impls) m.entries → map (λ e. e.1.feed) m.entries ≡ fs
+    → uri ≡ r.feed.uri → AreShared r.shares r.feed.impls → listed r.feed.uri (addresses fs) ≡ false → n.entries ≡ insert_entry bytes_eq m.entries uri r → Grows n fs r.feed
+grows m n fs uri r all view same shared none e =
+    let missing : option_map (λ (q : ReadFeed). q.feed) (lookup (bytes_eq uri) m.entries) ≡ None =
+    lookup_feed m.entries uri all ∙ ap (λ gs. find_feed gs uri) view ∙ ap (find_feed fs) same ∙ absent fs r.feed.uri none in
+    let empty : lookup (bytes_eq uri) m.entries ≡ None = nothing_mapped (lookup (bytes_eq uri) m.entries) missing in
+    let more : n.entries ≡ m.entries ++ (uri, r) ∷ [] = e ∙ insert_entry-new bytes_eq m uri r empty in
     record {
-      placed = (let P : List (Uri × Feed) → Type 0 = λ q. All (λ (x : Uri × Feed). x.0 ≡ x.1.uri) q in subst P (sym more) (All-push (λ (x : Uri × Feed). x.0 ≡ x.1.uri) m.entries (uri, f) all same));
-      grown = ap (map (λ (x : Uri × Feed). x.1)) more ∙ map-append (λ (x : Uri × Feed). x.1) m.entries ((uri, f) ∷ []) ∙ ap (λ q. q ++ f ∷ []) view;
+      placed = (let P : List (Uri × ReadFeed) → Type 0 = λ q. All Kept q in subst P (sym more) (All-push Kept m.entries (uri, r) all (same, shared)));
+      grown = ap (map (λ (x : Uri × ReadFeed). x.1.feed)) more ∙ map-append (λ (x : Uri × ReadFeed). x.1.feed) m.entries ((uri, r) ∷ []) ∙ ap (λ q. q ++ r.feed ∷ []) view;
     }
 
 -- what is lent is there where it is there
-pub lent_there : {T : Type 0} (r : Option (Bor T)) → is_some r ≡ is_some (option_copied r)
+pub lent_there : (o : Option (Bor ReadFeed)) → is_some o ≡ is_some (option_map (λ (r : ReadFeed). r.feed) (option_copied o))
 lent_there None = refl
 lent_there (Some x) = refl

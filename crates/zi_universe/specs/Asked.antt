@@ -3,7 +3,7 @@ use Rattle.std.specs.Prelude.{◌≡◌, ◌⊎◌, ℕ, ◌<◌, false, if◌th
 use Rattle.zi_policy.specs.declared.types.Policy.{Policy}
 use Rattle.zi_policy.specs.Platform.{listed}
 use Rattle.zi_feed.specs.declared.feed.Feed.{Feed}
-use Rattle.zi_outside.specs.Count.{Rose}
+use Rattle.zi_text.specs.Count.{Rose}
 use Rattle.zi_outside.specs.Views.{Holding, Feeding}
 use Rattle.zi_outside.specs.Outside.{Asks}
 use Rattle.zi_universe.specs.declared.types.Requirement.{Requirement}

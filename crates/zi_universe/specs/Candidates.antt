@@ -12,13 +12,13 @@ use Rattle.zi_rank.specs.Languages.{base}
 use Rattle.zi_rank.specs.Reasons.{why_not}
 use Rattle.zi_rank.specs.Rank.{Before}
 use Rattle.zi_feed.specs.Active.{active_part}
-use Rattle.zi_feed.specs.declared.feed.Dep.{Dep}
-use Rattle.zi_feed.specs.declared.feed.DepKind.{DepKind}
-use Rattle.zi_feed.specs.declared.feed.DepKind.TheVariants.{Essential, Recommended, Restricts}
-use Rattle.zi_feed.specs.declared.feed.Runner.{Runner}
-use Rattle.zi_feed.specs.declared.feed.Command.{Command}
-use Rattle.zi_feed.specs.declared.feed.Impl.{Impl}
-use Rattle.zi_feed.specs.declared.feed.Import.{Import}
+use Rattle.zi_parts.specs.declared.types.Dep.{Dep}
+use Rattle.zi_parts.specs.declared.types.DepKind.{DepKind}
+use Rattle.zi_parts.specs.declared.types.DepKind.TheVariants.{Essential, Recommended, Restricts}
+use Rattle.zi_parts.specs.declared.types.Runner.{Runner}
+use Rattle.zi_parts.specs.declared.types.Command.{Command}
+use Rattle.zi_parts.specs.declared.types.Impl.{Impl}
+use Rattle.zi_parts.specs.declared.types.Import.{Import}
 use Rattle.zi_feed.specs.declared.feed.Feed.{Feed}
 use Rattle.zi_universe.specs.declared.types.Limit.{Limit}
 use Rattle.zi_universe.specs.declared.types.Requirement.{Requirement}

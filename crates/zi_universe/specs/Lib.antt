@@ -5,6 +5,7 @@ pub mod Lookups
 pub mod Whole
 pub mod Loading
 pub mod Tables
+pub mod Offering
 pub mod Stages
 pub mod Listing
 pub mod Laws

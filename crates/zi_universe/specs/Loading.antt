@@ -6,11 +6,11 @@ use Rattle.zi_policy.specs.Platform.{listed}
 use Rattle.zi_digest.specs.declared.DigestName.{DigestName}
 use Rattle.zi_digest.specs.Name.{spelling}
 use Rattle.zi_elements.specs.declared.element.Element.{Element}
-use Rattle.zi_forest.specs.Forest.{element_view}
+use Rattle.zi_elements.specs.Forest.{element_view}
 use Rattle.zi_doc.specs.Documents as doc
 use Rattle.zi_feed.specs.declared.feed.Feed.{Feed}
 use Rattle.zi_feed.specs.Feeds.{feed_of, feed_fault}
-use Rattle.zi_outside.specs.Count.{Rose}
+use Rattle.zi_text.specs.Count.{Rose}
 use Rattle.zi_outside.specs.Views.{Holding, Feeding, holding}
 use Rattle.zi_outside.specs.Outside.{Asks}
 use Rattle.zi_universe.specs.declared.types.Requirement.{Requirement}

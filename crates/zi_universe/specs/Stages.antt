@@ -4,15 +4,13 @@ use Rattle.std.specs.Prelude.{◌≡◌, ℕ, ◌+◌, ◌<◌, ◌≤◌, Bool,
 use Rattle.std.specs.List.{IsDistinct}
 use Rattle.zi_policy.specs.declared.types.Policy.{Policy}
 use Rattle.zi_policy.specs.Platform.{listed}
-use Rattle.zi_rank.specs.Ratings.{rating_of}
 use Rattle.zi_feed.specs.Active.{active_feed}
 use Rattle.zi_feed.specs.declared.feed.Feed.{Feed}
-use Rattle.zi_outside.specs.Count.{Rose}
+use Rattle.zi_feed.specs.declared.shares.ReadFeed.{ReadFeed}
 use Rattle.zi_outside.specs.Views.{Holding}
 use Rattle.zi_universe.specs.declared.types.Requirement.{Requirement}
 use Rattle.zi_universe.specs.declared.types.Interface.{Interface}
 use Rattle.zi_universe.specs.declared.types.Candidate.{Candidate}
-use Rattle.zi_universe.specs.declared.ranking.RatedCandidate.{RatedCandidate}
 use Rattle.zi_universe.specs.declared.loading.Loading.{Loading}
 use Rattle.zi_universe.specs.declared.fault.LoadFault.{LoadFault}
 use Rattle.zi_universe.specs.declared.fault.LoadFault.TheVariants as fault
@@ -52,6 +50,11 @@ RefusesNext told root got uri (fault.TooManyFeeds limit) = (limit ≡ most_feeds
 RefusesNext told root got uri e = (got < most_feeds) × RefusesFeed told root uri e
 
 -- One feed.
+
+-- the feed alone of what was got
+abbrev pub feed_got : Result ReadFeed LoadFault → Result Feed LoadFault
+feed_got (Ok r) = Ok r.feed
+feed_got (Err e) = Err e
 
 -- the feed is what is active of the one that the bytes say
 abbrev pub SaysActive : Policy → Uri → List ℕ → Feed → Type 0
@@ -133,10 +136,6 @@ alike a b = bytes_eq a.0 b.0 && a.1 == b.1
 -- no two of them stand at one place of one feed
 abbrev pub ArePlaced : List Candidate → Type 0
 ArePlaced cs = IsDistinct alike (map place_of cs)
-
--- a candidate with its rating
-abbrev pub rated_one : Policy → Candidate → RatedCandidate
-rated_one p c = record { rating = rating_of p c.standing; candidate = c }
 
 -- these are the candidates, in rank order where their places differ
 pub record IsSorting (p : Policy) (offered cs : List Candidate) : Type 0 where

@@ -4,7 +4,7 @@ use Rattle.std.specs.Prelude.{◌≡◌, ℕ, List, [], map, filter, find, bytes
 use Rattle.std.specs.List.{filter_map, flat_map, enumerate_from}
 use Rattle.zi_policy.specs.declared.types.Policy.{Policy}
 use Rattle.zi_feed.specs.Active.{active_feed}
-use Rattle.zi_feed.specs.declared.feed.Impl.{Impl}
+use Rattle.zi_parts.specs.declared.types.Impl.{Impl}
 use Rattle.zi_feed.specs.declared.feed.Feed.{Feed}
 use Rattle.zi_outside.specs.Views.{Holding}
 use Rattle.zi_universe.specs.declared.types.Requirement.{Requirement}

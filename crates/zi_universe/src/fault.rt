@@ -1,7 +1,7 @@
 use std::alloc::{AllocError, AllocFailed};
 use thiserror::Error;
 use zi_doc::DocKind;
-use zi_feed::FeedKind;
+use zi_faults::FeedKind;
 use zi_text::{Memory, Text};
 
 /// Why the bytes at an address are no feed.

@@ -40,8 +40,8 @@ fn get_new<F: Feeds>(
         let limit = MOST_FEEDS as u64;
         return Err(LoadFault::TooManyFeeds { limit });
     }
-    let feed = fetch(alloc, root, policy, uri, feeds)?;
-    table.push(alloc, feed)?;
+    let read = fetch(alloc, root, policy, uri, feeds)?;
+    table.push(alloc, read)?;
     Ok(())
 }
 
@@ -77,7 +77,7 @@ fn follow(
 {
     match table.find(uri) {
         None => Ok(()),
-        Some(feed) => add_imports(alloc, policy, feed, here),
+        Some(read) => add_imports(alloc, policy, &read.feed, here),
     }
 }
 

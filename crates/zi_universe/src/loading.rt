@@ -5,6 +5,7 @@ ghost use Rattle.zi_universe.specs.Naming.{in_set};
 ghost use Rattle.zi_universe.specs.Whole.{BeginsWith, most_feeds, most_candidates};
 ghost use Rattle.zi_universe.specs.Tables.{addresses};
 ghost use Rattle.zi_universe.specs.Loading.{task_of, names_of, LoadsAsking, RefusesAsking};
+ghost use Rattle.zi_universe.specs.Offering.{candidates_of, AreNumbered};
 ghost use Rattle.zi_universe.specs.Stages.{Gathers, IsAt, IsBegun, Finishes, StopsFinishing, LoadsNext};
 ghost use Rattle.zi_universe.specs.Asked.{GetsMore, LeavesListing, StopsLoading};
 
@@ -12,7 +13,7 @@ use crate::fault::LoadFault;
 use crate::feeds::list_feeds;
 use crate::limits::{MOST_CANDIDATES, MOST_INTERFACES};
 use crate::naming::{add_asked, copy_at, single};
-use crate::offers::gather;
+use crate::offers::{Offered, Offers, gather};
 use crate::ranking::rank;
 use crate::table::FeedTable;
 use crate::types::{Candidate, Interface, Requirement};
@@ -51,30 +52,47 @@ fn begin(alloc: Global, req: &Requirement) -> Result<Loading, Memory>
     })
 }
 
+// The candidates alone.
+fn candidates_in(alloc: Global, offered: Vec<Offered>) -> Result<Vec<Candidate>, Memory>
+    ensures { IfOk result (λ cs. cs.items ≡ candidates_of offered.items) }
+{
+    let mut candidates = Vec::with_capacity(alloc, offered.len())?;
+    for one in offered {
+        let Offered { candidate, .. } = one;
+        candidates.push(candidate)?;
+    }
+    Ok(candidates)
+}
+
 // An interface with these candidates, which are ranked and counted, and what they ask for is named.
 fn finish(
     alloc: Global,
     wanted: &Wanted,
     uri: Text,
-    candidates: Vec<Candidate>,
+    offers: Offers,
     state: &mut Loading,
 ) -> Result<(), LoadFault>
-    requires { state.old.count ≤ most_candidates }
-    ensures { MatchResult result (λ _. Finishes wanted.now.policy uri candidates.items state.old state.new)
-        (StopsFinishing wanted.now.policy candidates.items state.old) }
+    requires few { state.old.count ≤ most_candidates }
+    requires numbered { AreNumbered offers.feeds offers.offered.items }
+    ensures { MatchResult result (λ _. Finishes wanted.now.policy uri (candidates_of offers.offered.items) state.old state.new)
+        (StopsFinishing wanted.now.policy (candidates_of offers.offered.items) state.old) }
 {
-    if candidates.len() > MOST_CANDIDATES - state.count {
+    let Offers { offered, feeds } = offers;
+    if offered.len() > MOST_CANDIDATES - state.count {
         let limit = MOST_CANDIDATES as u64;
         return Err(LoadFault::TooManyCandidates { limit });
     }
-    state.count += candidates.len();
-    let candidates = rank(alloc, candidates, wanted.policy())?;
-    add_asked(alloc, candidates.as_slice(), &mut state.names)?;
+    state.count += offered.len();
+    let shares = feeds.as_slice();
+    let ranked = rank(alloc, shares, offered, wanted.policy())?;
+    let all = ranked.as_slice();
+    add_asked(alloc, shares, all, &mut state.names)?;
     if state.names.len() > MOST_INTERFACES {
         let limit = MOST_INTERFACES as u64;
         return Err(LoadFault::TooManyInterfaces { limit });
     }
-    let candidates = List::from_vec(candidates);
+    let items = candidates_in(alloc, ranked)?;
+    let candidates = List::from_vec(items);
     state.done.push(Interface { uri, candidates })?;
     Ok(())
 }
@@ -86,12 +104,13 @@ fn look_for<F: Feeds>(
     uri: &Text,
     table: &mut FeedTable,
     feeds: &mut F,
-) -> Result<Vec<Candidate>, LoadFault>
+) -> Result<Offers, LoadFault>
     requires { length table.old ≤ most_feeds }
     ensures gathers { MatchResult result
-        (λ cs. Gathers (holding (F.seen feeds.old)) wanted.now.req wanted.now.policy (in_set wanted.now.stored) uri.now table.old cs.items table.new)
+        (λ os. Gathers (holding (F.seen feeds.old)) wanted.now.req wanted.now.policy (in_set wanted.now.stored) uri.now table.old (candidates_of os.offered.items) table.new)
         (λ e. LeavesListing (holding (F.seen feeds.old)) wanted.now.req.interface wanted.now.policy uri.now table.old (F.seen feeds.old) e (F.seen feeds.new)) }
     ensures asks { OnOk result (GetsMore (addresses table.old) (addresses table.new) (F.seen feeds.old) (F.seen feeds.new)) }
+    ensures numbered { IfOk result (λ os. AreNumbered os.feeds os.offered.items) }
 {
     let here = list_feeds(
         alloc,
@@ -101,8 +120,8 @@ fn look_for<F: Feeds>(
         table,
         feeds,
     )?;
-    let candidates = gather(alloc, wanted, uri, table, here.as_slice())?;
-    Ok(candidates)
+    let offers = gather(alloc, wanted, uri, table, here.as_slice())?;
+    Ok(offers)
 }
 
 // The first of the interfaces that are asked for and aren't done.
@@ -120,8 +139,8 @@ fn load_next<F: Feeds>(
     ensures asks { OnOk result (GetsMore (addresses state.old.table) (addresses state.new.table) (F.seen feeds.old) (F.seen feeds.new)) }
 {
     let uri = copy_at(alloc, &state.names, state.done.len())?;
-    let candidates = look_for(alloc, wanted, &uri, &mut state.table, feeds)?;
-    finish(alloc, wanted, uri, candidates, state)
+    let offers = look_for(alloc, wanted, &uri, &mut state.table, feeds)?;
+    finish(alloc, wanted, uri, offers, state)
 }
 
 // All that are asked for.

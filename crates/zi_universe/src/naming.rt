@@ -1,17 +1,21 @@
 //! Addresses in the order in which they are first named.
-ghost use Rattle.std.specs.Prelude.{◌≡◌, ◌<◌, ◌∷◌, [], ◌++◌, OnOk, IfOk, Some, length, slice_get, map, filter};
+ghost use Rattle.std.specs.Prelude.{List, ◌≡◌, ◌<◌, ◌∷◌, [], ◌++◌, OnOk, IfOk, Some, length, drop, slice_get, map, filter};
 ghost use Rattle.std.specs.List.{flat_map};
 ghost use Rattle.zi_digest.specs.Name.{spelling};
 ghost use Rattle.zi_universe.specs.Naming.{with_one, joined, without_repeats};
 ghost use Rattle.zi_universe.specs.Candidates.{asks, asked, asked_by_runner, asked_by_command, asked_by_impl, asked_by_all, is_followed, imports_of};
+ghost use Rattle.zi_parts.specs.declared.types.Dep.{Dep as ADep};
+ghost use Rattle.zi_universe.specs.Offering.{candidates_of, IsNumbered, AreNumbered, HasLevel, IsLevelAt, HasOneMore, deps_of, AreNamed};
 
-use crate::offers::is_followed;
-use crate::types::Candidate;
+use crate::offers::{Key, Offered, is_followed};
+use crate::ranking::shares_at;
 use indexmap::IndexSet;
 use std::alloc::Global;
+use std::collections::HashSet;
 use zi_digest::DigestName;
-use zi_feed::{Command, Dep, DepKind, Feed, Impl, Runner};
+use zi_feed::{Feed, Level, Shares};
 use zi_inherited::{Inherited, Shared};
+use zi_parts::{Command, Dep, DepKind, Runner};
 use zi_policy::Policy;
 use zi_text::{Memory, Text};
 
@@ -103,18 +107,80 @@ fn add_deps(alloc: Global, deps: &[Dep], names: &mut IndexSet<Text>) -> Result<(
     Ok(())
 }
 
-// The same of dependencies that are inherited.
-fn add_inherited(
+// Adds what a dependency asks for.
+fn add_dep(alloc: Global, dep: &Dep, names: &mut IndexSet<Text>) -> Result<(), Memory>
+    ensures { OnOk result (names.new.keys ≡ joined names.old.keys (asked (dep.now ∷ []))) }
+{
+    if asks(dep) {
+        return add(alloc, names, &dep.interface);
+    }
+    Ok(())
+}
+
+// Adds what the own dependencies of a level ask for.
+fn add_own(alloc: Global, level: &Level, names: &mut IndexSet<Text>) -> Result<(), Memory>
+    ensures { OnOk result (names.new.keys ≡ joined names.old.keys (asked (drop level.now.around level.now.deps))) }
+{
+    for i in level.around..level.deps.len() {
+        let dep = level.deps.at(i);
+        add_dep(alloc, dep, names)?;
+    }
+    Ok(())
+}
+
+// The level of a feed under a number.
+fn level_at<'a>(feeds: &'a [Shared<Shares>], key: Key) -> &'a Level
+    requires { HasLevel feeds.now key }
+    ensures { IsLevelAt feeds.entry.now key result.now }
+{
+    let shares = shares_at(feeds, key.feed);
+    shares.levels.at(key.number)
+}
+
+// Adds what the own dependencies of a level ask for, the last that was to be named of it.
+fn add_last(
     alloc: Global,
-    deps: &Inherited<Dep>,
+    level: &Level,
+    key: Key,
+    named: &mut HashSet<Key>,
     names: &mut IndexSet<Text>,
 ) -> Result<(), Memory>
-    ensures { OnOk result (names.new.keys ≡ joined names.old.keys (asked deps.now)) }
+    ensures names { OnOk result (names.new.keys ≡ joined names.old.keys (asked (drop level.now.around level.now.deps))) }
+    ensures named { OnOk result (HasOneMore key named.old.keys named.new.keys) }
 {
-    let pieces = deps.segments(alloc)?;
-    for piece in pieces.as_slice() {
-        add_deps(alloc, piece, names)?;
+    add_own(alloc, level, names)?;
+    named.insert(key)?;
+    Ok(())
+}
+
+// Adds what the dependencies of a level ask for, unless that was named before: those around it first. It recurs once for each
+// level around it.
+fn add_level(
+    alloc: Global,
+    feeds: &[Shared<Shares>],
+    key: Key,
+    named: &mut HashSet<Key>,
+    names: &mut IndexSet<Text>,
+) -> Result<(), Memory>
+    requires there { HasLevel feeds.now key }
+    requires named { AreNamed feeds.now named.old.keys names.old.keys }
+    ensures names { OnOk result ((ds : List ADep) → deps_of feeds.now key ≡ Some ds → names.new.keys ≡ joined names.old.keys (asked ds)) }
+    ensures named { OnOk result (AreNamed feeds.now named.new.keys names.new.keys) }
+{
+    if named.contains(&key) {
+        return Ok(());
     }
+    let level = level_at(feeds, key);
+    if level.around == 0 {
+        add_last(alloc, level, key, named, names)?;
+        return Ok(());
+    }
+    let outer = Key {
+        feed: key.feed,
+        number: level.outer,
+    };
+    add_level(alloc, feeds, outer, named, names)?;
+    add_last(alloc, level, key, named, names)?;
     Ok(())
 }
 
@@ -170,25 +236,41 @@ fn add_command(alloc: Global, command: &Command, names: &mut IndexSet<Text>) -> 
     add_runner(alloc, &command.runner, names)
 }
 
-// Adds what an implementation asks for: its own dependencies, and then its commands.
-#[tactic(auto, unfolding(crate::specs::Candidates::asked_by_impl), using(crate::proofs::NamingLemmas::joined_twice))]
-fn add_impl(alloc: Global, imp: &Impl, names: &mut IndexSet<Text>) -> Result<(), Memory>
-    ensures { OnOk result (names.new.keys ≡ joined names.old.keys (asked_by_impl imp.now)) }
-{
-    add_inherited(alloc, &imp.deps, names)?;
-    add_inherited_commands(alloc, &imp.commands, names)
-}
-
-/// Adds what candidates ask for, one after the other.
-pub fn add_asked(
+// Adds what a candidate asks for: its dependencies, and then its commands.
+fn add_one(
     alloc: Global,
-    candidates: &[Candidate],
+    feeds: &[Shared<Shares>],
+    one: &Offered,
+    named: &mut HashSet<Key>,
     names: &mut IndexSet<Text>,
 ) -> Result<(), Memory>
-    ensures { OnOk result (names.new.keys ≡ joined names.old.keys (asked_by_all candidates.now)) }
+    requires numbered { IsNumbered feeds.now one.now }
+    requires named { AreNamed feeds.now named.old.keys names.old.keys }
+    ensures names { OnOk result (names.new.keys ≡ joined names.old.keys (asked_by_impl one.now.candidate.imp)) }
+    ensures named { OnOk result (AreNamed feeds.now named.new.keys names.new.keys) }
 {
-    for candidate in candidates {
-        add_impl(alloc, &candidate.imp, names)?;
+    let key = Key {
+        feed: one.feed,
+        number: one.numbers.level,
+    };
+    add_level(alloc, feeds, key, named, names)?;
+    add_inherited_commands(alloc, &one.candidate.imp.commands, names)?;
+    Ok(())
+}
+
+/// Adds what candidates ask for, one after the other. What the groups of a feed ask for is added once for all in them.
+pub fn add_asked(
+    alloc: Global,
+    feeds: &[Shared<Shares>],
+    offered: &[Offered],
+    names: &mut IndexSet<Text>,
+) -> Result<(), Memory>
+    requires { AreNumbered feeds.now offered.now }
+    ensures { OnOk result (names.new.keys ≡ joined names.old.keys (asked_by_all (candidates_of offered.now))) }
+{
+    let mut named = HashSet::new(alloc);
+    for one in offered {
+        add_one(alloc, feeds, one, &mut named, names)?;
     }
     Ok(())
 }

@@ -1,22 +1,31 @@
 //! One feed: its bytes are got and read.
-ghost use Rattle.std.specs.Prelude.{◌≡◌, ◌≢◌, ◌∷◌, [], MatchResult};
+ghost use Rattle.std.specs.Prelude.{◌≡◌, ◌≢◌, ◌∷◌, [], IfOk, MatchResult};
 ghost use Rattle.zi_outside.specs.Views.{holding};
 ghost use Rattle.zi_universe.specs.Loading.{no_feed, AreAsked};
-ghost use Rattle.zi_universe.specs.Stages.{SaysActive, Fetches, RefusesBytes};
+ghost use Rattle.zi_feed.specs.Shares.{AreShared};
+ghost use Rattle.zi_universe.specs.Stages.{SaysActive, Fetches, RefusesBytes, feed_got};
 ghost use Rattle.zi_universe.specs.Asked.{StopsAt};
 
 use crate::fault::{BadFeed, LoadFault};
 use crate::limits::FEED_LIMIT;
 use std::alloc::Global;
 use zi_doc::DocFault;
-use zi_feed::{Feed, FeedFault};
+use zi_faults::FeedFault;
+use zi_feed::{Feed, ReadFeed, Shares};
+use zi_inherited::Shared;
 use zi_outside::{Feeds, FeedsFault, Got};
 use zi_policy::Policy;
-use zi_text::{List, Text};
+use zi_text::{List, Memory, Text};
 
 // What is active under a policy of the feed that bytes say, read under an address.
-fn read_bytes(alloc: Global, policy: &Policy, uri: Text, bytes: &[u8]) -> Result<Feed, LoadFault>
-    ensures { MatchResult result (SaysActive policy.now uri bytes.now) (RefusesBytes uri bytes.now) }
+fn read_bytes(
+    alloc: Global,
+    policy: &Policy,
+    uri: Text,
+    bytes: &[u8],
+) -> Result<ReadFeed, LoadFault>
+    ensures reads { MatchResult (feed_got result) (SaysActive policy.now uri bytes.now) (RefusesBytes uri bytes.now) }
+    ensures shares { IfOk result (λ r. AreShared r.shares r.feed.impls) }
 {
     let tree = match zi_doc::read(alloc, bytes) {
         Ok(tree) => tree,
@@ -27,7 +36,7 @@ fn read_bytes(alloc: Global, policy: &Policy, uri: Text, bytes: &[u8]) -> Result
         Err(DocFault::Memory) => return Err(LoadFault::Memory),
     };
     match Feed::active_from_tree(alloc, &tree, uri.as_str(), policy) {
-        Ok(feed) => Ok(feed),
+        Ok(read) => Ok(read),
         Err(FeedFault::Bad { kind, place }) => {
             let fault = BadFeed::Feed { kind, place };
             Err(LoadFault::BadFeed { uri, fault })
@@ -36,18 +45,37 @@ fn read_bytes(alloc: Global, policy: &Policy, uri: Text, bytes: &[u8]) -> Result
     }
 }
 
+// What no implementation shares.
+fn no_shares(alloc: Global) -> Result<Shared<Shares>, Memory>
+    ensures { IfOk result (λ s. AreShared s []) }
+{
+    let shares = Shares::nothing(alloc)?;
+    let held = Shared::new(alloc, shares)?;
+    Ok(held)
+}
+
 // The feed of an address that is absent: the root's is needed.
-fn absent(alloc: Global, root: &Text, uri: Text) -> Result<Feed, LoadFault>
-    ensures { MatchResult result (λ feed. (uri ≢ root.now) × (feed ≡ no_feed uri)) (λ e. (uri ≡ root.now) × (e ≡ LoadFault.NoRootFeed)) }
+fn absent(
+    alloc: Global,
+    root: &Text,
+    uri: Text,
+    shares: Shared<Shares>,
+) -> Result<ReadFeed, LoadFault>
+    requires { AreShared shares [] }
+    ensures reads { MatchResult (feed_got result) (λ feed. (uri ≢ root.now) × (feed ≡ no_feed uri)) (λ e. (uri ≡ root.now) × (e ≡ LoadFault.NoRootFeed)) }
+    ensures shares { IfOk result (λ r. AreShared r.shares r.feed.impls) }
 {
     if &uri == root {
         return Err(LoadFault::NoRootFeed);
     }
-    Ok(Feed {
+    let imports = List::new(alloc);
+    let impls = List::new(alloc);
+    let feed = Feed {
         uri,
-        imports: List::new(alloc),
-        impls: List::new(alloc),
-    })
+        imports,
+        impls,
+    };
+    Ok(ReadFeed { feed, shares })
 }
 
 /// What is active under a policy of the feed at an address; an absent one says nothing, unless it is the root's. What a fault says is made before the call, so
@@ -58,15 +86,17 @@ pub fn fetch<F: Feeds>(
     policy: &Policy,
     uri: &Text,
     feeds: &mut F,
-) -> Result<Feed, LoadFault>
-    ensures fetched { Fetches (holding (F.seen feeds.old)) root.now policy.now uri.now result }
+) -> Result<ReadFeed, LoadFault>
+    ensures fetched { Fetches (holding (F.seen feeds.old)) root.now policy.now uri.now (feed_got result) }
+    ensures shares { IfOk result (λ r. AreShared r.shares r.feed.impls) }
     ensures asks { MatchResult result (λ _. AreAsked (uri.now ∷ []) (F.seen feeds.old) (F.seen feeds.new)) (λ e. StopsAt uri.now (F.seen feeds.old) e (F.seen feeds.new)) }
 {
     let named = uri.copy(alloc)?;
+    let none = no_shares(alloc)?;
     let mut bytes = Vec::new(alloc);
     match feeds.get(uri.as_str(), FEED_LIMIT, &mut bytes) {
         Ok(Got::Held) => read_bytes(alloc, policy, named, bytes.as_slice()),
-        Ok(Got::Absent) => absent(alloc, root, named),
+        Ok(Got::Absent) => absent(alloc, root, named, none),
         Ok(Got::TooLong) => {
             let limit = FEED_LIMIT;
             Err(LoadFault::FeedTooLong { uri: named, limit })

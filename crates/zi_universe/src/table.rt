@@ -1,30 +1,32 @@
-//! The feeds got so far, by their addresses.
-ghost use Rattle.std.specs.Prelude.{◌≡◌, ◌∷◌, [], ◌++◌, false, OnOk, option_copied, length};
+//! The feeds got so far, by their addresses, each with what its implementations share.
+ghost use Rattle.std.specs.Prelude.{◌≡◌, ◌∷◌, [], ◌++◌, false, OnOk, IfSome, option_copied, option_map, length};
 ghost use Rattle.zi_policy.specs.Platform.{listed};
+ghost use Rattle.zi_feed.specs.Shares.{AreShared};
 ghost use Rattle.zi_universe.specs.Tables.{addresses, find_feed};
 
 use indexmap::IndexMap;
 use std::alloc::Global;
 use std::marker::Model;
-use zi_feed::Feed;
+use zi_feed::ReadFeed;
 use zi_text::{Memory, Text};
 
 /// Feeds of distinct addresses, in the order in which they were got. Contracts see the list of them.
 #[derive(Drop)]
 pub struct FeedTable {
-    feeds: IndexMap<Text, Feed>,
+    feeds: IndexMap<Text, ReadFeed>,
 }
 
 impl Model for FeedTable {
     ghost use Rattle.std.specs.Prelude.{List, map, All, ◌≡◌};
     ghost use Rattle.zi_feed.specs.declared.feed.Feed.{Feed as AFeed};
+    ghost use Rattle.zi_feed.specs.Shares.{AreShared};
 
     ghost Value = { List AFeed };
 
-    ghost view = { λ t. map (λ e. e.1) t.feeds.entries };
+    ghost view = { λ t. map (λ e. e.1.feed) t.feeds.entries };
 
-    // each stands under its address
-    ghost invariant = { λ t. All (λ e. e.0 ≡ e.1.uri) t.feeds.entries };
+    // each stands under its address, and the shares are those of its implementations
+    ghost invariant = { λ t. All (λ e. (e.0 ≡ e.1.feed.uri) × AreShared e.1.shares e.1.feed.impls) t.feeds.entries };
 }
 
 impl FeedTable {
@@ -44,9 +46,10 @@ impl FeedTable {
         self.feeds.len()
     }
 
-    /// The feed of an address, where it is there.
-    pub fn find(&self, uri: &Text) -> Option<&Feed>
-        ensures { option_copied result ≡ find_feed self.now uri.now }
+    /// The feed of an address, where it is there, with what its implementations share.
+    pub fn find(&self, uri: &Text) -> Option<&ReadFeed>
+        ensures feed { option_map (λ r. r.feed) (option_copied result) ≡ find_feed self.now uri.now }
+        ensures shared { IfSome result (λ r. AreShared r.now.shares r.now.feed.impls) }
     {
         self.feeds.get(uri)
     }
@@ -59,12 +62,13 @@ impl FeedTable {
     }
 
     /// Adds a feed whose address isn't there yet.
-    pub fn push(&mut self, alloc: Global, feed: Feed) -> Result<(), Memory>
-        requires { listed feed.uri (addresses self.old) ≡ false }
-        ensures { OnOk result (self.new ≡ self.old ++ feed ∷ []) }
+    pub fn push(&mut self, alloc: Global, read: ReadFeed) -> Result<(), Memory>
+        requires new { listed read.feed.uri (addresses self.old) ≡ false }
+        requires shared { AreShared read.shares read.feed.impls }
+        ensures { OnOk result (self.new ≡ self.old ++ read.feed ∷ []) }
     {
-        let uri = feed.uri.copy(alloc)?;
-        self.feeds.insert(uri, feed)?;
+        let uri = read.feed.uri.copy(alloc)?;
+        self.feeds.insert(uri, read)?;
         Ok(())
     }
 }

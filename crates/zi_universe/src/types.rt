@@ -1,4 +1,4 @@
-use zi_feed::Impl;
+use zi_parts::Impl;
 use zi_rank::Standing;
 use zi_text::{List, Text};
 use zi_version::Range;

@@ -14,7 +14,7 @@ use std::alloc::Global;
 use std::collections::HashMap;
 use std::marker::Model;
 use zi_digest::DigestName;
-use zi_feed::Impl;
+use zi_parts::Impl;
 use zi_policy::{Override, Policy, Stability};
 use zi_text::{List, Memory, Text};
 use zi_version::Version;

@@ -7,9 +7,9 @@ use Rattle.std.proofs.lemmas.Option.{slice_get_past, slice_get_within, get_or_fr
 use Rattle.std.proofs.lemmas.List.Quantifiers.{position-Some}
 use Rattle.std.proofs.Math.Seq.{drop-cons, get_or-append_seam}
 use Rattle.std.proofs.lemmas.Bool.{not-true, not-false}
-use Rattle.zi_feed.specs.declared.feed.Dep.{Dep}
-use Rattle.zi_feed.specs.declared.feed.Command.{Command}
-use Rattle.zi_feed.specs.declared.feed.Runner.{Runner}
+use Rattle.zi_parts.specs.declared.types.Dep.{Dep}
+use Rattle.zi_parts.specs.declared.types.Command.{Command}
+use Rattle.zi_parts.specs.declared.types.Runner.{Runner}
 use Rattle.zi_universe.specs.declared.types.Candidate.{Candidate}
 use Rattle.zi_universe.specs.declared.types.Interface.{Interface}
 use Rattle.zi_choice.specs.Choice.{Choice, pick, candidate_at, chosen, command_at, command_of, command_place, deps_of, needs_of, with_runner}

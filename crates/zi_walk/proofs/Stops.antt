@@ -22,7 +22,7 @@ use Rattle.zi_universe.specs.declared.types.Interface.{Interface}
 use Rattle.zi_choice.specs.Choice.{Choice, pick}
 use Rattle.zi_choice.specs.Walk.{Place, Walk, Walks, Visits, Needs, NeedsEach, Follows, listed, comes, lacks, again, uses, no_more, one_more, ends, passes, goes, is_listed, with_place}
 use Rattle.zi_choice.proofs.WalkLaws.{none_some, some_same}
-use Rattle.zi_feed.specs.declared.feed.Dep.{Dep}
+use Rattle.zi_parts.specs.declared.types.Dep.{Dep}
 use Rattle.zi_choice.specs.Vars.{Cand, var_number}
 use Rattle.zi_build.specs.Clauses.{formula, yes, lit_of}
 use Rattle.zi_choice.proofs.Base.{any_at}

@@ -11,8 +11,8 @@ use crate::tasks::{Task, Tasks};
 use indexmap::IndexSet;
 use std::alloc::Global;
 use zi_choice::{Names, Used};
-use zi_feed::{Command, Dep, DepKind};
 use zi_inherited::Inherited;
+use zi_parts::{Command, Dep, DepKind};
 use zi_text::{Memory, Text};
 use zi_universe::{Candidate, Requirement};
 

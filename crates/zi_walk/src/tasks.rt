@@ -4,7 +4,7 @@ ghost use Rattle.zi_walk.specs.Lists.{list_at, IsAdded};
 
 use std::alloc::Global;
 use std::marker::Model;
-use zi_feed::Dep;
+use zi_parts::Dep;
 use zi_text::{Memory, Text};
 
 /// What is to be done.

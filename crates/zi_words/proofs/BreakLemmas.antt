@@ -11,7 +11,8 @@ use Rattle.zi_words.specs.declared.kind.Kind.{Kind}
 use Rattle.zi_words.specs.declared.kind.Kind.TheVariants as kind
 use Rattle.zi_words.specs.declared.loader.Loader.{Loader}
 use Rattle.zi_words.specs.declared.request.Request.{Request}
-use Rattle.zi_words.specs.Forms.{Word, Form, Address, Name, Anything, Range as ARange, Level, Network', Rating, Budget, Is, Are, is_address, is_carried, level_of, network_of, stability_of, budget_of}
+use Rattle.zi_policy.specs.Stabilities.{stability_of}
+use Rattle.zi_words.specs.Forms.{Word, Form, Address, Name, Anything, Range as ARange, Level, Network', Rating, Budget, Is, Are, is_address, is_carried, level_of, network_of, budget_of}
 use Rattle.zi_words.specs.Options.{Item, IsItem, name_of, has_option, forms, first, second, alike, clash, any_clash}
 use Rattle.zi_words.specs.Refused.{Asks, LeftAt}
 use Rattle.zi_words.specs.Taken.{Misses, BreaksOff}

@@ -4,6 +4,7 @@ use Rattle.std.specs.List.{list_all, starts_with}
 use Rattle.std.specs.Str.{chars}
 use Rattle.zi_text.specs.Numeral.{numeral}
 use Rattle.zi_version.specs.Range.{IsExpression}
+use Rattle.zi_policy.specs.Stabilities.{stability_of}
 use Rattle.zi_policy.specs.declared.types.Stability.{Stability}
 use Rattle.zi_policy.specs.declared.types.Stability.TheVariants as stability
 use Rattle.zi_policy.specs.declared.types.Network.{Network}
@@ -35,18 +36,6 @@ level_of text =
     if bytes_eq text (codes "developer") then Some stability.Developer
     else if bytes_eq text (codes "testing") then Some stability.Testing
     else if bytes_eq text (codes "stable") then Some stability.Stable
-    else None
-
--- the stabilities
-unfoldable pub stability_of : Word → Option Stability
-stability_of text =
-    if bytes_eq text (codes "insecure") then Some stability.Insecure
-    else if bytes_eq text (codes "buggy") then Some stability.Buggy
-    else if bytes_eq text (codes "developer") then Some stability.Developer
-    else if bytes_eq text (codes "testing") then Some stability.Testing
-    else if bytes_eq text (codes "stable") then Some stability.Stable
-    else if bytes_eq text (codes "packaged") then Some stability.Packaged
-    else if bytes_eq text (codes "preferred") then Some stability.Preferred
     else None
 
 -- how much the network may be used

@@ -16,7 +16,8 @@ use Rattle.zi_words.specs.declared.asked.Limit.{Limit}
 use Rattle.zi_words.specs.declared.asked.Asked.{Asked}
 use Rattle.zi_words.specs.declared.request.Wanted.{Wanted}
 use Rattle.zi_words.specs.declared.request.Ask.{Ask}
-use Rattle.zi_words.specs.Forms.{Word, Form, Address, Name, Anything, Range as ARange, Level, Network', Rating, Budget, Are, level_of, network_of, stability_of, budget_of}
+use Rattle.zi_policy.specs.Stabilities.{stability_of}
+use Rattle.zi_words.specs.Forms.{Word, Form, Address, Name, Anything, Range as ARange, Level, Network', Rating, Budget, Are, level_of, network_of, budget_of}
 
 -- the word of an option
 abbrev pub name_of : Kind → Word

@@ -6,7 +6,8 @@ ghost use Rattle.std.specs.List.{list_all};
 ghost use Rattle.std.specs.Str.{chars};
 ghost use Rattle.zi_text.specs.Numeral.{number_from, numeral};
 ghost use Rattle.zi_version.specs.Range.{range_of};
-ghost use Rattle.zi_words.specs.Forms.{Word, begins, is_carried, is_address, level_of, stability_of, network_of, budget_of, demo_number, Address, Name, Range as ARange, Level, «Network'», Rating, Budget};
+ghost use Rattle.zi_policy.specs.Stabilities.{stability_of};
+ghost use Rattle.zi_words.specs.Forms.{Word, begins, is_carried, is_address, level_of, network_of, budget_of, demo_number, Address, Name, Range as ARange, Level, «Network'», Rating, Budget};
 ghost use Rattle.zi_words.specs.Taken.{MissesWith};
 
 use crate::refusal::Refusal;
@@ -122,30 +123,13 @@ pub fn level<'a>(words: &'a [Text]) -> Result<(Stability, &'a [Text]), Refusal>
     }
 }
 
-// The stability that a word names.
-#[tactic(auto, unfolding(crate::specs::Forms::stability_of))]
-fn stability_of(text: &str) -> Option<Stability>
-    ensures { result ≡ stability_of text.now }
-{
-    match text {
-        "insecure" => Some(Stability::Insecure),
-        "buggy" => Some(Stability::Buggy),
-        "developer" => Some(Stability::Developer),
-        "testing" => Some(Stability::Testing),
-        "stable" => Some(Stability::Stable),
-        "packaged" => Some(Stability::Packaged),
-        "preferred" => Some(Stability::Preferred),
-        _ => None,
-    }
-}
-
 /// The stability at the front of the words.
 pub fn stability<'a>(words: &'a [Text]) -> Result<(Stability, &'a [Text]), Refusal>
     ensures { MatchResult result (λ v. (w : Word) × (words.now ≡ w ∷ v.1.now) × (stability_of w ≡ Some v.0)) (MissesWith Rating words.now) }
 {
     match words.split_first() {
         None => Err(Refusal::Left(0)),
-        Some((word, behind)) => match stability_of(word.as_str()) {
+        Some((word, behind)) => match Stability::named(word.as_str()) {
             Some(stability) => Ok((stability, behind)),
             None => Err(Refusal::Left(words.len())),
         },

@@ -3,7 +3,8 @@ use Rattle.std.specs.Prelude.{◌≡◌, ◌≤◌, Some, IsSome}
 use Rattle.zi_tree.specs.Dir.{Dir}
 use Rattle.zi_shelf.specs.Shelved.{Shelved}
 use Rattle.zi_shelf.specs.Shelving.{Shelving, Stays}
-use Rattle.zi_shelf.specs.Told.{Told, Rose}
+use Rattle.zi_text.specs.Count.{Rose}
+use Rattle.zi_shelf.specs.Told.{Told}
 
 -- this holds of what the shelf holds, where it is honest and tells it
 abbrev pub Held : Shelving → (Shelved Dir → Type 0) → Type 0

@@ -6,8 +6,8 @@ use Rattle.std.proofs.lemmas.Bool.Decides.{nat_tests}
 use Rattle.std.proofs.lemmas.Bool.{and_parts}
 use Rattle.url.specs.Parser.{parse_url, Parsed}
 use Rattle.url.specs.Parts.{Parts, serialize}
-use Rattle.zi_feed.specs.Texts.{same, is_none, pieces_of}
-use Rattle.zi_feed.specs.Address.{is_web, is_local, is_seen, web_text, joined_to, without_last, taken, names_left, settled, path_of, placed, resolved}
+use Rattle.zi_address.specs.Texts.{same, is_none, pieces_of}
+use Rattle.zi_address.specs.Address.{is_web, is_local, is_seen, web_text, joined_to, without_last, taken, names_left, settled, path_of, placed, resolved}
 use Rattle.zi_doc_laws.specs.Trees.{IsCarried}
 use Rattle.zi_doc_laws.proofs.CarriedLaws.{none_carried, both_carried}
 use Rattle.zi_sels_laws.proofs.LikeLaws.{Each, each_append}

@@ -5,11 +5,14 @@ use Rattle.std.specs.List.{find, filter}
 use Rattle.std.specs.Option.{option_or}
 use Rattle.zi_elements.specs.declared.element.Attr.{Attr}
 use Rattle.zi_elements.specs.declared.element.Element.{Element}
-use Rattle.zi_forest.specs.Forest.{Forest, none, words, child, Elem, elements, text_in, is_attribute, value_among, attribute, value, nodes_view, element_view, whole}
-use Rattle.zi_feed.specs.Address.{resolved}
-use Rattle.zi_feed.specs.Sites.{Ways, meaning, Site, here, under, sites, stands, is_closed, is_part, parts, path, inherited, Said, said}
-use Rattle.zi_feed.specs.Values.{those, named, address_in}
-use Rattle.zi_feed.specs.Words.{is_among}
+use Rattle.zi_elements.specs.Forest.{Forest, none, words, child, Elem, elements, text_in, is_attribute, value_among, attribute, value, nodes_view, element_view, whole}
+use Rattle.zi_address.specs.Address.{resolved}
+use Rattle.zi_reading.specs.Ways.{Ways, InFeed}
+use Rattle.zi_reading.specs.Reading.{meaning, stands, is_closed, is_part, parts, those, named}
+use Rattle.zi_faults.specs.Sites.{Site, here, under, sites, path}
+use Rattle.zi_faults.specs.Said.{inherited, Said, said}
+use Rattle.zi_parts.specs.Values.{address_in}
+use Rattle.zi_reading.specs.Words.{is_among}
 use Rattle.zi_doc_laws.specs.Trees.{IsCarried, HasCarriedValues, HasCarriedTexts}
 use Rattle.zi_doc_laws.proofs.CarriedLaws.{none_carried, both_carried}
 use Rattle.zi_sels_laws.proofs.LikeLaws.{Each, each_append}
@@ -62,10 +65,10 @@ named_carried ways names e h = sub_filter IsCarriedElem (λ c. is_among names c.
 
 -- Addresses, as a feed at an address means them.
 
-pub address_carried : (uri name : List ℕ) (e : Elem) → IsCarried uri → IsCarriedElem e → IsCarried (address_in (Some uri) name e)
+pub address_carried : (uri name : List ℕ) (e : Elem) → IsCarried uri → IsCarriedElem e → IsCarried (address_in (InFeed uri) name e)
 address_carried uri name e u h = by (attribute name e) (attribute_carried name e h)
   where
-    by : (o : Option (List ℕ)) → IsCarriedOr o → IsCarried (unwrap_or (option_and_then (meaning (Some uri)) o) [])
+    by : (o : Option (List ℕ)) → IsCarriedOr o → IsCarried (unwrap_or (option_and_then (meaning (InFeed uri)) o) [])
     by None k = none_carried
     by (Some t) k = or_carried (resolved uri t) [] (resolved_carried uri t u k) none_carried
 

@@ -5,7 +5,7 @@ use Rattle.std.specs.List.{find}
 use Rattle.zi_policy.specs.declared.types.Policy.{Policy}
 use Rattle.zi_outside.specs.Views.{Holding}
 use Rattle.zi_docout.specs.Amiss.{is_carried, first_amiss}
-use Rattle.zi_feed.specs.declared.feed.Command.{Command}
+use Rattle.zi_parts.specs.declared.types.Command.{Command}
 use Rattle.zi_universe.specs.declared.types.Requirement.{Requirement}
 use Rattle.zi_universe.specs.declared.types.Candidate.{Candidate}
 use Rattle.zi_universe.specs.declared.types.Interface.{Interface}

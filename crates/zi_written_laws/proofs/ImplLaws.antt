@@ -8,17 +8,20 @@ use Rattle.zi_version.specs.Value.{value as version_value}
 use Rattle.zi_version.specs.Range.{a_version}
 use Rattle.zi_policy.specs.declared.types.Arch.{Arch}
 use Rattle.zi_policy.specs.Platform.{is_empty_part, arch_of, arch_of_pieces}
-use Rattle.zi_forest.specs.Forest.{Elem, attribute, value}
-use Rattle.zi_feed.specs.Words.{latest}
-use Rattle.zi_feed.specs.Address.{is_local, placed}
-use Rattle.zi_feed.specs.Sites.{Ways, Site, is, path, Said, said}
-use Rattle.zi_feed.specs.Values.{deps_of, commands_of, bindings_of}
-use Rattle.zi_feed.specs.Impls.{are_alike, is_run, main_command, with_main, version_text, begins_path, local_text, local_of, impl_with, impl_from, impl_of, import_of}
-use Rattle.zi_feed.specs.Faults.{implementations, counts}
+use Rattle.zi_elements.specs.Forest.{Elem, attribute, value}
+use Rattle.zi_reading.specs.Words.{latest}
+use Rattle.zi_address.specs.Address.{is_local, placed}
+use Rattle.zi_reading.specs.Ways.{Ways, InFeed}
+use Rattle.zi_reading.specs.Reading.{is}
+use Rattle.zi_faults.specs.Sites.{Site, path}
+use Rattle.zi_faults.specs.Said.{Said, said, version_text, begins_path, local_text}
+use Rattle.zi_parts.specs.Values.{deps_of, commands_of, bindings_of}
+use Rattle.zi_feed.specs.Impls.{are_alike, is_run, main_command, with_main, local_of, impl_with, impl_from, impl_of, import_of}
+use Rattle.zi_faults.specs.Faults.{implementations, counts}
 use Rattle.zi_feed.specs.Feeds.{feed_sites, feed_of}
-use Rattle.zi_feed.specs.declared.feed.Command.{Command}
-use Rattle.zi_feed.specs.declared.feed.Impl.{Impl}
-use Rattle.zi_feed.specs.declared.feed.Import.{Import}
+use Rattle.zi_parts.specs.declared.types.Command.{Command}
+use Rattle.zi_parts.specs.declared.types.Impl.{Impl}
+use Rattle.zi_parts.specs.declared.types.Import.{Import}
 use Rattle.zi_feed.specs.declared.feed.Feed.{Feed}
 use Rattle.zi_doc_laws.specs.Trees.{IsCarried}
 use Rattle.zi_doc_laws.proofs.CarriedLaws.{none_carried, both_carried}
@@ -71,7 +74,7 @@ local_said s e h k =
     by true x = x
     by false x = tt
 
-local_carried : (uri : List ℕ) (s : Said) (e : Elem) → IsCarried uri → IsCarriedSaid s → IsCarriedElem e → IsCarriedOr (local_of (Some uri) s e)
+local_carried : (uri : List ℕ) (s : Said) (e : Elem) → IsCarried uri → IsCarriedSaid s → IsCarriedElem e → IsCarriedOr (local_of (InFeed uri) s e)
 local_carried uri s e u h k = by (is_local uri) (local_text s e) (local_said s e h k)
   where
     by : (b : Bool) (o : Option (List ℕ)) → IsCarriedOr o → IsCarriedOr (if b then option_and_then (placed uri) o else None)
@@ -116,12 +119,12 @@ pub record IsCarriedImpl (i : Impl) : Type 0 where
 abbrev read_as : List ℕ → Site → List ℕ → Impl
 read_as uri t version =
     let es = path t in
-    let ways : Ways = Some uri in
+    let ways : Ways = InFeed uri in
     impl_with ways (said es) (flat_map (deps_of ways) es) (flat_map (commands_of ways) es) (flat_map (bindings_of ways) es) t.element version
 
 read_carried : (uri : List ℕ) (t : Site) (v : List ℕ) → IsCarried uri → IsCarriedAlong t → IsCarried v → IsCarriedImpl (read_as uri t v)
 read_carried uri t v u h version =
-    let ways : Ways = Some uri in
+    let ways : Ways = InFeed uri in
     let s : IsCarriedSaid (said (path t)) = said_carried (path t) h in
     let e : IsCarriedElem t.element = (each_front IsCarriedElem t.around (t.element ∷ []) h).1.0 in
     let cs = flat_map (commands_of ways) (path t) in record {
@@ -136,7 +139,7 @@ read_carried uri t v u h version =
       bindings = each_flat IsCarriedBinding (bindings_of ways) IsCarriedElem (bindings_carried ways) (path t) h;
     }
 
-impl_carried : (uri : List ℕ) (t : Site) → IsCarried uri → IsCarriedAlong t → (i : Impl) → impl_of (Some uri) t ≡ Some i → IsCarriedImpl i
+impl_carried : (uri : List ℕ) (t : Site) → IsCarried uri → IsCarriedAlong t → (i : Impl) → impl_of (InFeed uri) t ≡ Some i → IsCarriedImpl i
 unfolding impl_of impl_from
 impl_carried uri t u h i e = by_text (version_text (said (path t))) (version_carried (said (path t)) (said_carried (path t) h)) e
   where
@@ -148,11 +151,11 @@ impl_carried uri t u h i e = by_text (version_text (said (path t))) (version_car
     by_text None k q = absurd (cc q)
     by_text (Some v) k q = by_version v (is_some (version_value v)) k q
 
-impls_carried : (uri : List ℕ) (ts : List Site) → IsCarried uri → Each IsCarriedAlong ts → Each IsCarriedImpl (filter_map (impl_of (Some uri)) ts)
+impls_carried : (uri : List ℕ) (ts : List Site) → IsCarried uri → Each IsCarriedAlong ts → Each IsCarriedImpl (filter_map (impl_of (InFeed uri)) ts)
 impls_carried uri [] u h = tt
-impls_carried uri (t ∷ ts) u h = either (impl_of (Some uri) t) refl (impls_carried uri ts u h.1)
+impls_carried uri (t ∷ ts) u h = either (impl_of (InFeed uri) t) refl (impls_carried uri ts u h.1)
   where
-    either : (o : Option Impl) → impl_of (Some uri) t ≡ o → Each IsCarriedImpl (filter_map (impl_of (Some uri)) ts) → Each IsCarriedImpl (cons_option o (filter_map (impl_of (Some uri)) ts))
+    either : (o : Option Impl) → impl_of (InFeed uri) t ≡ o → Each IsCarriedImpl (filter_map (impl_of (InFeed uri)) ts) → Each IsCarriedImpl (cons_option o (filter_map (impl_of (InFeed uri)) ts))
     either None e more = more
     either (Some i) e more = (impl_carried uri t u h.0 i e, more)
 
@@ -163,7 +166,7 @@ pub record IsCarriedFeed (f : Feed) : Type 0 where
   pub imports : Each (λ (m : Import). IsCarried m.uri) f.imports
   pub impls : Each IsCarriedImpl f.impls
 
-import_carried : (uri : List ℕ) (t : Site) → IsCarried uri → IsCarriedAlong t → IsCarried (import_of (Some uri) t.element).uri
+import_carried : (uri : List ℕ) (t : Site) → IsCarried uri → IsCarriedAlong t → IsCarried (import_of (InFeed uri) t.element).uri
 unfolding import_of
 import_carried uri t u h = address_carried uri (codes "src") t.element u (each_front IsCarriedElem t.around (t.element ∷ []) h).1.0
 
@@ -171,10 +174,10 @@ pub feed_carried : (root : Elem) (uri : List ℕ) → IsCarried uri → IsCarrie
 unfolding feed_of
 feed_carried root uri u h =
     let ss = feed_sites uri root in
-    let along = sites_carried (Some uri) root.name root.inside h.texts in
+    let along = sites_carried (InFeed uri) root.name root.inside h.texts in
     let feeds = filter (λ (t : Site). is (codes "feed") t.element) ss in record {
       uri = u;
-      imports = each_map (λ (m : Import). IsCarried m.uri) (λ (t : Site). import_of (Some uri) t.element) feeds
-          (each_weak IsCarriedAlong (λ (t : Site). IsCarried (import_of (Some uri) t.element).uri) (λ t k. import_carried uri t u k) feeds (sub_filter IsCarriedAlong (λ (t : Site). is (codes "feed") t.element) ss along));
+      imports = each_map (λ (m : Import). IsCarried m.uri) (λ (t : Site). import_of (InFeed uri) t.element) feeds
+          (each_weak IsCarriedAlong (λ (t : Site). IsCarried (import_of (InFeed uri) t.element).uri) (λ t k. import_carried uri t u k) feeds (sub_filter IsCarriedAlong (λ (t : Site). is (codes "feed") t.element) ss along));
       impls = impls_carried uri (implementations ss) u (sub_filter IsCarriedAlong (λ t. counts t.element) ss along);
     }

@@ -4,16 +4,17 @@ use Rattle.std.proofs.Common.{◌≡◌, ℕ, List, [], ◌∷◌, ◌++◌, map
 use Rattle.zi_policy.specs.declared.types.Arch.{Arch}
 use Rattle.zi_policy.specs.declared.types.Stability.{Stability}
 use Rattle.zi_policy.specs.declared.types.Stability.TheVariants.{Insecure, Buggy, Developer, Testing, Stable, Packaged, Preferred}
-use Rattle.zi_feed.specs.Words.{optional}
-use Rattle.zi_feed.specs.declared.feed.Dep.{Dep}
-use Rattle.zi_feed.specs.declared.feed.Runner.{Runner}
-use Rattle.zi_feed.specs.declared.feed.Command.{Command}
+use Rattle.zi_reading.specs.Words.{optional}
+use Rattle.zi_parts.specs.declared.types.Dep.{Dep}
+use Rattle.zi_parts.specs.declared.types.Runner.{Runner}
+use Rattle.zi_parts.specs.declared.types.Command.{Command}
 use Rattle.zi_universe.specs.declared.types.Candidate.{Candidate}
 use Rattle.zi_universe.specs.declared.types.Interface.{Interface}
 use Rattle.zi_choice.specs.Choice.{Choice}
 use Rattle.zi_choice.specs.Walk.{Walk, is_used}
 use Rattle.zi_sels.specs.declared.types.Selection.{Selection}
-use Rattle.zi_sels.specs.Chosen.{arch_text, stability_text, plain, is_met, met, plain_runner, used_command, used_of, selection_by}
+use Rattle.zi_policy.specs.Stabilities.{stability_text}
+use Rattle.zi_sels.specs.Chosen.{arch_text, plain, is_met, met, plain_runner, used_command, used_of, selection_by}
 use Rattle.zi_doc_laws.specs.Trees.{IsCarried}
 use Rattle.zi_doc_laws.proofs.CarriedLaws.{both_carried}
 use Rattle.zi_sels_laws.proofs.LikeLaws.{Each}

@@ -1,22 +1,22 @@
 -- What a feed's elements say as parts can be carried: bindings, dependencies, words, runners, commands.
 use Rattle.std.specs.Prelude.{if◌then◌else◌, option_map, option_and_then, unwrap_or}
 use Rattle.std.proofs.Common.{◌≡◌, ℕ, Bool, true, false, List, [], ◌∷◌, ◌++◌, map, Option, Some, None, codes, refl}
-use Rattle.zi_forest.specs.Forest.{Elem, attribute, has, value, text_in}
-use Rattle.zi_feed.specs.Words.{listed, first, optional}
-use Rattle.zi_feed.specs.Forms.{mode_of}
-use Rattle.zi_feed.specs.Sites.{Ways, is, parts, binding_names}
-use Rattle.zi_feed.specs.Values.{named, extra_of, binding_of, bindings_of, dep_of, deps_of, word_of, args_of, runner_of, command_of, commands_of}
-use Rattle.zi_feed.specs.declared.feed.Binding.{Binding}
-use Rattle.zi_feed.specs.declared.feed.Binding.TheVariants.{Env, Unbuilt}
-use Rattle.zi_feed.specs.declared.feed.Extra.{Extra}
-use Rattle.zi_feed.specs.declared.feed.Extra.TheVariants.{Insert, Value}
-use Rattle.zi_feed.specs.declared.feed.Mode.{Mode}
-use Rattle.zi_feed.specs.declared.feed.Mode.TheVariants.{Prepend}
-use Rattle.zi_feed.specs.declared.feed.Dep.{Dep}
-use Rattle.zi_feed.specs.declared.feed.Word.{Word}
-use Rattle.zi_feed.specs.declared.feed.Word.TheVariants.{Arg, ForEach}
-use Rattle.zi_feed.specs.declared.feed.Runner.{Runner}
-use Rattle.zi_feed.specs.declared.feed.Command.{Command}
+use Rattle.zi_elements.specs.Forest.{Elem, attribute, has, value, text_in}
+use Rattle.zi_reading.specs.Words.{listed, first, optional}
+use Rattle.zi_parts.specs.Values.{mode_of, extra_of, binding_of, bindings_of, dep_of, deps_of, word_of, args_of, runner_of, command_of, commands_of}
+use Rattle.zi_reading.specs.Ways.{Ways, InFeed}
+use Rattle.zi_reading.specs.Reading.{is, parts, binding_names, named}
+use Rattle.zi_parts.specs.declared.types.Binding.{Binding}
+use Rattle.zi_parts.specs.declared.types.Binding.TheVariants.{Env, Unbuilt}
+use Rattle.zi_parts.specs.declared.types.Extra.{Extra}
+use Rattle.zi_parts.specs.declared.types.Extra.TheVariants.{Insert, Value}
+use Rattle.zi_parts.specs.declared.types.Mode.{Mode}
+use Rattle.zi_parts.specs.declared.types.Mode.TheVariants.{Prepend}
+use Rattle.zi_parts.specs.declared.types.Dep.{Dep}
+use Rattle.zi_parts.specs.declared.types.Word.{Word}
+use Rattle.zi_parts.specs.declared.types.Word.TheVariants.{Arg, ForEach}
+use Rattle.zi_parts.specs.declared.types.Runner.{Runner}
+use Rattle.zi_parts.specs.declared.types.Command.{Command}
 use Rattle.zi_doc_laws.specs.Trees.{IsCarried}
 use Rattle.zi_doc_laws.proofs.CarriedLaws.{none_carried}
 use Rattle.zi_sels_laws.proofs.LikeLaws.{Each}
@@ -110,34 +110,34 @@ pub record IsCarriedCommand (c : Command) : Type 0 where
   pub bindings : Each IsCarriedBinding c.bindings
 
 module _ (uri : List ℕ) (known : IsCarried uri) where
-  dep_carried : (e : Elem) → IsCarriedElem e → IsCarriedDep (dep_of (Some uri) e)
+  dep_carried : (e : Elem) → IsCarriedElem e → IsCarriedDep (dep_of (InFeed uri) e)
   unfolding dep_of
-  dep_carried e h = record { interface = address_carried uri (codes "interface") e known h; bindings = bindings_carried (Some uri) e h }
+  dep_carried e h = record { interface = address_carried uri (codes "interface") e known h; bindings = bindings_carried (InFeed uri) e h }
 
-  pub deps_carried : (e : Elem) → IsCarriedElem e → Each IsCarriedDep (deps_of (Some uri) e)
+  pub deps_carried : (e : Elem) → IsCarriedElem e → Each IsCarriedDep (deps_of (InFeed uri) e)
   deps_carried e h =
-      each_made IsCarriedDep (dep_of (Some uri)) dep_carried (named (Some uri) (listed (codes "requires restricts")) e) (named_carried (Some uri) (listed (codes "requires restricts")) e h)
+      each_made IsCarriedDep (dep_of (InFeed uri)) dep_carried (named (InFeed uri) (listed (codes "requires restricts")) e) (named_carried (InFeed uri) (listed (codes "requires restricts")) e h)
 
-  runner_carried : (e : Elem) → IsCarriedElem e → IsCarriedRunner (runner_of (Some uri) e)
+  runner_carried : (e : Elem) → IsCarriedElem e → IsCarriedRunner (runner_of (InFeed uri) e)
   unfolding runner_of
   runner_carried e h = record {
-    dep = record { interface = address_carried uri (codes "interface") e known h; bindings = bindings_carried (Some uri) e h };
+    dep = record { interface = address_carried uri (codes "interface") e known h; bindings = bindings_carried (InFeed uri) e h };
     commands = (or_carried (attribute (codes "command") e) (codes "run") (attribute_carried (codes "command") e h) run_carried, tt);
-    words = args_carried (Some uri) e h;
+    words = args_carried (InFeed uri) e h;
   }
 
-  command_carried : (e : Elem) → IsCarriedElem e → IsCarriedCommand (command_of (Some uri) e)
+  command_carried : (e : Elem) → IsCarriedElem e → IsCarriedCommand (command_of (InFeed uri) e)
   unfolding command_of
   command_carried e h = record {
     name = value_carried (codes "name") e h;
     path = attribute_carried (codes "path") e h;
-    words = args_carried (Some uri) e h;
-    runner = each_first IsCarriedRunner (runner_of (Some uri)) (named (Some uri) (listed (codes "runner")) e)
-        (each_weak IsCarriedElem (λ r. IsCarriedRunner (runner_of (Some uri) r)) runner_carried (named (Some uri) (listed (codes "runner")) e) (named_carried (Some uri) (listed (codes "runner")) e h));
+    words = args_carried (InFeed uri) e h;
+    runner = each_first IsCarriedRunner (runner_of (InFeed uri)) (named (InFeed uri) (listed (codes "runner")) e)
+        (each_weak IsCarriedElem (λ r. IsCarriedRunner (runner_of (InFeed uri) r)) runner_carried (named (InFeed uri) (listed (codes "runner")) e) (named_carried (InFeed uri) (listed (codes "runner")) e h));
     deps = deps_carried e h;
-    bindings = bindings_carried (Some uri) e h;
+    bindings = bindings_carried (InFeed uri) e h;
   }
 
-  pub commands_carried : (e : Elem) → IsCarriedElem e → Each IsCarriedCommand (commands_of (Some uri) e)
+  pub commands_carried : (e : Elem) → IsCarriedElem e → Each IsCarriedCommand (commands_of (InFeed uri) e)
   commands_carried e h =
-      each_made IsCarriedCommand (command_of (Some uri)) command_carried (named (Some uri) (listed (codes "command")) e) (named_carried (Some uri) (listed (codes "command")) e h)
+      each_made IsCarriedCommand (command_of (InFeed uri)) command_carried (named (InFeed uri) (listed (codes "command")) e) (named_carried (InFeed uri) (listed (codes "command")) e h)

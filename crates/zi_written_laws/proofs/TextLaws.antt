@@ -17,7 +17,7 @@ use Rattle.zi_doc_laws.proofs.CarriedLaws.{none_carried, both_carried}
 use Rattle.zi_docout.specs.Amiss.{is_carried}
 use Rattle.zi_docout.proofs.BitLemmas.{is_ascii, ascii}
 use Rattle.zi_docout.proofs.FineLemmas as fine
-use Rattle.zi_feed.specs.Texts.{pieces_of}
+use Rattle.zi_address.specs.Texts.{pieces_of}
 use Rattle.zi_sels_laws.proofs.LikeLaws.{Each}
 
 -- The test.

@@ -6,14 +6,14 @@ use Rattle.std.proofs.lemmas.List.{take_all, take_more}
 use Rattle.zi_policy.specs.declared.types.Policy.{Policy}
 use Rattle.zi_policy.specs.Platform.{listed, is_active}
 use Rattle.zi_outside.specs.Views.{Holding}
-use Rattle.zi_forest.specs.Forest.{element_view, whole}
-use Rattle.zi_feed.specs.declared.feed.Dep.{Dep}
-use Rattle.zi_feed.specs.declared.feed.Runner.{Runner}
-use Rattle.zi_feed.specs.declared.feed.Command.{Command}
-use Rattle.zi_feed.specs.declared.feed.Impl.{Impl}
-use Rattle.zi_feed.specs.declared.feed.Import.{Import}
+use Rattle.zi_elements.specs.Forest.{element_view, whole}
+use Rattle.zi_parts.specs.declared.types.Dep.{Dep}
+use Rattle.zi_parts.specs.declared.types.Runner.{Runner}
+use Rattle.zi_parts.specs.declared.types.Command.{Command}
+use Rattle.zi_parts.specs.declared.types.Impl.{Impl}
+use Rattle.zi_parts.specs.declared.types.Import.{Import}
 use Rattle.zi_feed.specs.declared.feed.Feed.{Feed}
-use Rattle.zi_feed.specs.Words.{optional}
+use Rattle.zi_reading.specs.Words.{optional}
 use Rattle.zi_universe.specs.declared.types.Requirement.{Requirement}
 use Rattle.zi_universe.specs.declared.types.Candidate.{Candidate}
 use Rattle.zi_universe.specs.declared.types.Interface.{Interface}

@@ -3,28 +3,28 @@ use Rattle.std.specs.Prelude.{if◌then◌else◌, option_map, filter}
 use Rattle.std.proofs.Common.{◌≡◌, ℕ, suc, nat_le, Bool, true, false, List, [], ◌∷◌, ◌++◌, map, Option, Some, None, codes, refl, sym, ap, subst}
 use Rattle.hex.specs.Hex.{encode_lower}
 use Rattle.zi_elements.specs.declared.element.Attr.{Attr}
-use Rattle.zi_forest.specs.Forest.{Elem}
+use Rattle.zi_elements.specs.Forest.{Elem}
 use Rattle.zi_xml.specs.Chars.{is_digit}
 use Rattle.zi_digest.specs.Name.{base32, IsDigest}
 use Rattle.zi_digest.specs.declared.DigestName.{DigestName}
 use Rattle.zi_digest.specs.declared.DigestName.TheVariants as digest
 use Rattle.zi_docout.specs.Amiss.{is_plain_name, first_amiss}
 use Rattle.zi_docout.specs.Elements.{attr, elem}
-use Rattle.zi_feed.specs.Words.{is_among, listed, first, optional}
-use Rattle.zi_feed.specs.Texts.{same}
-use Rattle.zi_feed.specs.declared.feed.Dep.{Dep}
-use Rattle.zi_feed.specs.declared.feed.DepKind.{DepKind}
-use Rattle.zi_feed.specs.declared.feed.DepKind.TheVariants.{Essential, Recommended, Restricts}
-use Rattle.zi_feed.specs.declared.feed.Binding.{Binding}
-use Rattle.zi_feed.specs.declared.feed.Binding.TheVariants.{Env, Unbuilt}
-use Rattle.zi_feed.specs.declared.feed.Extra.{Extra}
-use Rattle.zi_feed.specs.declared.feed.Extra.TheVariants.{Insert, Value}
-use Rattle.zi_feed.specs.declared.feed.Mode.{Mode}
-use Rattle.zi_feed.specs.declared.feed.Mode.TheVariants.{Prepend, Append, Replace}
-use Rattle.zi_feed.specs.declared.feed.Word.{Word}
-use Rattle.zi_feed.specs.declared.feed.Word.TheVariants.{Arg, ForEach}
-use Rattle.zi_feed.specs.declared.feed.Runner.{Runner}
-use Rattle.zi_feed.specs.declared.feed.Command.{Command}
+use Rattle.zi_reading.specs.Words.{is_among, listed, first, optional}
+use Rattle.zi_address.specs.Texts.{same}
+use Rattle.zi_parts.specs.declared.types.Dep.{Dep}
+use Rattle.zi_parts.specs.declared.types.DepKind.{DepKind}
+use Rattle.zi_parts.specs.declared.types.DepKind.TheVariants.{Essential, Recommended, Restricts}
+use Rattle.zi_parts.specs.declared.types.Binding.{Binding}
+use Rattle.zi_parts.specs.declared.types.Binding.TheVariants.{Env, Unbuilt}
+use Rattle.zi_parts.specs.declared.types.Extra.{Extra}
+use Rattle.zi_parts.specs.declared.types.Extra.TheVariants.{Insert, Value}
+use Rattle.zi_parts.specs.declared.types.Mode.{Mode}
+use Rattle.zi_parts.specs.declared.types.Mode.TheVariants.{Prepend, Append, Replace}
+use Rattle.zi_parts.specs.declared.types.Word.{Word}
+use Rattle.zi_parts.specs.declared.types.Word.TheVariants.{Arg, ForEach}
+use Rattle.zi_parts.specs.declared.types.Runner.{Runner}
+use Rattle.zi_parts.specs.declared.types.Command.{Command}
 use Rattle.zi_sels.specs.declared.types.Selection.{Selection}
 use Rattle.zi_sels.specs.declared.types.Selections.{Selections}
 use Rattle.zi_sels.specs.Written.{attr_of, attr_unless, extra_attr, mode_attrs, binding_elem, kind_attrs, dep_elem, arg_elem, word_elem, command_wanted, runner_elem, unbuilt_elem, command_elem, digest_attrs, digests_elems, selection_attrs, selection_elem, tree}

@@ -3,7 +3,7 @@ use Rattle.std.proofs.Common.{◌≡◌, ℕ, suc, zero, List, [], ◌∷◌, �
 use Rattle.std.proofs.Math.Utf8.{scalar, scalars}
 use Rattle.std.specs.Prelude.{true}
 use Rattle.std.proofs.lemmas.Str.{encodes_same}
-use Rattle.zi_chars.specs.Longest as longest
+use Rattle.zi_xml.specs.Longest as longest
 use Rattle.zi_xml.specs.Documents.{SaysChars, end_of}
 use Rattle.zi_xml.specs.Right.{Right, IsRight, IsOne}
 use Rattle.zi_xml.specs.Machine.{shared, answer, Answer, finish_in}

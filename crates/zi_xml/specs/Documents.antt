@@ -2,7 +2,7 @@
 use Rattle.std.specs.Prelude.{◌≡◌, ℕ, List, [], ◌∷◌}
 use Rattle.zi_elements.specs.declared.element.Element.{Element}
 use Rattle.zi_elements.specs.declared.element.Node.TheVariants.{Child}
-use Rattle.zi_chars.specs.Places as places
+use Rattle.zi_xml.specs.Places as places
 use Rattle.zi_xml.specs.Syntax.{Document, IsDocument, document_text}
 use Rattle.zi_xml.specs.Meaning.{Fault, Level, document_told}
 

@@ -1,3 +1,8 @@
+pub mod Places
+pub mod Answers
+pub mod Lift
+pub mod Longest
+pub mod Unique
 pub mod Chars
 pub mod Syntax
 pub mod Meaning

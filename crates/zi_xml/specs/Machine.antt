@@ -3,7 +3,7 @@ use Rattle.std.specs.Prelude.{ℕ, zero, suc, ◌+◌, ◌*◌, min, nat_le, Boo
 use Rattle.std.specs.Str.{bytes_eq}
 use Rattle.zi_names.specs.declared.attributes.Binding.{Binding}
 use Rattle.zi_names.specs.Names.{first_scope}
-use Rattle.zi_chars.specs.Answers as machines
+use Rattle.zi_xml.specs.Answers as machines
 use Rattle.zi_xml.specs.Chars.{is_white, is_first, is_name, is_char, is_quote, is_valued, is_digit, is_hex, is_encoding_first, is_encoding, digit_value, hex_value, same_letters, entity}
 use Rattle.zi_xml.specs.Syntax.{Key, version_key, encoding_key, standalone_key, brackets, is_said}
 use Rattle.zi_xml.specs.Meaning.{Fault, encoding_kind, doctype_kind, depth_kind, Level, tick, add, heard, blame, blame_if, value_end, carried, meant, resolved, Tag, Frame, framed, judged, fresh, adopt, start}

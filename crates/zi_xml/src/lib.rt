@@ -7,7 +7,7 @@
 //! some parse tree (Documents.antt). Read these three in this order. The machine (Machine.antt) is named by no public
 //! definition. Four laws about it alone (it reads each parse tree's text and says what it means; what it reads to the end is
 //! some parse tree's text; each state has a way out; faults are found in the order of the bytes that show them) give the
-//! answer in bytes by a theorem of `zi_chars` that speaks of any such machine.
+//! answer in bytes by a theorem (specs/Longest.antt) that speaks of any such machine.
 #![tactic(auto)]
 
 mod laws;

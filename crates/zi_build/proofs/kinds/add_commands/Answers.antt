@@ -1,6 +1,6 @@
 use Rattle.std.proofs.Common.{◌<◌, ℕ, length, sym, subst, refl, arith}
 use Rattle.std.proofs.lemmas.Option.{get_or_from_slice_get}
-use Rattle.zi_feed.specs.declared.feed.Command.{Command}
+use Rattle.zi_parts.specs.declared.types.Command.{Command}
 use Rattle.zi_build.specs.Clauses.{of_command}
 use Rattle.zi_build.specs.Writing.{plan_of, Adds}
 use Rattle.zi_build.proofs.WriteLaws.{adds_over, fits_command}

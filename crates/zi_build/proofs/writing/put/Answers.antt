@@ -1,11 +1,11 @@
-use Rattle.std.proofs.Common.{◌<◌, ◌≤◌, ◌+◌, ◌-◌, ◌∙◌, sym, ap, subst, refl}
+use Rattle.std.proofs.Common.{◌∷◌, [], ◌<◌, ◌≤◌, ◌+◌, ◌-◌, ◌∙◌, sym, ap, subst, refl}
 use Rattle.std.proofs.lemmas.Bool.{ltb-true}
 use Rattle.zi_formula.specs.Lent.{shows}
 use Rattle.zi_build.proofs.WriteLaws.{put_past, put_over, put_more, not_past}
 use Rattle.zi_build.proofs.writing.put.Goals as goal
 
 pub returns-then-is_full : goal.returns-then-is_full
-returns-then-is_full c = put_past c.args.plan.now.keeps c.args.w.now (shows c.args.c) (ltb-true 8000000 c.args.w.now.size (sym c.is_full.ensures ∙ c.if-is_full.true))
+returns-then-is_full c = put_past c.args.plan.now.keeps c.args.w.now (shows c.args.c ∷ []) (ltb-true 8000000 c.args.w.now.size (sym c.is_full.ensures ∙ c.if-is_full.true))
 
 pub returns-then-more-w : goal.returns-then-more-w
 returns-then-more-w c =

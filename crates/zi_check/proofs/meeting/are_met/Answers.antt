@@ -1,6 +1,6 @@
 use Rattle.std.proofs.Common.{rules, tests}
 use Rattle.std.proofs.lemmas.Iterator.{cases_from_all, YieldsList-from_slice}
-use Rattle.zi_feed.specs.declared.feed.Dep.{Dep}
+use Rattle.zi_parts.specs.declared.types.Dep.{Dep}
 use Rattle.zi_choice.specs.Valid.{IsMet}
 use Rattle.zi_check.specs.Parts.{universe_of, picks_of}
 use Rattle.zi_check.proofs.MeetLaws.{tells_all}

@@ -1,4 +1,4 @@
-use Rattle.zi_feed.specs.declared.feed.Dep.{Dep}
+use Rattle.zi_parts.specs.declared.types.Dep.{Dep}
 use Rattle.zi_choice.specs.Valid.{IsMet}
 use Rattle.zi_check.specs.Parts.{universe_of, picks_of}
 use Rattle.zi_check.proofs.MeetLaws.{tells_items, needs_not, needs_alone, needs_runner}

@@ -1,6 +1,6 @@
 use Rattle.std.proofs.Common.{◌≡◌, ◌-◌, List, drop, ap, ◌∙◌, subst, arith}
 use Rattle.std.specs.List.{flat_map}
-use Rattle.zi_feed.specs.declared.feed.Dep.{Dep}
+use Rattle.zi_parts.specs.declared.types.Dep.{Dep}
 use Rattle.zi_choice.specs.Walk.{Follows}
 use Rattle.zi_choice.specs.Tasks.{universe_of, picks_of, walk_of, Then}
 use Rattle.zi_choice.proofs.TaskLaws.{pieces_none, pieces_more}

@@ -1,6 +1,6 @@
 use Rattle.std.proofs.Common.{◌≡◌, ◌+◌, suc, true, false, take, drop, ap, sym, ◌∙◌, ◌∷◌, [], ◌++◌, drop-cons}
 use Rattle.std.proofs.lemmas.List.{take-append-drop, take_more}
-use Rattle.zi_forest.specs.Forest.{node_view, nodes_view}
+use Rattle.zi_elements.specs.Forest.{node_view, nodes_view}
 use Rattle.zi_docout.specs.Amiss.{count}
 use Rattle.zi_docout.proofs.ForestLemmas.{count_nodes}
 use Rattle.zi_docout.proofs.TextLemmas.{HasAmiss, amiss_found, amiss_not_found}

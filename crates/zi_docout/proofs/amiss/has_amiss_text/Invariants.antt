@@ -1,6 +1,6 @@
 use Rattle.std.proofs.Common.{◌≡◌, false, take}
 use Rattle.std.specs.List.{list_any}
-use Rattle.zi_forest.specs.Forest.{nodes_view}
+use Rattle.zi_elements.specs.Forest.{nodes_view}
 use Rattle.zi_docout.specs.Amiss.{is_amiss_text, texts, count}
 use Rattle.zi_docout.proofs.amiss.has_amiss_text.Given as goal
 

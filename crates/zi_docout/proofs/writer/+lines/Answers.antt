@@ -2,7 +2,7 @@ use Rattle.std.proofs.Common.{◌≡◌, ◌+◌, ◌<◌, suc, List, take, drop
 use Rattle.std.specs.List.{slice_get}
 use Rattle.std.proofs.lemmas.List.{take-append-drop, take_more}
 use Rattle.zi_elements.specs.declared.element.Node.{Node}
-use Rattle.zi_forest.specs.Forest.{nodes_view}
+use Rattle.zi_elements.specs.Forest.{nodes_view}
 use Rattle.zi_docout.specs.Canonical.{lines_text, rest_text, words_text, indent, end_text}
 use Rattle.zi_docout.specs.Amiss.{standing}
 use Rattle.zi_docout.specs.Answers.{walk, Writes}

@@ -1,6 +1,6 @@
 use Rattle.std.specs.Prelude.{codes, flat_map}
 use Rattle.std.proofs.Common.{◌≡◌, ◌++◌, ◌∷◌, [], false, ap, sym, ◌∙◌}
-use Rattle.zi_forest.specs.Forest.{element_view}
+use Rattle.zi_elements.specs.Forest.{element_view}
 use Rattle.zi_docout.specs.Canonical.{attr_text, declaring, rest_text, lines_text}
 use Rattle.zi_docout.specs.Amiss.{is_amiss, standing_of}
 use Rattle.zi_docout.proofs.WalkLemmas.{element_walk, document_put}

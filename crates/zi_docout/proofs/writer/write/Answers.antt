@@ -1,4 +1,4 @@
-use Rattle.zi_forest.specs.Forest.{element_view}
+use Rattle.zi_elements.specs.Forest.{element_view}
 use Rattle.zi_docout.specs.Canonical.{document}
 use Rattle.zi_docout.proofs.WalkLemmas.{first_none, first_some}
 use Rattle.zi_docout.proofs.writer.write.Goals as goal

@@ -3,8 +3,8 @@ use Rattle.std.specs.Ordering.{nat_cmp}
 use Rattle.std.specs.Cmp.Lexicographic.{slice_cmp}
 use Rattle.std.specs.BTreeSet as tree
 use Rattle.std.proofs.lemmas.Map.Text.{is_eq-slice_cmp}
-use Rattle.zi_feed.specs.declared.feed.Command.{Command}
-use Rattle.zi_feed.specs.Words.{latest}
+use Rattle.zi_parts.specs.declared.types.Command.{Command}
+use Rattle.zi_reading.specs.Words.{latest}
 use Rattle.zi_feed.specs.Impls.{are_alike}
 use Rattle.zi_feed.proofs.LatestLaws.{rest, is_named_in, rest_back, kept_more, named_more, latest_new, latest_old, not_true, not_false}
 use Rattle.zi_feed.proofs.along.latest_back.Goals as goal

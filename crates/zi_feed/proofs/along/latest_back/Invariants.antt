@@ -2,7 +2,7 @@ use Rattle.std.proofs.Common.{◌≡◌, ◌≤◌, List, ℕ, length, map, reve
 use Rattle.std.specs.Ordering.{nat_cmp}
 use Rattle.std.specs.Cmp.Lexicographic.{slice_cmp}
 use Rattle.std.specs.BTreeSet as tree
-use Rattle.zi_feed.specs.Words.{latest}
+use Rattle.zi_reading.specs.Words.{latest}
 use Rattle.zi_feed.specs.Impls.{are_alike}
 use Rattle.zi_feed.proofs.LatestLaws.{rest, is_named_in}
 use Rattle.zi_feed.proofs.along.latest_back.Given as goal

@@ -1,7 +1,7 @@
 use Rattle.std.proofs.Common.{◌≡◌, ◌++◌, List, map, length, Bor, ap, ◌∙◌, arith}
 use Rattle.std.specs.List.{flat_map}
-use Rattle.zi_feed.specs.declared.feed.Command.{Command}
-use Rattle.zi_feed.specs.Words.{latest}
+use Rattle.zi_parts.specs.declared.types.Command.{Command}
+use Rattle.zi_reading.specs.Words.{latest}
 use Rattle.zi_feed.specs.Impls.{are_alike}
 use Rattle.zi_feed.proofs.LatestLaws.{piece_next, piece_end, none_replaced}
 use Rattle.zi_feed.proofs.along.replaced.Goals as goal

@@ -1,7 +1,8 @@
 use Rattle.std.proofs.Common.{◌≡◌, ◌++◌, map, drop}
 use Rattle.std.specs.List.{filter}
-use Rattle.zi_feed.specs.Faults.{counts}
-use Rattle.zi_feed.specs.Views.{views, seen_view}
+use Rattle.zi_faults.specs.Faults.{counts}
+use Rattle.zi_reading.specs.Views.{views}
+use Rattle.zi_faults.specs.Carrying.{seen_view}
 use Rattle.zi_feed.proofs.finding.counting.Given as goal
 
 abbrev pub invariant-loop-site : goal.invariant-loop-site

@@ -1,6 +1,6 @@
 use Rattle.std.proofs.Common.{ap, sym, ◌∙◌, map}
-use Rattle.zi_feed.specs.Faults.{lesser_of}
-use Rattle.zi_feed.specs.Views.{seen_view}
+use Rattle.zi_faults.specs.Faults.{lesser_of}
+use Rattle.zi_faults.specs.Carrying.{seen_view}
 use Rattle.zi_feed.proofs.FindingLaws.{whole_fault}
 use Rattle.zi_feed.proofs.finding.feed_fault.Goals as goal
 

@@ -1,6 +1,6 @@
 use Rattle.std.proofs.Common.{map}
-use Rattle.zi_forest.specs.Forest.{element_view}
-use Rattle.zi_feed.specs.Views.{seen_view}
+use Rattle.zi_elements.specs.Forest.{element_view}
+use Rattle.zi_faults.specs.Carrying.{seen_view}
 use Rattle.zi_feed.proofs.FindingLaws.{imports_are, imports_end}
 use Rattle.zi_feed.proofs.finding.imports_of.Goals as goal
 

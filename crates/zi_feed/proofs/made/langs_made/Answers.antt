@@ -1,9 +1,9 @@
 use Rattle.std.proofs.Common.{sym, ap, ◌∙◌}
 use Rattle.std.proofs.lemmas.Result.{IfOk-weaker}
 use Rattle.zi_feed.specs.Impls.{langs_of}
-use Rattle.zi_forest.specs.Forest.{element_view}
-use Rattle.zi_feed.specs.Views.{said_by}
-use Rattle.zi_feed.proofs.SaidLaws.{same_langs}
+use Rattle.zi_elements.specs.Forest.{element_view}
+use Rattle.zi_faults.specs.Carrying.{said_by}
+use Rattle.zi_faults.proofs.SaidLaws.{same_langs}
 use Rattle.zi_feed.proofs.made.langs_made.Goals as goal
 
 pub returns : goal.returns

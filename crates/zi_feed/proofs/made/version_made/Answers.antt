@@ -2,9 +2,9 @@ use Rattle.std.proofs.Common.{sym, ap, ◌∙◌}
 use Rattle.std.specs.Prelude.{option_and_then}
 use Rattle.std.proofs.lemmas.Result.{IfOk-weaker}
 use Rattle.zi_version.specs.Range.{a_version}
-use Rattle.zi_forest.specs.Forest.{element_view}
-use Rattle.zi_feed.specs.Views.{said_by}
-use Rattle.zi_feed.proofs.SaidLaws.{same_version}
+use Rattle.zi_elements.specs.Forest.{element_view}
+use Rattle.zi_faults.specs.Carrying.{said_by}
+use Rattle.zi_faults.proofs.SaidLaws.{same_version}
 use Rattle.zi_feed.proofs.made.version_made.Goals as goal
 
 pub returns : goal.returns

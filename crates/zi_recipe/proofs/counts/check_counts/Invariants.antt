@@ -1,5 +1,6 @@
 use Rattle.std.proofs.Common.{◌≡◌, ◌≤◌, ◌+◌, length}
-use Rattle.zi_recipe.specs.Limits.{nodes_limit, nodes_in, depth_of}
+use Rattle.zi_tree.specs.Limits.{nodes_limit}
+use Rattle.zi_recipe.specs.Limits.{nodes_in, depth_of}
 use Rattle.zi_recipe.specs.Levels.{trees, all_nodes_in, levels}
 use Rattle.zi_recipe.proofs.counts.check_counts.Given as goal
 

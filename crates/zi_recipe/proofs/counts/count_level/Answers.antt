@@ -1,5 +1,5 @@
 use Rattle.std.proofs.Common.{◌<◌, ◌+◌, sym, subst, refl, arith}
-use Rattle.zi_recipe.specs.Limits.{nodes_limit}
+use Rattle.zi_tree.specs.Limits.{nodes_limit}
 use Rattle.zi_recipe.specs.Levels.{trees, entries_in, StopsCounting}
 use Rattle.zi_recipe.proofs.LevelLemmas.{inner_next, counted_next, entries_front}
 use Rattle.zi_recipe.proofs.counts.count_level.Goals as goal

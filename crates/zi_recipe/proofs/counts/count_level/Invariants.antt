@@ -1,6 +1,6 @@
 use Rattle.std.proofs.Common.{◌≡◌, ◌≤◌, ◌+◌, take}
 use Rattle.std.specs.List.{flat_map}
-use Rattle.zi_recipe.specs.Limits.{nodes_limit}
+use Rattle.zi_tree.specs.Limits.{nodes_limit}
 use Rattle.zi_recipe.specs.Levels.{trees, folders_in, entries_in}
 use Rattle.zi_recipe.proofs.counts.count_level.Given as goal
 

@@ -4,7 +4,7 @@ use Rattle.std.specs.Ordering.{nat_cmp}
 use Rattle.std.specs.Cmp.Lexicographic.{slice_cmp}
 use Rattle.std.specs.BTreeSet as tree
 use Rattle.std.proofs.lemmas.Map.Text.{is_eq-slice_cmp}
-use Rattle.zi_feed.proofs.RepeatLaws.{set_told, not_false, not_true}
+use Rattle.zi_faults.proofs.RepeatLaws.{set_told, not_false, not_true}
 use Rattle.zi_sels.proofs.ClosedLaws.{fresh_twice, fresh_next, fresh_end}
 use Rattle.zi_sels.proofs.closed.first_twice.Goals as goal
 

@@ -1,6 +1,6 @@
 use Rattle.std.proofs.Common.{◌≡◌, drop}
-use Rattle.zi_feed.specs.Words.{first}
-use Rattle.zi_feed.specs.Views.{views}
+use Rattle.zi_reading.specs.Words.{first}
+use Rattle.zi_reading.specs.Views.{views}
 use Rattle.zi_sels.specs.Refused.{unmet}
 use Rattle.zi_sels.proofs.ClosedLaws.{in_selections}
 use Rattle.zi_sels.proofs.closed.first_unclosed.Given as goal

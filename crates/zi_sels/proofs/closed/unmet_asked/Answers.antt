@@ -1,5 +1,5 @@
 use Rattle.std.proofs.Common.{sym, ◌∙◌}
-use Rattle.zi_forest.specs.Forest.{element_view}
+use Rattle.zi_elements.specs.Forest.{element_view}
 use Rattle.zi_sels.proofs.ClosedLaws.{asked_within, none_within}
 use Rattle.zi_sels.proofs.closed.unmet_asked.Goals as goal
 

@@ -1,6 +1,6 @@
 use Rattle.std.proofs.Common.{refl, sym, ◌∙◌}
 use Rattle.std.specs.Prelude.{option_copied}
-use Rattle.zi_forest.specs.Forest.{element_view}
+use Rattle.zi_elements.specs.Forest.{element_view}
 use Rattle.zi_sels.proofs.ClosedLaws.{at_command, at_asking, at_neither, moved}
 use Rattle.zi_sels.proofs.closed.unmet_at.Goals as goal
 

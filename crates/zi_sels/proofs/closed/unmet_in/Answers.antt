@@ -2,8 +2,8 @@ use Rattle.std.proofs.Common.{List, Bor, refl, ap, sym, ◌∙◌}
 use Rattle.std.specs.Prelude.{option_copied}
 use Rattle.std.specs.List.{flat_map}
 use Rattle.zi_elements.specs.declared.element.Element.{Element}
-use Rattle.zi_forest.specs.Forest.{elements, element_view}
-use Rattle.zi_feed.specs.Views.{views}
+use Rattle.zi_elements.specs.Forest.{elements, element_view}
+use Rattle.zi_reading.specs.Views.{views}
 use Rattle.zi_sels.specs.Refused.{asking_at}
 use Rattle.zi_sels.proofs.ClosedLaws.{part_passed, part_found, parts_end, one_at, all_known, at_step}
 use Rattle.zi_sels.proofs.closed.unmet_in.Goals as goal

@@ -1,7 +1,7 @@
 use Rattle.std.proofs.Common.{◌≡◌, drop}
 use Rattle.std.specs.List.{flat_map}
-use Rattle.zi_feed.specs.Words.{first}
-use Rattle.zi_feed.specs.Views.{views}
+use Rattle.zi_reading.specs.Words.{first}
+use Rattle.zi_reading.specs.Views.{views}
 use Rattle.zi_sels.specs.Refused.{asking_at, unmet}
 use Rattle.zi_sels.proofs.closed.unmet_in.Given as goal
 

@@ -1,6 +1,6 @@
 use Rattle.std.proofs.Common.{refl, sym, ◌∙◌}
 use Rattle.std.specs.Prelude.{option_copied}
-use Rattle.zi_forest.specs.Forest.{element_view}
+use Rattle.zi_elements.specs.Forest.{element_view}
 use Rattle.zi_sels.proofs.ClosedLaws.{in_selection, none_selected, moved}
 use Rattle.zi_sels.proofs.closed.unmet_selected.Goals as goal
 

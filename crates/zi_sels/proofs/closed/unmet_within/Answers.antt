@@ -1,8 +1,8 @@
 use Rattle.std.proofs.Common.{List, Bor, filter, refl, ap, ◌∙◌}
 use Rattle.std.specs.Prelude.{option_copied}
 use Rattle.zi_elements.specs.declared.element.Element.{Element}
-use Rattle.zi_forest.specs.Forest.{elements, element_view}
-use Rattle.zi_feed.specs.Views.{views}
+use Rattle.zi_elements.specs.Forest.{elements, element_view}
+use Rattle.zi_reading.specs.Views.{views}
 use Rattle.zi_sels.specs.Refused.{asks_within}
 use Rattle.zi_sels.proofs.ClosedLaws.{part_passed, part_found, parts_end, all_known, within_step}
 use Rattle.zi_sels.proofs.closed.unmet_within.Goals as goal

@@ -1,6 +1,6 @@
 use Rattle.std.proofs.Common.{◌≡◌, drop, filter}
-use Rattle.zi_feed.specs.Words.{first}
-use Rattle.zi_feed.specs.Views.{views}
+use Rattle.zi_reading.specs.Words.{first}
+use Rattle.zi_reading.specs.Views.{views}
 use Rattle.zi_sels.specs.Refused.{asks_within, unmet}
 use Rattle.zi_sels.proofs.closed.unmet_within.Given as goal
 

@@ -1,5 +1,5 @@
 use Rattle.std.proofs.Common.{List, ap, refl, ◌∙◌}
-use Rattle.zi_feed.specs.declared.feed.Binding.{Binding}
+use Rattle.zi_parts.specs.declared.types.Binding.{Binding}
 use Rattle.zi_sels.proofs.PieceLaws.{items_of, piece_next, piece_end}
 use Rattle.zi_sels.proofs.copies.copy_inherited.Goals as goal
 

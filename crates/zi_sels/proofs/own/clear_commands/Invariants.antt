@@ -1,5 +1,5 @@
 use Rattle.std.proofs.Common.{◌≡◌, take}
-use Rattle.zi_feed.specs.Views.{views}
+use Rattle.zi_reading.specs.Views.{views}
 use Rattle.zi_sels.specs.Refused.{clear_among}
 use Rattle.zi_sels.proofs.own.clear_commands.Given as goal
 

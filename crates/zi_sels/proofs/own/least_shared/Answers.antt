@@ -4,8 +4,8 @@ use Rattle.std.specs.Ordering.{nat_cmp}
 use Rattle.std.specs.Cmp.Lexicographic.{slice_cmp}
 use Rattle.std.specs.BTreeSet as tree
 use Rattle.std.proofs.lemmas.Map.Text.{is_eq-slice_cmp}
-use Rattle.zi_feed.specs.Faults.{lesser_of}
-use Rattle.zi_feed.proofs.RepeatLaws.{comes_new, comes_old, comes_past, set_told, not_false, not_true}
+use Rattle.zi_faults.specs.Faults.{lesser_of}
+use Rattle.zi_faults.proofs.RepeatLaws.{comes_new, comes_old, comes_past, set_told, not_false, not_true}
 use Rattle.zi_sels.proofs.own.least_shared.Goals as goal
 use Rattle.zi_sels.proofs.own.least_shared.Goals.{in-Some+in_ok-insert+then-not-branch, in-Some+in_ok-insert+else-not-branch, in_default}
 

@@ -2,10 +2,10 @@ use Rattle.std.proofs.Common.{map}
 use Rattle.std.specs.Ordering.{nat_cmp}
 use Rattle.std.specs.Cmp.Lexicographic.{slice_cmp}
 use Rattle.std.specs.BTreeSet as tree
-use Rattle.zi_feed.specs.Words.{repeated}
-use Rattle.zi_feed.specs.Views.{views}
-use Rattle.zi_feed.specs.Faults.{fault_at, least, share}
-use Rattle.zi_feed.proofs.RepeatLaws.{Comes}
+use Rattle.zi_reading.specs.Words.{repeated}
+use Rattle.zi_reading.specs.Views.{views}
+use Rattle.zi_faults.specs.Faults.{fault_at, least, share}
+use Rattle.zi_faults.proofs.RepeatLaws.{Comes}
 use Rattle.zi_sels.proofs.own.least_shared.Given as goal
 
 abbrev pub invariant-loop-e : goal.invariant-loop-e

@@ -1,6 +1,6 @@
 use Rattle.std.proofs.Common.{List, Bor, ap, ◌∙◌}
 use Rattle.zi_elements.specs.declared.element.Element.{Element}
-use Rattle.zi_feed.specs.Views.{views}
+use Rattle.zi_reading.specs.Views.{views}
 use Rattle.zi_sels.specs.Refused.{clear_among}
 use Rattle.zi_sels.proofs.NoteLaws.{second_is}
 use Rattle.zi_sels.proofs.own.second_command.Goals as goal

@@ -1,6 +1,6 @@
 use Rattle.std.proofs.Common.{◌++◌, ap, sym, ◌∙◌, append-nil}
-use Rattle.zi_forest.specs.Forest.{element_view}
-use Rattle.zi_feed.specs.Views.{views}
+use Rattle.zi_elements.specs.Forest.{element_view}
+use Rattle.zi_reading.specs.Views.{views}
 use Rattle.zi_sels.proofs.NoteLaws.{clear_passed, clear_pushed}
 use Rattle.zi_sels.proofs.own.take_clear.Goals as goal
 

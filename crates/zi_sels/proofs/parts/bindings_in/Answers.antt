@@ -1,5 +1,5 @@
 use Rattle.zi_feed.specs.Feeds.{part_fault}
-use Rattle.zi_feed.specs.Values.{binding_of}
+use Rattle.zi_parts.specs.Values.{binding_of}
 use Rattle.zi_feed.specs.Means.{counts_as_binding}
 use Rattle.zi_sels.proofs.NoteLaws.{none_yet, next_read, all_read}
 use Rattle.zi_sels.proofs.parts.bindings_in.Goals as goal

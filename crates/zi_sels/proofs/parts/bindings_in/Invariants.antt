@@ -1,6 +1,6 @@
 use Rattle.std.proofs.Common.{[]}
 use Rattle.zi_feed.specs.Feeds.{part_fault}
-use Rattle.zi_feed.specs.Values.{binding_of}
+use Rattle.zi_parts.specs.Values.{binding_of}
 use Rattle.zi_feed.specs.Means.{counts_as_binding}
 use Rattle.zi_sels.specs.Notes.{AreRead}
 use Rattle.zi_sels.proofs.NoteLaws.{so_far}

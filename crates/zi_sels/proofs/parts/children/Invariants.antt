@@ -1,6 +1,6 @@
 use Rattle.std.proofs.Common.{◌≡◌, ◌++◌, drop}
-use Rattle.zi_forest.specs.Forest.{elements, nodes_view}
-use Rattle.zi_feed.specs.Views.{views}
+use Rattle.zi_elements.specs.Forest.{elements, nodes_view}
+use Rattle.zi_reading.specs.Views.{views}
 use Rattle.zi_sels.proofs.parts.children.Given as goal
 
 abbrev pub invariant-loop-node : goal.invariant-loop-node

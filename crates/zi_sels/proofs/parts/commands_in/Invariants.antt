@@ -1,11 +1,12 @@
 use Rattle.std.proofs.Common.{None, []}
 use Rattle.std.specs.Prelude.{codes}
+use Rattle.zi_reading.specs.Ways.{AsWritten}
 use Rattle.zi_feed.specs.Feeds.{part_fault}
-use Rattle.zi_feed.specs.Values.{command_of}
+use Rattle.zi_parts.specs.Values.{command_of}
 use Rattle.zi_feed.specs.Means.{counts_as}
 use Rattle.zi_sels.specs.Notes.{AreRead}
 use Rattle.zi_sels.proofs.NoteLaws.{so_far}
 use Rattle.zi_sels.proofs.parts.commands_in.Given as goal
 
 abbrev pub invariant-loop-e : goal.invariant-loop-e
-invariant-loop-e l = AreRead part_fault (command_of None) (so_far (counts_as (codes "command")) l.parts l.e-index) [] l.fn.fault l.commands l.fault
+invariant-loop-e l = AreRead part_fault (command_of AsWritten) (so_far (counts_as (codes "command")) l.parts l.e-index) [] l.fn.fault l.commands l.fault

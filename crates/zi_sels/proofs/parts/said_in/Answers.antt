@@ -1,6 +1,6 @@
 use Rattle.std.specs.Prelude.{codes}
 use Rattle.zi_feed.specs.Feeds.{part_fault}
-use Rattle.zi_feed.specs.Impls.{said_digests}
+use Rattle.zi_parts.specs.Digests.{said_digests}
 use Rattle.zi_feed.specs.Means.{counts_as}
 use Rattle.zi_sels.proofs.NoteLaws.{none_yet, next_read, all_read}
 use Rattle.zi_sels.proofs.parts.said_in.Goals as goal

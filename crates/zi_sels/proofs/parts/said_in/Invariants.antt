@@ -1,7 +1,7 @@
 use Rattle.std.proofs.Common.{[]}
 use Rattle.std.specs.Prelude.{codes}
 use Rattle.zi_feed.specs.Feeds.{part_fault}
-use Rattle.zi_feed.specs.Impls.{said_digests}
+use Rattle.zi_parts.specs.Digests.{said_digests}
 use Rattle.zi_feed.specs.Means.{counts_as}
 use Rattle.zi_sels.specs.Notes.{AreRead}
 use Rattle.zi_sels.proofs.NoteLaws.{so_far}

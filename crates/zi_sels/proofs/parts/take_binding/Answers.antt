@@ -1,7 +1,7 @@
 use Rattle.std.proofs.Common.{refl, sym, ◌∙◌}
-use Rattle.zi_forest.specs.Forest.{element_view}
+use Rattle.zi_elements.specs.Forest.{element_view}
 use Rattle.zi_feed.specs.Feeds.{part_fault}
-use Rattle.zi_feed.specs.Values.{binding_of}
+use Rattle.zi_parts.specs.Values.{binding_of}
 use Rattle.zi_feed.specs.Means.{counts_as_binding}
 use Rattle.zi_sels.proofs.NoteLaws.{note_taken, not_taken}
 use Rattle.zi_sels.proofs.parts.take_binding.Goals as goal

@@ -1,8 +1,8 @@
 use Rattle.std.proofs.Common.{refl, sym, ◌∙◌}
 use Rattle.std.specs.Prelude.{codes}
-use Rattle.zi_forest.specs.Forest.{element_view}
+use Rattle.zi_elements.specs.Forest.{element_view}
 use Rattle.zi_feed.specs.Feeds.{part_fault}
-use Rattle.zi_feed.specs.Impls.{said_digests}
+use Rattle.zi_parts.specs.Digests.{said_digests}
 use Rattle.zi_feed.specs.Means.{counts_as}
 use Rattle.zi_sels.proofs.NoteLaws.{note_taken, not_taken}
 use Rattle.zi_sels.proofs.parts.take_digests.Goals as goal

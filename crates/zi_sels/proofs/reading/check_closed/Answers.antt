@@ -1,7 +1,7 @@
 use Rattle.std.proofs.Common.{Some, inr, map, ap, sym, ◌∙◌}
 use Rattle.std.specs.Prelude.{option_copied}
-use Rattle.zi_forest.specs.Forest.{element_view}
-use Rattle.zi_feed.specs.Words.{first, is_among}
+use Rattle.zi_elements.specs.Forest.{element_view}
+use Rattle.zi_reading.specs.Words.{first, is_among}
 use Rattle.zi_sels.specs.declared.types.Selection.{Selection}
 use Rattle.zi_sels.specs.Refused.{asking, unmet}
 use Rattle.zi_sels.proofs.TreeLaws.{is_twice, is_rootless, is_unclosed, is_closed}

@@ -1,9 +1,9 @@
 use Rattle.std.proofs.Common.{List, Bor, [], ap, ◌∙◌}
 use Rattle.std.specs.Prelude.{codes}
 use Rattle.zi_elements.specs.declared.element.Element.{Element}
-use Rattle.zi_forest.specs.Forest.{elements, element_view}
+use Rattle.zi_elements.specs.Forest.{elements, element_view}
 use Rattle.zi_feed.specs.Means.{counts_as}
-use Rattle.zi_feed.specs.Views.{views}
+use Rattle.zi_reading.specs.Views.{views}
 use Rattle.zi_sels.specs.Read.{selection_of}
 use Rattle.zi_sels.specs.Refused.{selection_fault}
 use Rattle.zi_sels.proofs.NoteLaws.{none_yet, next_read, all_read, read_among}

@@ -1,6 +1,6 @@
 use Rattle.std.proofs.Common.{inr, map, ap, sym, ◌∙◌}
 use Rattle.std.proofs.lemmas.Result.{err_from_is_err_and}
-use Rattle.zi_forest.specs.Forest.{element_view}
+use Rattle.zi_elements.specs.Forest.{element_view}
 use Rattle.zi_sels.specs.declared.types.Selection.{Selection}
 use Rattle.zi_sels.specs.Refused.{closed_fault}
 use Rattle.zi_sels.proofs.TreeLaws.{other_root, wrong_part, first_is, items_are, wrong_whole, rest_is, value_of}

@@ -1,5 +1,5 @@
 use Rattle.std.proofs.Common.{sym, ◌∙◌}
-use Rattle.zi_forest.specs.Forest.{element_view}
+use Rattle.zi_elements.specs.Forest.{element_view}
 use Rattle.zi_sels.proofs.TreeLaws.{root_wrong, root_right}
 use Rattle.zi_sels.proofs.reading.root_fault.Goals as goal
 

@@ -1,6 +1,6 @@
 use Rattle.std.proofs.Common.{refl, sym, ◌∙◌}
 use Rattle.std.specs.Prelude.{codes}
-use Rattle.zi_forest.specs.Forest.{element_view}
+use Rattle.zi_elements.specs.Forest.{element_view}
 use Rattle.zi_feed.specs.Means.{counts_as}
 use Rattle.zi_sels.specs.Read.{selection_of}
 use Rattle.zi_sels.specs.Refused.{selection_fault}

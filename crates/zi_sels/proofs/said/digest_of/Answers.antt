@@ -1,4 +1,4 @@
-use Rattle.zi_feed.proofs.DigestLaws.{parsed}
+use Rattle.zi_parts.proofs.DigestLaws.{parsed}
 use Rattle.zi_sels.proofs.said.digest_of.Goals as goal
 
 pub returns : goal.returns

@@ -1,6 +1,6 @@
 use Rattle.std.proofs.Common.{◌≡◌, ◌++◌, drop}
 use Rattle.std.specs.List.{find, filter_map}
-use Rattle.zi_feed.specs.Digests.{algorithms}
+use Rattle.zi_parts.specs.Digests.{algorithms}
 use Rattle.zi_sels.specs.Written.{is_by}
 use Rattle.zi_sels.proofs.said.in_order_of_use.Given as goal
 

@@ -1,10 +1,10 @@
 use Rattle.std.proofs.Common.{List, Bor, ◌++◌, ap, ◌∙◌}
 use Rattle.std.specs.List.{flat_map}
 use Rattle.zi_elements.specs.declared.element.Element.{Element}
-use Rattle.zi_forest.specs.Forest.{element_view}
-use Rattle.zi_feed.specs.Words.{optional}
-use Rattle.zi_feed.specs.Digests.{digest_of}
-use Rattle.zi_feed.specs.Views.{views}
+use Rattle.zi_elements.specs.Forest.{element_view}
+use Rattle.zi_reading.specs.Words.{optional}
+use Rattle.zi_parts.specs.Digests.{digest_of}
+use Rattle.zi_reading.specs.Views.{views}
 use Rattle.zi_sels.specs.Read.{in_order_of_use}
 use Rattle.zi_sels.proofs.SelectionLaws.{four_among}
 use Rattle.zi_sels.proofs.selecting.parts_in.Goals as goal

@@ -1,5 +1,5 @@
 use Rattle.std.proofs.Common.{Some, ap, sym, ◌∙◌}
-use Rattle.zi_forest.specs.Forest.{element_view}
+use Rattle.zi_elements.specs.Forest.{element_view}
 use Rattle.zi_sels.specs.Read.{selection_of}
 use Rattle.zi_sels.specs.Refused.{selection_fault}
 use Rattle.zi_sels.proofs.SelectionLaws.{unclear_fault, fault_is, value_when, answers_bad}

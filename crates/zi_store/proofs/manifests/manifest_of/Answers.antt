@@ -13,7 +13,7 @@ returns-in-Err-Missing-clause-manifest g c s keeps e = subst (λ x. WritesWhole 
 pub returns-in-Err-TooLarge-clause-manifest : goal.returns-in-Err-TooLarge-clause-manifest
 returns-in-Err-TooLarge-clause-manifest g c s keeps e =
     let r = subst (λ x. WritesWhole c.args.a c.args.top.now (Err x) s.shelf) c.in-Err-TooLarge.field-0-is (c.in-Err-TooLarge.ensures.manifest s keeps e) in
-    (r.0, r.1, r.2, c.limit_of.ensures)
+    (r.0, r.1, r.2, c.most.ensures)
 
 pub returns-in-Ok-clause-tree : goal.returns-in-Ok-clause-tree
 returns-in-Ok-clause-tree g c = ended_some c.args.a c.in-Ok.written c.read_of.result c.read_of.ensures c.in-Ok.ensures.tree

@@ -8,4 +8,4 @@ returns-in-Err-Missing-clause-tree g c s keeps e = subst (λ x. ReadsWhole c.arg
 pub returns-in-Err-TooLarge-clause-tree : goal.returns-in-Err-TooLarge-clause-tree
 returns-in-Err-TooLarge-clause-tree g c s keeps e =
     let r = subst (λ x. ReadsWhole c.args.top.now (Err x) s.shelf) c.in-Err-TooLarge.field-0-is (c.in-Err-TooLarge.ensures.tree s keeps e) in
-    (r.0, r.1, r.2, c.limit_of.ensures)
+    (r.0, r.1, r.2, c.most.ensures)

@@ -8,5 +8,5 @@ pub returns-clause-got : goal.returns-clause-got
 returns-clause-got g c =
     let seen = g.F.Feeds.seen c.args.feeds.now in
     let room : length c.args.table.now < most_feeds = omega (arith, c.requires.few, c.len.ensures, c.if-len-eq-MOST_FEEDS.false) in
-    gets_one (holding seen) c.args.root.now c.args.policy.now c.args.uri.now c.args.table.now c.push.new.self c.in_ok-feed.feed
-    c.requires.new room c.in_ok-feed.ensures.fetched.0 c.in_ok-feed.ensures.fetched.1 c.in_ok-push.ensures
+    gets_one (holding seen) c.args.root.now c.args.policy.now c.args.uri.now c.args.table.now c.push.new.self c.in_ok-read.read.feed
+    c.requires.new room c.in_ok-read.ensures.fetched.0 c.in_ok-read.ensures.fetched.1 c.in_ok-push.ensures

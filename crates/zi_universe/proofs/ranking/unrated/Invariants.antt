@@ -1,5 +1,5 @@
 use Rattle.std.proofs.Common.{◌≡◌, map}
 use Rattle.zi_universe.proofs.ranking.unrated.Given as goal
 
-abbrev pub invariant-loop-one : goal.invariant-loop-one
-invariant-loop-one l = l.candidates.items ≡ map (λ r. r.candidate) l.yielded
+abbrev pub invariant-loop-candidate : goal.invariant-loop-candidate
+invariant-loop-candidate l = l.offered.items ≡ map (λ r. r.one) l.yielded

@@ -2,7 +2,7 @@ use Rattle.std.proofs.Common.{◌≡◌, [], ◌∷◌, ◌||◌, sym, ap, ◌�
 use Rattle.zi_words.proofs.options.rate.Goals as goal
 use Rattle.std.proofs.Common.{refl}
 use Rattle.std.specs.Ordering.{is_eq}
-use Rattle.zi_words.specs.Forms.{stability_of}
+use Rattle.zi_policy.specs.Stabilities.{stability_of}
 use Rattle.zi_words.specs.Taken.{Key, key_cmp, holds}
 use Rattle.zi_words.proofs.TakenLemmas.{is_there, not_true, not_false, cond_or, unrated, rated, with_overrides}
 

@@ -5,7 +5,7 @@ use Rattle.std.specs.Cmp.Lexicographic.{slice_cmp}
 use Rattle.std.specs.BTreeSet as tree
 use Rattle.std.proofs.lemmas.List.{take_more, map-append}
 use Rattle.std.proofs.lemmas.Map.Text.{is_eq-slice_cmp}
-use Rattle.zi_feed.specs.Words.{is_among}
+use Rattle.zi_reading.specs.Words.{is_among}
 use Rattle.zi_sels.specs.declared.types.Selection.{Selection}
 use Rattle.zi_sels.proofs.ClosedLaws.{among_more}
 use Rattle.zi_sels.proofs.closed.Selected.of.Goals as goal

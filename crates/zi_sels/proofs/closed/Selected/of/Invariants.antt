@@ -2,7 +2,7 @@ use Rattle.std.proofs.Common.{◌≡◌, ℕ, List, map, take, Bor}
 use Rattle.std.specs.Ordering.{nat_cmp}
 use Rattle.std.specs.Cmp.Lexicographic.{slice_cmp}
 use Rattle.std.specs.BTreeSet as tree
-use Rattle.zi_feed.specs.Words.{is_among}
+use Rattle.zi_reading.specs.Words.{is_among}
 use Rattle.zi_sels.proofs.closed.Selected.of.Given as goal
 
 abbrev pub invariant-loop-item : goal.invariant-loop-item

@@ -1,0 +1,524 @@
+//! The faults at one element, a function for each kind.
+ghost use Rattle.std.specs.Prelude.{◌≡◌, ◌&&◌, IfOk, codes, map, true, option_copied, is_some};
+ghost use Rattle.zi_elements.specs.Forest.{element_view, attribute, lacks, value};
+ghost use Rattle.zi_policy.specs.Platform.{arch_of};
+ghost use Rattle.zi_text.specs.Numeral.{numeral};
+ghost use Rattle.zi_address.specs.Texts.{is_none};
+ghost use Rattle.zi_reading.specs.Ways.{ways_of};
+ghost use Rattle.zi_reading.specs.Words.{first, is_wrong, is_amiss, repeated};
+ghost use Rattle.zi_parts.specs.Digests.{digest_by, attribute_by};
+ghost use Rattle.zi_reading.specs.Forms.{is_version, is_expression, stability_of, is_path, is_dest};
+ghost use Rattle.zi_parts.specs.Values.{mode_of, importance_of};
+ghost use Rattle.zi_reading.specs.Reading.{meaning, is};
+ghost use Rattle.zi_faults.specs.Faults.{names_interface, is_impl, has_bad_digits, is_bad_environment, is_bad_for_each, is_bad_file, is_bad_rename, has_bad_address, is_wrong_local, has_bad_local, has_fault, share, is_bad_part, has_no_interface, repeats_in, late_kinds, kinds_among, kinds_at, faults_with, fault_at, number, is_first, least, lesser_of};
+ghost use Rattle.zi_faults.specs.Said.{version_text};
+ghost use Rattle.zi_reading.specs.Views.{views};
+ghost use Rattle.zi_faults.specs.Carrying.{said_by, IsChecked};
+ghost use Rattle.zi_faults.specs.declared.fault.FeedKind.TheVariants as kind;
+
+use crate::carrying::{Carried, is_wrong_local};
+use crate::fault::{Fault, FeedKind};
+use crate::said::own_path;
+use std::alloc::Global;
+use std::collections::BTreeSet;
+use zi_digest::Algorithm;
+use zi_elements::Element;
+use zi_parts::{attribute_by, digest_by, importance_of, mode_of};
+use zi_policy::Arch;
+use zi_reading::{
+    Ways, attribute, has, is, is_dest, is_expression, is_one_of, is_path, is_unclear, is_version,
+    lent, meaning, numeral, parts, stability_of, those, value,
+};
+use zi_text::Memory;
+
+/// There is a text, and it is no version.
+pub fn is_wrong_version(alloc: Global, text: Option<&str>) -> Result<bool, Memory>
+    ensures { IfOk result (λ b. b ≡ is_wrong is_version (option_copied text.entry)) }
+{
+    match text {
+        Some(text) => Ok(!is_version(alloc, text)?),
+        None => Ok(false),
+    }
+}
+
+/// There is a text, and it is no platform.
+pub fn is_wrong_arch(alloc: Global, text: Option<&str>) -> Result<bool, Memory>
+    ensures { IfOk result (λ b. b ≡ is_wrong (λ t. is_some (arch_of t)) (option_copied text.entry)) }
+{
+    match text {
+        Some(text) => Ok(Arch::parse(alloc, text)?.is_none()),
+        None => Ok(false),
+    }
+}
+
+// There is no text, or it is no relative path with a part.
+fn is_amiss_path(alloc: Global, text: Option<&str>) -> Result<bool, Memory>
+    ensures { IfOk result (λ b. b ≡ is_amiss is_path (option_copied text.entry)) }
+{
+    match text {
+        Some(text) => Ok(!is_path(alloc, text)?),
+        None => Ok(true),
+    }
+}
+
+// There is no text, or nothing may be placed there.
+fn is_amiss_dest(alloc: Global, text: Option<&str>) -> Result<bool, Memory>
+    ensures { IfOk result (λ b. b ≡ is_amiss is_dest (option_copied text.entry)) }
+{
+    match text {
+        Some(text) => Ok(!is_dest(alloc, text)?),
+        None => Ok(true),
+    }
+}
+
+// There is no text, or it is no number.
+fn is_amiss_size(text: Option<&str>) -> bool
+    ensures { result ≡ is_amiss (λ t. is_some (numeral t)) (option_copied text.entry) }
+{
+    match text {
+        Some(text) => numeral(text).is_none(),
+        None => true,
+    }
+}
+
+// It is an `implementation`.
+fn is_impl(e: &Element) -> bool
+    ensures { result ≡ is_impl (element_view e.now) }
+{
+    is(e, "implementation")
+}
+
+// It names another interface.
+fn names_interface(e: &Element) -> bool
+    ensures { result ≡ names_interface (element_view e.now) }
+{
+    let names = ["requires", "restricts", "runner"];
+    is_one_of(names.as_slice(), e.name.as_str())
+}
+
+// An implementation without an id.
+fn has_no_id(e: &Element) -> bool
+    ensures { result ≡ (is_impl (element_view e.now) && is_none (value (codes "id") (element_view e.now))) }
+{
+    is_impl(e) && value(e, "id").is_empty()
+}
+
+// A version that is none.
+fn has_bad_version(alloc: Global, ways: Ways, said: &Carried, e: &Element) -> Result<bool, Memory>
+    requires { said.now.wrong.version ≡ is_amiss is_version (version_text (said_by said.now)) }
+    ensures { IfOk result (λ b. b ≡ has_fault (ways_of ways.entry) (said_by said.now) kind.BadVersion (element_view e.now)) }
+{
+    if is_impl(e) && said.wrong.version {
+        return Ok(true);
+    }
+    Ok(
+        is(e, "version")
+            && (is_wrong_version(alloc, attribute(e, "not-before"))?
+                || is_wrong_version(alloc, attribute(e, "before"))?),
+    )
+}
+
+// A restriction of versions that is no expression.
+fn has_bad_range(alloc: Global, ways: Ways, said: &Carried, e: &Element) -> Result<bool, Memory>
+    ensures { IfOk result (λ b. b ≡ has_fault (ways_of ways.entry) (said_by said.now) kind.BadRange (element_view e.now)) }
+{
+    if !ways.is_whole() || !names_interface(e) {
+        return Ok(false);
+    }
+    match attribute(e, "version") {
+        Some(text) => Ok(!is_expression(alloc, text)?),
+        None => Ok(false),
+    }
+}
+
+// A platform that is none.
+fn has_bad_arch(alloc: Global, ways: Ways, said: &Carried, e: &Element) -> Result<bool, Memory>
+    requires { said.now.wrong.arch ≡ is_wrong (λ t. is_some (arch_of t)) (said_by said.now).arch }
+    ensures { IfOk result (λ b. b ≡ has_fault (ways_of ways.entry) (said_by said.now) kind.BadArch (element_view e.now)) }
+{
+    if is_impl(e) && said.wrong.arch {
+        return Ok(true);
+    }
+    Ok(is(e, "feed") && is_wrong_arch(alloc, attribute(e, "arch"))?)
+}
+
+// The attribute of an algorithm isn't the digits of a digest name.
+fn has_bad_digits_by(alloc: Global, algorithm: Algorithm, e: &Element) -> Result<bool, Memory>
+    ensures { IfOk result (λ b. b ≡ is_wrong (λ t. is_some (digest_by algorithm t)) (attribute (attribute_by algorithm) (element_view e.now))) }
+{
+    match attribute(e, attribute_by(algorithm)) {
+        Some(digits) => Ok(digest_by(alloc, algorithm, digits)?.is_none()),
+        None => Ok(false),
+    }
+}
+
+// One of the attributes of a `manifest-digest` isn't the digits of a digest name.
+fn has_bad_digest(alloc: Global, ways: Ways, said: &Carried, e: &Element) -> Result<bool, Memory>
+    ensures { IfOk result (λ b. b ≡ has_fault (ways_of ways.entry) (said_by said.now) kind.BadDigest (element_view e.now)) }
+{
+    Ok(
+        is(e, "manifest-digest")
+            && (has_bad_digits_by(alloc, Algorithm::Sha256new, e)?
+                || has_bad_digits_by(alloc, Algorithm::Sha256, e)?
+                || has_bad_digits_by(alloc, Algorithm::Sha1new, e)?),
+    )
+}
+
+// The mode of an `environment` is none.
+fn has_bad_mode(e: &Element) -> bool
+    ensures { result ≡ is_wrong (λ t. is_some (mode_of t)) (attribute (codes "mode") (element_view e.now)) }
+{
+    match attribute(e, "mode") {
+        Some(text) => mode_of(text).is_none(),
+        None => false,
+    }
+}
+
+// An `environment` isn't of the form.
+fn is_bad_environment(e: &Element) -> bool
+    ensures { result ≡ is_bad_environment (element_view e.now) }
+{
+    let name = value(e, "name");
+    let both = has(e, "insert") && has(e, "value");
+    let neither = !has(e, "insert") && !has(e, "value");
+    name.is_empty() || name.as_bytes().contains(&b'=') || both || neither || has_bad_mode(e)
+}
+
+// A `for-each` isn't of the form.
+fn is_bad_for_each(e: &Element) -> bool
+    ensures { result ≡ is_bad_for_each (element_view e.now) }
+{
+    if !has(e, "item-from") {
+        return true;
+    }
+    match attribute(e, "separator") {
+        Some(text) => text.is_empty(),
+        None => false,
+    }
+}
+
+// The importance of a `requires` is none.
+fn has_bad_importance(e: &Element) -> bool
+    ensures { result ≡ is_wrong (λ t. is_some (importance_of t)) (attribute (codes "importance") (element_view e.now)) }
+{
+    match attribute(e, "importance") {
+        Some(text) => importance_of(text).is_none(),
+        None => false,
+    }
+}
+
+// An `environment` that isn't of the form.
+fn has_bad_environment(e: &Element) -> bool
+    ensures { result ≡ (is (codes "environment") (element_view e.now) && is_bad_environment (element_view e.now)) }
+{
+    is(e, "environment") && is_bad_environment(e)
+}
+
+// A `command` without a name.
+fn has_no_name(e: &Element) -> bool
+    ensures { result ≡ (is (codes "command") (element_view e.now) && lacks (codes "name") (element_view e.now)) }
+{
+    is(e, "command") && !has(e, "name")
+}
+
+// A `for-each` that isn't of the form.
+fn has_bad_for_each(e: &Element) -> bool
+    ensures { result ≡ (is (codes "for-each") (element_view e.now) && is_bad_for_each (element_view e.now)) }
+{
+    is(e, "for-each") && is_bad_for_each(e)
+}
+
+// A `requires` whose importance is none.
+fn is_unweighed(e: &Element) -> bool
+    ensures { result ≡ (is (codes "requires") (element_view e.now) && is_wrong (λ t. is_some (importance_of t)) (attribute (codes "importance") (element_view e.now))) }
+{
+    is(e, "requires") && has_bad_importance(e)
+}
+
+// A binding, command, loop of arguments or importance that isn't of the form.
+fn is_bad_part(e: &Element) -> bool
+    ensures { result ≡ is_bad_part (element_view e.now) }
+{
+    has_bad_environment(e) || has_no_name(e) || has_bad_for_each(e) || is_unweighed(e)
+}
+
+// A `file` that isn't of the form.
+fn has_bad_file(alloc: Global, e: &Element) -> Result<bool, Memory>
+    ensures { IfOk result (λ b. b ≡ (is (codes "file") (element_view e.now) && is_bad_file (element_view e.now))) }
+{
+    if !is(e, "file") {
+        return Ok(false);
+    }
+    Ok(
+        !has(e, "href")
+            || is_amiss_size(attribute(e, "size"))
+            || is_amiss_dest(alloc, attribute(e, "dest"))?,
+    )
+}
+
+// A `rename` that isn't of the form.
+fn has_bad_rename(alloc: Global, e: &Element) -> Result<bool, Memory>
+    ensures { IfOk result (λ b. b ≡ (is (codes "rename") (element_view e.now) && is_bad_rename (element_view e.now))) }
+{
+    if !is(e, "rename") {
+        return Ok(false);
+    }
+    Ok(is_amiss_path(alloc, attribute(e, "source"))? || is_amiss_dest(alloc, attribute(e, "dest"))?)
+}
+
+// A `remove` that isn't of the form.
+fn has_bad_remove(alloc: Global, e: &Element) -> Result<bool, Memory>
+    ensures { IfOk result (λ b. b ≡ (is (codes "remove") (element_view e.now) && is_amiss is_path (attribute (codes "path") (element_view e.now)))) }
+{
+    Ok(is(e, "remove") && is_amiss_path(alloc, attribute(e, "path"))?)
+}
+
+// A step that isn't of the form.
+fn has_bad_step(alloc: Global, ways: Ways, said: &Carried, e: &Element) -> Result<bool, Memory>
+    ensures { IfOk result (λ b. b ≡ has_fault (ways_of ways.entry) (said_by said.now) kind.BadStep (element_view e.now)) }
+{
+    Ok(has_bad_file(alloc, e)? || has_bad_rename(alloc, e)? || has_bad_remove(alloc, e)?)
+}
+
+// An interface or a feed isn't named.
+fn has_no_interface(e: &Element) -> bool
+    ensures { result ≡ has_no_interface (element_view e.now) }
+{
+    (names_interface(e) && !has(e, "interface")) || (is(e, "feed") && !has(e, "src"))
+}
+
+// A stability that a feed may not say.
+fn has_bad_stability(said: &Carried, e: &Element) -> bool
+    ensures { result ≡ (is_impl (element_view e.now) && is_wrong (λ t. is_some (stability_of t)) (said_by said.now).stability) }
+{
+    if !is_impl(e) {
+        return false;
+    }
+    match lent(said.stability) {
+        Some(text) => stability_of(text).is_none(),
+        None => false,
+    }
+}
+
+// An attribute says an address that means nothing.
+fn has_bad_address(alloc: Global, ways: Ways, name: &str, e: &Element) -> Result<bool, Memory>
+    ensures { IfOk result (λ b. b ≡ has_bad_address (ways_of ways.entry) name.now (element_view e.now)) }
+{
+    match attribute(e, name) {
+        Some(text) => Ok(meaning(alloc, ways, text)?.is_none()),
+        None => Ok(false),
+    }
+}
+
+// In a feed that is local the local path of an implementation leads nowhere.
+fn has_bad_local(alloc: Global, ways: Ways, said: &Carried, e: &Element) -> Result<bool, Memory>
+    requires { said.now.wrong.local ≡ is_wrong_local (ways_of ways) (said_by said.now).local_path }
+    ensures { IfOk result (λ b. b ≡ has_bad_local (ways_of ways.entry) (said_by said.now) (element_view e.now)) }
+{
+    match said.local_path {
+        Some(_) => Ok(said.wrong.local),
+        None => is_wrong_local(alloc, ways, own_path(e)),
+    }
+}
+
+// An address or a local path that means nothing.
+fn is_badly_addressed(
+    alloc: Global,
+    ways: Ways,
+    said: &Carried,
+    e: &Element,
+) -> Result<bool, Memory>
+    requires { said.now.wrong.local ≡ is_wrong_local (ways_of ways) (said_by said.now).local_path }
+    ensures { IfOk result (λ b. b ≡ has_fault (ways_of ways.entry) (said_by said.now) kind.BadAddress (element_view e.now)) }
+{
+    if names_interface(e) && has_bad_address(alloc, ways, "interface", e)? {
+        return Ok(true);
+    }
+    if is(e, "feed") && has_bad_address(alloc, ways, "src", e)? {
+        return Ok(true);
+    }
+    if is(e, "file") && has_bad_address(alloc, ways, "href", e)? {
+        return Ok(true);
+    }
+    Ok(is_impl(e) && has_bad_local(alloc, ways, said, e)?)
+}
+
+// The least of the kinds from 8 on that stands at an element.
+fn late_kind(
+    alloc: Global,
+    ways: Ways,
+    said: &Carried,
+    e: &Element,
+) -> Result<Option<FeedKind>, Memory>
+    requires { said.now.wrong.local ≡ is_wrong_local (ways_of ways) (said_by said.now).local_path }
+    ensures { IfOk result (λ k. k ≡ first (kinds_among late_kinds (ways_of ways.entry) (said_by said.now) (element_view e.now))) }
+{
+    if has_bad_step(alloc, ways, said, e)? {
+        return Ok(Some(FeedKind::BadStep));
+    }
+    if has_no_interface(e) {
+        return Ok(Some(FeedKind::NoInterface));
+    }
+    if has_bad_stability(said, e) {
+        return Ok(Some(FeedKind::BadStability));
+    }
+    if is_badly_addressed(alloc, ways, said, e)? {
+        return Ok(Some(FeedKind::BadAddress));
+    }
+    Ok(None)
+}
+
+/// The least kind that stands at an element.
+#[tactic(auto, unfolding(crate::specs::Faults::kinds_at))]
+pub fn kind_at(
+    alloc: Global,
+    ways: Ways,
+    said: &Carried,
+    e: &Element,
+) -> Result<Option<FeedKind>, Memory>
+    requires { IsChecked (ways_of ways) said.now }
+    ensures { IfOk result (λ k. k ≡ first (kinds_at (ways_of ways.entry) (said_by said.now) (element_view e.now))) }
+{
+    if has_no_id(e) {
+        return Ok(Some(FeedKind::NoId));
+    }
+    if has_bad_version(alloc, ways, said, e)? {
+        return Ok(Some(FeedKind::BadVersion));
+    }
+    if has_bad_range(alloc, ways, said, e)? {
+        return Ok(Some(FeedKind::BadRange));
+    }
+    if has_bad_arch(alloc, ways, said, e)? {
+        return Ok(Some(FeedKind::BadArch));
+    }
+    if has_bad_digest(alloc, ways, said, e)? {
+        return Ok(Some(FeedKind::BadDigest));
+    }
+    if is_bad_part(e) {
+        return Ok(Some(FeedKind::BadPart));
+    }
+    late_kind(alloc, ways, said, e)
+}
+
+/// The lesser of two faults, by place and then by kind, where there are any.
+pub fn lesser_of(a: Option<Fault>, b: Option<Fault>) -> Option<Fault>
+    ensures { result ≡ lesser_of a b }
+{
+    match a {
+        None => b,
+        Some(f) => match b {
+            None => Some(f),
+            Some(g) => { if is_first(f, g) { Some(f) } else { Some(g) } }
+        },
+    }
+}
+
+// Whether one fault goes before another.
+#[tactic(auto, unfolding(crate::specs::Faults::is_first))]
+fn is_first(f: Fault, g: Fault) -> bool
+    ensures { result ≡ is_first f g }
+{
+    f.place < g.place || (f.place == g.place && number(f.kind) <= number(g.kind))
+}
+
+// The number of a kind.
+fn number(kind: FeedKind) -> u8
+    ensures { result ≡ number kind }
+{
+    match kind {
+        FeedKind::NotInterface => 1,
+        FeedKind::NoId => 2,
+        FeedKind::BadVersion => 3,
+        FeedKind::BadRange => 4,
+        FeedKind::BadArch => 5,
+        FeedKind::BadDigest => 6,
+        FeedKind::BadPart => 7,
+        FeedKind::BadStep => 8,
+        FeedKind::NoInterface => 9,
+        FeedKind::WrongUri => 10,
+        FeedKind::BadStability => 11,
+        FeedKind::BadAddress => 12,
+        FeedKind::SameId => 13,
+    }
+}
+
+/// The fault of a kind at an element.
+pub fn fault_at(e: &Element, kind: FeedKind) -> Fault
+    ensures { result ≡ fault_at (element_view e.now) kind }
+{
+    Fault {
+        kind,
+        place: e.place,
+    }
+}
+
+/// The least fault of this kind at elements, each but the first of which has one.
+fn least_but_first(elements: &[&Element], kind: FeedKind) -> Option<Fault>
+    ensures { result ≡ least (map (λ r. fault_at r kind) (repeated (λ a b. true) (views elements.now))) }
+{
+    let mut found = None;
+    let mut is_later = false;
+    for e in elements {
+        if is_later {
+            found = lesser_of(found, Some(fault_at(e, kind)));
+        }
+        is_later = true;
+    }
+    found
+}
+
+/// The least fault of this kind at elements that have an attribute alike with an earlier one. Memory is the one refusal.
+pub fn least_shared(
+    alloc: Global,
+    name: &str,
+    elements: &[&Element],
+    kind: FeedKind,
+) -> Result<Option<Fault>, Memory>
+    ensures { IfOk result (λ f. f ≡ least (map (λ r. fault_at r kind) (repeated (share name.now) (views elements.now)))) }
+{
+    let mut values: BTreeSet<&str> = BTreeSet::new(alloc);
+    let mut found = None;
+    for e in elements {
+        if let Some(text) = attribute(e, name) {
+            if !values.insert(text)? {
+                found = lesser_of(found, Some(fault_at(e, kind)));
+            }
+        }
+    }
+    Ok(found)
+}
+
+// The least fault of repeats in an element.
+#[tactic(auto, unfolding(crate::specs::Faults::repeats_in))]
+fn repeat_in(alloc: Global, ways: Ways, e: &Element) -> Result<Option<Fault>, Memory>
+    ensures { IfOk result (λ f. f ≡ least (map (λ r. fault_at r kind.BadPart) (repeats_in (ways_of ways.entry) (element_view e.now)))) }
+{
+    let parts = parts(alloc, ways, e)?;
+    let runners = those(alloc, ["runner"].as_slice(), parts.as_slice())?;
+    let commands = those(alloc, ["command"].as_slice(), parts.as_slice())?;
+    let second = least_but_first(runners.as_slice(), FeedKind::BadPart);
+    let shared = least_shared(alloc, "name", commands.as_slice(), FeedKind::BadPart)?;
+    Ok(lesser_of(second, shared))
+}
+
+/// The least fault at an element where this is said along its path, itself included, and of repeats in it. Memory is the one
+/// refusal.
+#[tactic(auto, unfolding(crate::specs::Faults::faults_with))]
+pub fn fault_with(
+    alloc: Global,
+    ways: Ways,
+    said: &Carried,
+    e: &Element,
+) -> Result<Option<Fault>, Memory>
+    requires { IsChecked (ways_of ways) said.now }
+    ensures { IfOk result (λ f. f ≡ least (faults_with (ways_of ways.entry) (said_by said.now) (element_view e.now))) }
+{
+    if is_unclear(alloc, e)? {
+        return Ok(Some(fault_at(e, FeedKind::BadRange)));
+    }
+    let own = match kind_at(alloc, ways, said, e)? {
+        Some(kind) => Some(fault_at(e, kind)),
+        None => None,
+    };
+    Ok(lesser_of(own, repeat_in(alloc, ways, e)?))
+}

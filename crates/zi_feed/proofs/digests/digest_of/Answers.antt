@@ -1,5 +1,0 @@
-use Rattle.zi_feed.proofs.DigestLaws.{parsed}
-use Rattle.zi_feed.proofs.digests.digest_of.Goals as goal
-
-pub returns : goal.returns
-returns c = parsed c.parse.result c.args.text.now c.parse.ensures.spelled c.parse.ensures.digest c.parse.ensures.refused

@@ -1,7 +1,0 @@
-use Rattle.std.proofs.Common.{◌≡◌, map, take, option_copied}
-use Rattle.zi_feed.specs.Values.{dep_of}
-use Rattle.zi_feed.specs.Views.{views}
-use Rattle.zi_feed.proofs.parts.all_deps.Given as goal
-
-abbrev pub invariant-loop-e : goal.invariant-loop-e
-invariant-loop-e l = l.deps ≡ map (dep_of (option_copied l.fn.ways)) (views (take l.e-index l.elements))

@@ -1,8 +1,0 @@
-use Rattle.std.proofs.Common.{◌≡◌, [], ◌∷◌, drop}
-use Rattle.zi_feed.specs.Words.{first}
-use Rattle.zi_feed.specs.Values.{those}
-use Rattle.zi_feed.specs.Views.{views}
-use Rattle.zi_feed.proofs.reading.first_of.Given as goal
-
-abbrev pub invariant-loop-e : goal.invariant-loop-e
-invariant-loop-e l = first (those (l.fn.name ∷ []) (views (drop l.e-index l.parts))) ≡ first (those (l.fn.name ∷ []) (views l.parts))

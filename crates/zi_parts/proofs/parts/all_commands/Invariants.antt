@@ -1,0 +1,8 @@
+use Rattle.std.proofs.Common.{◌≡◌, map, take, option_copied}
+use Rattle.zi_parts.specs.Values.{command_of}
+use Rattle.zi_reading.specs.Ways.{ways_of}
+use Rattle.zi_reading.specs.Views.{views}
+use Rattle.zi_parts.proofs.parts.all_commands.Given as goal
+
+abbrev pub invariant-loop-e : goal.invariant-loop-e
+invariant-loop-e l = l.commands ≡ map (command_of (ways_of l.fn.ways)) (views (take l.e-index l.elements))

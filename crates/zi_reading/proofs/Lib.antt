@@ -1,0 +1,5 @@
+pub mod BlankLaws
+pub mod ListingLaws
+pub mod NodeLaws
+pub mod NumeralLaws
+pub mod TableLaws

@@ -1,0 +1,5 @@
+pub mod Words
+pub mod Ways
+pub mod Forms
+pub mod Reading
+pub mod Views

@@ -1,0 +1,151 @@
+-- What feeds have under their numbers, and what maps by these find.
+use Rattle.std.proofs.Common.{◌≡◌, ℕ, zero, suc, ◌<◌, Bool, true, false, cond, ◌&&◌, eqb, List, [], ◌∷◌, ◌++◌, length, map, get_or, Option, Some, None, All, refl, sym, ap, subst, ◌∙◌, arith}
+use Rattle.std.specs.Prelude.{slice_get, option_and_then}
+use Rattle.std.proofs.lemmas.Option.{slice_get_within, slice_get-get_or}
+use Rattle.std.proofs.lemmas.List.Elements.{All-head, All-tail, All-nil, All-cons, All-push, All-weaker}
+use Rattle.std.proofs.lemmas.Bool.Decides.{nat_tests}
+use Rattle.std.proofs.lemmas.List.{map-append}
+use Rattle.zi_policy.specs.declared.types.Policy.{Policy}
+use Rattle.zi_rank.specs.declared.rating.Rating.{Rating}
+use Rattle.zi_rank.specs.Ratings.{rating_of}
+use Rattle.zi_parts.specs.declared.types.Dep.{Dep}
+use Rattle.zi_feed.specs.declared.shares.Shares.{Shares}
+use Rattle.zi_feed.specs.Shares.{Grows, deps_at}
+use Rattle.zi_feed.proofs.ShareLaws.{at_grown, at_new, grows_by}
+use Rattle.zi_universe.specs.declared.offers.Offered.{Offered}
+use Rattle.zi_universe.specs.declared.offers.Key.{Key}
+use Rattle.zi_universe.specs.declared.ranking.PlacedCandidate.{PlacedCandidate}
+use Rattle.zi_universe.specs.declared.ranking.RatedCandidate.{RatedCandidate}
+use Rattle.zi_universe.specs.Offering.{IsNumbered, version_at, langs_at, deps_of, HasLevel, found_at, StandsAt, FindsVersions, IsPlacedIn, ArePlacedIn, rated_one}
+
+-- Keys that are alike are one.
+both_true : (a b : Bool) → (a && b) ≡ true → (a ≡ true) × (b ≡ true)
+both_true true true e = (refl, refl)
+both_true true false e = (cc)
+both_true false b e = (cc)
+
+same_number : (m n : ℕ) → eqb m n ≡ true → m ≡ n
+same_number m n e = grind (arith, nat_tests)
+
+abbrev key : ℕ → ℕ → Key
+key f n = record { feed = f; number = n }
+
+pub same_key : (k q : Key) → (eqb k.feed q.feed && eqb k.number q.number) ≡ true → k ≡ q
+same_key k q e =
+    let h = both_true (eqb k.feed q.feed) (eqb k.number q.number) e in
+    ap (λ f. key f k.number) (same_number k.feed q.feed h.0) ∙ ap (λ n. key q.feed n) (same_number k.number q.number h.1)
+
+pub one_value : {X : Type 0} (o : Option X) (x y : X) → o ≡ Some x → o ≡ Some y → x ≡ y
+one_value o x y e f = cc
+
+-- What a candidate's feed has.
+under : {X : Type 0} (feeds : List Shares) (n : ℕ) (s : Shares) (f : Shares → Option X) → slice_get feeds n ≡ Some s → option_and_then f (slice_get feeds n) ≡ f s
+under feeds n s f e = ap (option_and_then f) e
+
+pub version_there : (feeds : List Shares) (o : Offered) → IsNumbered feeds o → version_at feeds (record { feed = o.feed; number = o.numbers.version }) ≡ Some (Some o.candidate.standing.version)
+version_there feeds o h = under feeds o.feed h.shares (λ s. slice_get s.versions o.numbers.version) h.there ∙ h.fit.version
+
+pub langs_there : (feeds : List Shares) (o : Offered) → IsNumbered feeds o → langs_at feeds (record { feed = o.feed; number = o.numbers.langs }) ≡ Some o.candidate.standing.langs
+langs_there feeds o h = under feeds o.feed h.shares (λ s. slice_get s.langs o.numbers.langs) h.there ∙ h.fit.langs
+
+pub deps_there : (feeds : List Shares) (k : Key) (s : Shares) (ds : List Dep) → slice_get feeds k.feed ≡ Some s → deps_at s.levels k.number ≡ Some ds → deps_of feeds k ≡ Some ds
+deps_there feeds k s ds there at = under feeds k.feed s (λ q. deps_at q.levels k.number) there ∙ at
+
+pub level_there : (feeds : List Shares) (o : Offered) → IsNumbered feeds o → HasLevel feeds (record { feed = o.feed; number = o.numbers.level })
+level_there feeds o h = record { shares = h.shares; there = h.there; levels = h.levels; deps = o.candidate.imp.deps; at = h.fit.level }
+
+-- what is there is within the lists
+pub feed_within : {X : Type 0} (feeds : List Shares) (n : ℕ) (f : Shares → Option X) (x : X) → option_and_then f (slice_get feeds n) ≡ Some x → n < length feeds
+feed_within [] n f x e = (cc)
+feed_within (s ∷ feeds) zero f x e = omega arith
+feed_within (s ∷ feeds) (suc n) f x e = let r = feed_within feeds n f x e in omega (arith, r)
+
+pub version_in : (feeds : List Shares) (k : Key) (s : Shares) (v : Option (List ℕ)) → slice_get feeds k.feed ≡ Some s → version_at feeds k ≡ Some v → slice_get s.versions k.number ≡ Some v
+version_in feeds k s v there e = sym (under feeds k.feed s (λ q. slice_get q.versions k.number) there) ∙ e
+
+pub version_out : (feeds : List Shares) (k : Key) (s : Shares) (v : Option (List ℕ)) → slice_get feeds k.feed ≡ Some s → slice_get s.versions k.number ≡ Some v → version_at feeds k ≡ Some v
+version_out feeds k s v there e = under feeds k.feed s (λ q. slice_get q.versions k.number) there ∙ e
+
+pub langs_in : (feeds : List Shares) (k : Key) (s : Shares) (ls : List (List ℕ)) → slice_get feeds k.feed ≡ Some s → langs_at feeds k ≡ Some ls → slice_get s.langs k.number ≡ Some ls
+langs_in feeds k s ls there e = sym (under feeds k.feed s (λ q. slice_get q.langs k.number) there) ∙ e
+
+pub langs_out : (feeds : List Shares) (k : Key) (s : Shares) (ls : List (List ℕ)) → slice_get feeds k.feed ≡ Some s → slice_get s.langs k.number ≡ Some ls → langs_at feeds k ≡ Some ls
+langs_out feeds k s ls there e = under feeds k.feed s (λ q. slice_get q.langs k.number) there ∙ e
+
+-- Maps by keys.
+module _ {X : Type 0} (P : Key → X → Type 0) (k : Key) (x : X) (old new : List (Key × X)) (u : (q : Key) → found_at q new ≡ cond (eqb k.feed q.feed && eqb k.number q.number) (Some x) (found_at q old)) where
+  -- what holds of all that is found holds with one more
+  pub finds_more : P k x → ((q : Key) (y : X) → found_at q old ≡ Some y → P q y) → (q : Key) (y : X) → found_at q new ≡ Some y → P q y
+  finds_more here h q y e = by (eqb k.feed q.feed && eqb k.number q.number) refl
+    where
+      by : (b : Bool) → (eqb k.feed q.feed && eqb k.number q.number) ≡ b → P q y
+      by true t =
+          let same : x ≡ y = one_value (found_at q new) x y (u q ∙ ap (λ b. cond b (Some x) (found_at q old)) t) e in
+          let A : Key → Type 0 = λ z. P z x in
+          let B : X → Type 0 = λ z. P q z in
+          subst B same (subst A (same_key k q t) here)
+      by false t = h q y (sym (u q ∙ ap (λ b. cond b (Some x) (found_at q old)) t) ∙ e)
+
+pub finds_none : {X : Type 0} (P : Key → X → Type 0) (es : List (Key × X)) → es ≡ [] → (q : Key) (y : X) → found_at q es ≡ Some y → P q y
+finds_none P es none q y e = absurd (let bad : None ≡ Some y = sym (ap (found_at q) none) ∙ e in cc)
+
+-- the version of a key stands where it is put
+stands_new : (feeds : List Shares) (k : Key) (vs ws : List (List ℕ)) (v : List ℕ) (n : ℕ) → version_at feeds k ≡ Some (Some v) → ws ≡ vs ++ v ∷ [] → n ≡ length vs → StandsAt feeds k ws n
+stands_new feeds k vs ws v n at grown new w other =
+    let same : Some v ≡ Some w = one_value (version_at feeds k) (Some v) (Some w) at other in
+    at_new vs ws n v grown new ∙ same
+
+stands_grown : (feeds : List Shares) (k : Key) (vs ws : List (List ℕ)) (n : ℕ) → Grows vs ws → StandsAt feeds k vs n → StandsAt feeds k ws n
+stands_grown feeds k vs ws n g h v e = at_grown vs ws n v g (h v e)
+
+pub versions_more : (feeds : List Shares) (k : Key) (old new : List (Key × ℕ)) (vs ws : List (List ℕ)) (v : List ℕ) (n : ℕ) → version_at feeds k ≡ Some (Some v) → ws ≡ vs ++ v ∷ [] → n ≡ length vs
+    → ((q : Key) → found_at q new ≡ cond (eqb k.feed q.feed && eqb k.number q.number) (Some n) (found_at q old))
+    → FindsVersions feeds old vs → FindsVersions feeds new ws × StandsAt feeds k ws n
+versions_more feeds k old new vs ws v n at grown place u h =
+    let stands : StandsAt feeds k ws n = stands_new feeds k vs ws v n at grown place in
+    (finds_more (λ q m. StandsAt feeds q ws m) k n old new u stands (λ q m e. stands_grown feeds q vs ws m (grows_by vs ws v grown) (h q m e)), stands)
+
+-- Candidates with places.
+placed_grown : (vs ws : List (List ℕ)) → Grows vs ws → (cs : List PlacedCandidate) → ArePlacedIn vs cs → ArePlacedIn ws cs
+placed_grown vs ws g cs h = All-weaker (IsPlacedIn vs) (IsPlacedIn ws) (λ c e. at_grown vs ws c.place c.one.candidate.standing.version g e) cs h
+
+pub placed_more : (vs ws : List (List ℕ)) → Grows vs ws → (cs ds : List PlacedCandidate) (c : PlacedCandidate) → ds ≡ cs ++ c ∷ [] → ArePlacedIn vs cs → IsPlacedIn ws c → ArePlacedIn ws ds
+placed_more vs ws g cs ds c e h here = subst (λ q. ArePlacedIn ws q) (sym e) (All-push (IsPlacedIn ws) cs c (placed_grown vs ws g cs h) here)
+
+pub none_placed : (vs : List (List ℕ)) (cs : List PlacedCandidate) → cs ≡ [] → ArePlacedIn vs cs
+none_placed vs cs e = subst (λ q. ArePlacedIn vs q) (sym e) (All-nil (IsPlacedIn vs))
+
+-- What holds of mapped items.
+pub All-into : {X Y : Type 0} (f : X → Y) (P : Y → Type 0) (xs : List X) → All P (map f xs) → All (λ x. P (f x)) xs
+All-into f P [] h = All-nil (λ x. P (f x))
+All-into f P (x ∷ xs) h = All-cons (λ y. P (f y)) x xs (All-head P (f x) (map f xs) h) (All-into f P xs (All-tail P (f x) (map f xs) h))
+
+pub All-out : {X Y : Type 0} (f : X → Y) (P : Y → Type 0) (xs : List X) → All (λ x. P (f x)) xs → All P (map f xs)
+All-out f P [] h = All-nil P
+All-out f P (x ∷ xs) h = All-cons P (f x) (map f xs) (All-head (λ y. P (f y)) x xs h) (All-out f P xs (All-tail (λ y. P (f y)) x xs h))
+
+-- what holds of all holds of the one at a place
+pub All-turn : {X : Type 0} (P : X → Type 0) (xs : List X) (k : ℕ) (x : X) → All P xs → (k < length xs) × (x ≡ get_or xs k x) → P x
+All-turn P xs k x h t = subst P (sym t.1) (h k x t.0)
+
+-- the places of all are within the numbers
+pub all_within : (vs : List (List ℕ)) (ns : List ℕ) (cs : List PlacedCandidate) → length ns ≡ length vs → ArePlacedIn vs cs → All (λ c. c.place < length ns) cs
+all_within vs ns cs same h =
+    All-weaker (IsPlacedIn vs) (λ c. c.place < length ns) (λ c e. let w : c.place < length vs = slice_get_within vs c.place c.one.candidate.standing.version e in omega (arith, w, same)) cs h
+
+-- the element at an index, where it is lent
+pub at_index : {X : Type 0} (xs : List X) (n : ℕ) (x y : X) → n < length xs → x ≡ get_or xs n x → y ≡ x → slice_get xs n ≡ Some y
+at_index xs n x y lt is same = slice_get-get_or xs n x lt ∙ ap (λ q. Some q) (sym is ∙ sym same)
+
+-- Candidates with their places, one by one.
+pub ones_more : (cs ds : List PlacedCandidate) (c : PlacedCandidate) (os : List Offered) → ds ≡ cs ++ c ∷ [] → map (λ (q : PlacedCandidate). q.one) cs ≡ os → map (λ (q : PlacedCandidate). q.one) ds ≡ os ++ c.one ∷ []
+ones_more cs ds c os e h = ap (map (λ (q : PlacedCandidate). q.one)) e ∙ map-append (λ (q : PlacedCandidate). q.one) cs (c ∷ []) ∙ ap (λ q. q ++ c.one ∷ []) h
+
+-- a candidate that was rated
+pub rated_more : (p : Policy) (ns : List ℕ) (cs : List PlacedCandidate) (c : PlacedCandidate) (rs ss : List RatedCandidate) (r : RatedCandidate) → ss ≡ rs ++ r ∷ [] → r ≡ rated_one p ns c
+    → rs ≡ map (rated_one p ns) cs → ss ≡ map (rated_one p ns) (cs ++ c ∷ [])
+rated_more p ns cs c rs ss r e is h = e ∙ ap (λ q. q ++ r ∷ []) h ∙ ap (λ q. map (rated_one p ns) cs ++ q ∷ []) is ∙ sym (map-append (rated_one p ns) cs (c ∷ []))
+
+pub one_rated : (p : Policy) (ns : List ℕ) (c : PlacedCandidate) (rating : Rating) → rating ≡ rating_of p c.one.candidate.standing
+    → ◌≡◌ {A = RatedCandidate} (record { rating = rating; number = get_or ns c.place 0; one = c.one }) (rated_one p ns c)
+one_rated p ns c rating e = ap (λ q. record { rating = q; number = get_or ns c.place 0; one = c.one }) e

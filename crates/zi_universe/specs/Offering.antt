@@ -1,0 +1,122 @@
+-- What the candidates of an interface share, by numbers: each has the place of its feed among those of the interface, and its
+-- numbers there.
+use Rattle.std.specs.Prelude.{◌≡◌, ℕ, ◌<◌, ◌≤◌, ◌==◌, ◌&&◌, Bool, true, false, if◌then◌else◌, List, map, length, get_or, slice_get, All, Option, Some, None, option_and_then}
+use Rattle.std.specs.List.{list_any}
+use Rattle.std.specs.Map.{lookup}
+use Rattle.std.specs.Ordering.{nat_cmp, is_lt}
+use Rattle.zi_version.specs.Value.{version_cmp}
+use Rattle.zi_policy.specs.declared.types.Policy.{Policy}
+use Rattle.zi_rank.specs.declared.rating.Places.{Places}
+use Rattle.zi_rank.specs.Ratings.{places_of, rating_of}
+use Rattle.zi_parts.specs.declared.types.Dep.{Dep}
+use Rattle.zi_feed.specs.declared.shares.Level.{Level}
+use Rattle.zi_feed.specs.declared.shares.Shares.{Shares}
+use Rattle.zi_feed.specs.Shares.{NumbersFit, AreLevels, deps_at}
+use Rattle.zi_universe.specs.declared.types.Candidate.{Candidate}
+use Rattle.zi_universe.specs.declared.offers.Offered.{Offered}
+use Rattle.zi_universe.specs.declared.offers.Key.{Key}
+use Rattle.zi_universe.specs.declared.ranking.PlacedCandidate.{PlacedCandidate}
+use Rattle.zi_universe.specs.declared.ranking.RatedCandidate.{RatedCandidate}
+use Rattle.zi_universe.specs.Naming.{Uris, joined}
+use Rattle.zi_universe.specs.Candidates.{asked}
+
+abbrev pub candidates_of : List Offered → List Candidate
+candidates_of os = map (λ o. o.candidate) os
+
+-- a candidate where it passes a test
+abbrev pub given : (Candidate → Bool) → Candidate → Option Candidate
+given test c = if test c then Some c else None
+
+-- its feed is one of these, which have what it says under its numbers
+pub record IsNumbered (feeds : List Shares) (o : Offered) : Type 0 where
+  pub shares : Shares
+  pub there : slice_get feeds o.feed ≡ Some shares
+  pub levels : AreLevels shares.levels
+  pub fit : NumbersFit shares o.numbers (Some o.candidate.standing.version) o.candidate.standing.langs o.candidate.imp.deps
+
+abbrev pub AreNumbered : List Shares → List Offered → Type 0
+AreNumbered feeds os = All (IsNumbered feeds) os
+
+-- What feeds have under a number.
+
+abbrev pub version_at : List Shares → Key → Option (Option (List ℕ))
+version_at feeds k = option_and_then (λ s. slice_get s.versions k.number) (slice_get feeds k.feed)
+
+abbrev pub langs_at : List Shares → Key → Option (List (List ℕ))
+langs_at feeds k = option_and_then (λ s. slice_get s.langs k.number) (slice_get feeds k.feed)
+
+abbrev pub deps_of : List Shares → Key → Option (List Dep)
+deps_of feeds k = option_and_then (λ s. deps_at s.levels k.number) (slice_get feeds k.feed)
+
+abbrev pub HasVersion : List Shares → Key → Type 0
+HasVersion feeds k = (v : List ℕ) × (version_at feeds k ≡ Some (Some v))
+
+abbrev pub HasLangs : List Shares → Key → Type 0
+HasLangs feeds k = (ls : List (List ℕ)) × (langs_at feeds k ≡ Some ls)
+
+-- Versions by their places, and by their numbers.
+
+-- what a map has for a key
+abbrev pub found_at : {X : Type 0} → Key → List (Key × X) → Option X
+found_at k es = lookup (λ q. k.feed == q.feed && k.number == q.number) es
+
+-- the version of a key stands at a place
+abbrev pub StandsAt : List Shares → Key → List (List ℕ) → ℕ → Type 0
+StandsAt feeds k versions n = (v : List ℕ) → version_at feeds k ≡ Some (Some v) → slice_get versions n ≡ Some v
+
+-- what the map finds is the place of the version
+abbrev pub FindsVersions : List Shares → List (Key × ℕ) → List (List ℕ) → Type 0
+FindsVersions feeds known versions = (k : Key) → (n : ℕ) → found_at k known ≡ Some n → StandsAt feeds k versions n
+
+abbrev pub IsPlacedIn : List (List ℕ) → PlacedCandidate → Type 0
+IsPlacedIn versions c = slice_get versions c.place ≡ Some c.one.candidate.standing.version
+
+abbrev pub ArePlacedIn : List (List ℕ) → List PlacedCandidate → Type 0
+ArePlacedIn versions cs = All (IsPlacedIn versions) cs
+
+-- those before a place are less than a version, and those from it on aren't
+pub record IsBehindLess (versions : List (List ℕ)) (v : List ℕ) (n : ℕ) : Type 0 where
+  pub within : n ≤ length versions
+  pub less : (k : ℕ) → (d : List ℕ) → k < n → is_lt (version_cmp (get_or versions k d) v) ≡ true
+  pub others : (k : ℕ) → (d : List ℕ) → n ≤ k → k < length versions → is_lt (version_cmp (get_or versions k d) v) ≡ false
+
+-- the numbers stand to each other as the versions do
+pub record AreNumbersOf (versions : List (List ℕ)) (numbers : List ℕ) : Type 0 where
+  pub count : length numbers ≡ length versions
+  pub alike : (i j : ℕ) → (v w : List ℕ) → slice_get versions i ≡ Some v → slice_get versions j ≡ Some w → nat_cmp (get_or numbers i 0) (get_or numbers j 0) ≡ version_cmp v w
+
+-- Ratings.
+
+-- what the map finds are the places of the languages
+abbrev pub FindsPlaces : Policy → List Shares → List (Key × Places) → Type 0
+FindsPlaces p feeds known = (k : Key) → (x : Places) → found_at k known ≡ Some x → (ls : List (List ℕ)) → langs_at feeds k ≡ Some ls → x ≡ places_of p ls
+
+-- a candidate with its rating and the number of its version
+abbrev pub rated_one : Policy → List ℕ → PlacedCandidate → RatedCandidate
+rated_one p numbers c = record { rating = rating_of p c.one.candidate.standing; number = get_or numbers c.place 0; one = c.one }
+
+-- Naming.
+
+-- a feed has a level under a number
+pub record HasLevel (feeds : List Shares) (k : Key) : Type 0 where
+  pub shares : Shares
+  pub there : slice_get feeds k.feed ≡ Some shares
+  pub levels : AreLevels shares.levels
+  pub deps : List Dep
+  pub at : deps_at shares.levels k.number ≡ Some deps
+
+-- it is this one
+abbrev pub IsLevelAt : List Shares → Key → Level → Type 0
+IsLevelAt feeds k l = (s : Shares) → slice_get feeds k.feed ≡ Some s → slice_get s.levels k.number ≡ Some l
+
+-- a key is among these
+abbrev pub has_key : Key → List Key → Bool
+has_key k keys = list_any (λ q. k.feed == q.feed && k.number == q.number) keys
+
+-- there is one key more
+abbrev pub HasOneMore : Key → List Key → List Key → Type 0
+HasOneMore key old new = (k : Key) → has_key k new ≡ (if key.feed == k.feed && key.number == k.number then true else has_key k old)
+
+-- what the levels of these keys ask for is among the names
+abbrev pub AreNamed : List Shares → List Key → Uris → Type 0
+AreNamed feeds keys names = (k : Key) → has_key k keys ≡ true → (ds : List Dep) → deps_of feeds k ≡ Some ds → joined names (asked ds) ≡ names
