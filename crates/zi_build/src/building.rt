@@ -36,6 +36,7 @@ fn constraints_of(plan: &Plan, req: &Requirement) -> Result<Option<Constraints>,
     if is_full(&w) {
         return Ok(None);
     }
+    w.constraints.fit();
     Ok(Some(w.constraints))
 }
 

@@ -169,6 +169,16 @@ impl Constraints {
         }
     }
 
+    /// Gives back the room in which it could grow.
+    pub fn fit(&mut self)
+        ensures { self.new ≡ self.old }
+    {
+        self.lits.shrink_to_fit();
+        self.variables.shrink_to_fit();
+        self.groups.shrink_to_fit();
+        self.ends.shrink_to_fit();
+    }
+
     /// Adds a constraint at the end, as `push_clause` or `push_group` does.
     pub fn push(&mut self, c: Lent<'_>) -> Result<(), Memory>
         ensures ok { OnOk result (self.new ≡ self.old ++ shows c.entry ∷ []) }

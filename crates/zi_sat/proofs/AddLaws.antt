@@ -19,7 +19,7 @@ use Rattle.zi_sat.proofs.FreshLaws.{filled_once}
 use Rattle.zi_sat.proofs.MoveLaws.{citable_push}
 use Rattle.zi_sat.specs.declared.pair.Pair.{Pair}
 use Rattle.zi_sat.specs.declared.watches.Watches.{Watches as Lists}
-use Rattle.zi_sat.specs.Rows.{In, Has}
+use Rattle.zi_sat.specs.Rows.{Has}
 use Rattle.zi_sat.specs.Guard.{row_of, pair_at, Held, AllHeld, AllCalm, Adds, Guard, Fitting, Ready}
 use Rattle.zi_sat.specs.Watching.{Watches}
 use Rattle.zi_sat.proofs.FreshStep.{lit_self}
@@ -81,26 +81,26 @@ push_case (x ∷ all) c d (suc n) e =
       | inr p ↦ inr (ap suc p.0, p.1)
     ]
 
-held_wider : (short more : List ℕ) (h g : ℕ → ℕ → Type 0) (n : ℕ) (p : Option Pair) (c : Constraint) → ((m : ℕ) → In m short → In m more) → ((q : ℕ) → h q n → g q n) → Held short h n p c → Held more g n p c
-held_wider short more h g n None (Clause ls) s m d = (s n d.0, d.1)
-held_wider short more h g n (Some p) (Clause ls) s m d = (d.0, m (row_of p.first) d.1, m (row_of p.second) d.2)
-held_wider short more h g n p (AtMostOne xs) s m d = λ x i. m _ (d x i)
+held_wider : (h g : ℕ → ℕ → Type 0) (n : ℕ) (p : Option Pair) (c : Constraint) → ((q : ℕ) → h q n → g q n) → Held h n p c → Held g n p c
+held_wider h g n None (Clause ls) m d = d
+held_wider h g n (Some p) (Clause ls) m d = (d.0, m (row_of p.first) d.1, m (row_of p.second) d.2)
+held_wider h g n p (AtMostOne xs) m d = λ x i. m _ (d x i)
 
-pub added_held : (w v : Lists) (all : List Constraint) (c : Constraint) → length w.pairs.items ≡ length all → Adds w v c → AllHeld w all → AllHeld v (all ++ c ∷ [])
+pub added_held : (w v : Lists) (all : List Constraint) (c : Constraint) → length w.pairs ≡ length all → Adds w v c → AllHeld w all → AllHeld v (all ++ c ∷ [])
 added_held w v all c len a h n d e =
     elim (push_case all c d n e) [
       | inl p ↦
-          let low : n < length w.pairs.items = omega (arith, p.0, len) in
-          let same : pair_at v.pairs.items n ≡ pair_at w.pairs.items n = ap (λ ps. get_or ps n None) a.pairs ∙ get_or_append_left w.pairs.items (a.pair ∷ []) None n low in
-          subst (λ q. Held v.shorts.items (Has v.rows.items) n q d) (sym same) (held_wider w.shorts.items v.shorts.items (Has w.rows.items) (Has v.rows.items) n (pair_at w.pairs.items n) d a.shorts (λ q x. a.grows q n x) (h n d p.1))
+          let low : n < length w.pairs = omega (arith, p.0, len) in
+          let same : pair_at v.pairs n ≡ pair_at w.pairs n = ap (λ ps. get_or ps n None) a.pairs ∙ get_or_append_left w.pairs (a.pair ∷ []) None n low in
+          subst (λ q. Held (Has v.rows.items) n q d) (sym same) (held_wider (Has w.rows.items) (Has v.rows.items) n (pair_at w.pairs n) d (λ q x. a.grows q n x) (h n d p.1))
       | inr p ↦
-          let at : n ≡ length w.pairs.items = p.0 ∙ sym len in
-          let same : pair_at v.pairs.items n ≡ a.pair = ap (λ ps. get_or ps n None) a.pairs ∙ get_or_push w.pairs.items a.pair None n (sym at) in
-          subst (λ q. Held v.shorts.items (Has v.rows.items) n q d) (sym same) (subst (λ m. Held v.shorts.items (Has v.rows.items) m a.pair d) (sym at) (subst (Held v.shorts.items (Has v.rows.items) (length w.pairs.items) a.pair) p.1 a.held))
+          let at : n ≡ length w.pairs = p.0 ∙ sym len in
+          let same : pair_at v.pairs n ≡ a.pair = ap (λ ps. get_or ps n None) a.pairs ∙ get_or_push w.pairs a.pair None n (sym at) in
+          subst (λ q. Held (Has v.rows.items) n q d) (sym same) (subst (λ m. Held (Has v.rows.items) m a.pair d) (sym at) (subst (Held (Has v.rows.items) (length w.pairs) a.pair) p.1 a.held))
     ]
 
-pub added_len : (w v : Lists) (c : Constraint) → Adds w v c → length v.pairs.items ≡ length w.pairs.items + 1
-added_len w v c a = omega (arith, ap length a.pairs, length-append w.pairs.items (a.pair ∷ []))
+pub added_len : (w v : Lists) (c : Constraint) → Adds w v c → length v.pairs ≡ length w.pairs + 1
+added_len w v c a = omega (arith, ap length a.pairs, length-append w.pairs (a.pair ∷ []))
 
 pub take_next : (cs : List Constraint) (i : ℕ) (d : Constraint) → i < length cs → take (i + 1) cs ≡ take i cs ++ get_or cs i d ∷ []
 take_next cs i d h =
@@ -124,7 +124,7 @@ take_all [] (suc i) h = refl
 take_all (c ∷ cs) zero h = absurd (omega arith)
 take_all (c ∷ cs) (suc i) h = ap (λ x. c ∷ x) (take_all cs i (omega arith))
 
-pub next_held : (w v : Lists) (cs : List Constraint) (i : ℕ) (c : Constraint) → slice_get cs i ≡ Some c → length w.pairs.items ≡ i → Adds w v c → AllHeld w (take i cs) → AllHeld v (take (i + 1) cs)
+pub next_held : (w v : Lists) (cs : List Constraint) (i : ℕ) (c : Constraint) → slice_get cs i ≡ Some c → length w.pairs ≡ i → Adds w v c → AllHeld w (take i cs) → AllHeld v (take (i + 1) cs)
 next_held w v cs i c e n a h =
     let k : i < length cs = slice_get_within cs i c e in
     let same : take i cs ++ c ∷ [] ≡ take (i + 1) cs = ap (λ x. take i cs ++ x ∷ []) (sym (get_or_from_slice_get cs i c c e)) ∙ sym (take_next cs i c k) in
@@ -147,7 +147,7 @@ start_guard k p (AtMostOne xs) = λ x y i j e n. let z : ◌≡◌ {A = Option B
 pub ready_start : (w : Lists) (f : Formula) (ms : List Lemma) (es : List Entry) → es ≡ [] → Fitting w f ms → w.seen ≡ 0 → Ready w f ms es
 ready_start w f ms es none h z =
     let low : w.seen ≤ length es = omega (arith, z) in
-    ((h, subst (λ xs. AllCalm w xs (citable f.constraints ms)) (sym none) (calm_start w (citable f.constraints ms))), low, λ n c e. subst (λ i. Guard (known_from (take i es)) (known_from es) (pair_at w.pairs.items n) c) (sym z) (subst (λ k. Guard k (known_from es) (pair_at w.pairs.items n) c) (sym (ap known_from (take_zero es))) (start_guard (known_from es) (pair_at w.pairs.items n) c)), inl z)
+    ((h, subst (λ xs. AllCalm w xs (citable f.constraints ms)) (sym none) (calm_start w (citable f.constraints ms))), low, λ n c e. subst (λ i. Guard (known_from (take i es)) (known_from es) (pair_at w.pairs n) c) (sym z) (subst (λ k. Guard k (known_from es) (pair_at w.pairs n) c) (sym (ap known_from (take_zero es))) (start_guard (known_from es) (pair_at w.pairs n) c)), inl z)
   where
     take_zero : (es : List Entry) → take 0 es ≡ []
     take_zero [] = refl
@@ -155,7 +155,7 @@ ready_start w f ms es none h z =
 
 pub fitting_more : (w v : Lists) (f : Formula) (ms ns : List Lemma) (m : Lemma) (ls : List Lit) → ns ≡ ms ++ m ∷ [] → ls ≡ m.lits → length v.rows.items ≡ length w.rows.items → Adds w v (Clause ls) → Fitting w f ms → Fitting v f ns
 fitting_more w v f ms ns m ls e g r a h =
-    let all : length w.pairs.items ≡ length (citable f.constraints ms) = h.1 ∙ sym (citable_length f.constraints ms) in
+    let all : length w.pairs ≡ length (citable f.constraints ms) = h.1 ∙ sym (citable_length f.constraints ms) in
     let held : AllHeld v (citable f.constraints ms ++ Clause ls ∷ []) = added_held w v (citable f.constraints ms) (Clause ls) all a h.0 in
     let same : citable f.constraints ms ++ Clause ls ∷ [] ≡ citable f.constraints ns = ap (λ x. citable f.constraints ms ++ Clause x ∷ []) g ∙ (sym (citable_push f.constraints ms m) ∙ ap (citable f.constraints) (sym e)) in
     let n : length ns ≡ length ms + 1 = omega (arith, ap length e, length-append ms (m ∷ [])) in
@@ -171,6 +171,6 @@ last_is ms ns m e d =
     let n : length ms ≡ length ns - 1 = omega (arith, ap length e, length-append ms (m ∷ [])) in
     ap (λ xs. get_or xs (length ns - 1) d) e ∙ get_or_push ms m d (length ns - 1) n
 
-pub fitting_same : (w v : Lists) (f : Formula) (ms ns : List Lemma) → v.rows ≡ w.rows → v.pairs ≡ w.pairs → v.shorts ≡ w.shorts → ms ≡ ns → Fitting w f ms → Fitting v f ns
-fitting_same w v f ms ns a b c s h =
-    subst (Fitting v f) s (λ n d e. subst (λ t. Held t.items (Has v.rows.items) n (pair_at v.pairs.items n) d) (sym c) (subst (λ r. Held w.shorts.items (Has r.items) n (pair_at v.pairs.items n) d) (sym a) (subst (λ p. Held w.shorts.items (Has w.rows.items) n (pair_at p.items n) d) (sym b) (h.0 n d e))), ap (λ p. length p.items) b ∙ h.1, subst (λ r. f.variables * 2 + 2 ≤ length r.items) (sym a) h.2)
+pub fitting_same : (w v : Lists) (f : Formula) (ms ns : List Lemma) → v.rows ≡ w.rows → v.pairs ≡ w.pairs → ms ≡ ns → Fitting w f ms → Fitting v f ns
+fitting_same w v f ms ns a b s h =
+    subst (Fitting v f) s (λ n d e. subst (λ r. Held (Has r.items) n (pair_at v.pairs n) d) (sym a) (subst (λ p. Held (Has w.rows.items) n (pair_at p n) d) (sym b) (h.0 n d e)), ap length b ∙ h.1, subst (λ r. f.variables * 2 + 2 ≤ length r.items) (sym a) h.2)

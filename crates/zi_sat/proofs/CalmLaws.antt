@@ -104,7 +104,7 @@ pair_visited es l has (Some p) s (Clause ls) o f (inr (inr v)) h = pair_moved es
 -- all constraints
 
 pub calm_start : (w : Lists) (all : List Constraint) → AllCalm w [] all
-calm_start w all n c e = go (pair_at w.pairs.items n) c
+calm_start w all n c e = go (pair_at w.pairs n) c
   where
     go : (p : Option Pair) (c : Constraint) → Calm [] p c
     go None (Clause ls) = tt
@@ -112,10 +112,10 @@ calm_start w all n c e = go (pair_at w.pairs.items n) c
     go p (AtMostOne xs) = tt
 
 pub calm_added : (w : Lists) (all more : List Constraint) (es fs : List Entry) → Added more es fs → AllCalm w es all → AllCalm w fs all
-calm_added w all more es fs a h n c e = pair_added more es fs (pair_at w.pairs.items n) c a (h n c e)
+calm_added w all more es fs a h n c e = pair_added more es fs (pair_at w.pairs n) c a (h n c e)
 
 pub calm_decided : (w : Lists) (all : List Constraint) (es fs : List Entry) (l : Lit) → fs ≡ es ++ record { lit = l; why = Decision } ∷ [] → AllGuard (known_from es) (known_from es) w all → AllCalm w es all → AllCalm w fs all
-calm_decided w all es fs l f g h n c e = pair_decided es fs l (pair_at w.pairs.items n) c f (g n c e) (h n c e)
+calm_decided w all es fs l f g h n c e = pair_decided es fs l (pair_at w.pairs n) c f (g n c e) (h n c e)
 
 pub silent_each : (k : Known) (all : List Constraint) (n : ℕ) (c : Constraint) → all_silent k all ≡ true → slice_get all n ≡ Some c → silent k c ≡ true
 silent_each k [] n c s e = let z : ◌≡◌ {A = Option Constraint} None (Some c) = e in cc

@@ -31,9 +31,9 @@ use Rattle.zi_sat.proofs.SettleLaws.{firm_of, firm_more}
 use Rattle.zi_sat.proofs.AddLaws.{push_case, fitting_more, fitting_same}
 use Rattle.zi_sat.proofs.CalmLaws.{pair_added, pair_cut, pair_guard, silent_each}
 
-pub steady_same : (w v : Lists) (f : Formula) (ms ns : List Lemma) (es : List Entry) → v.rows ≡ w.rows → v.pairs ≡ w.pairs → v.shorts ≡ w.shorts → ms ≡ ns → Steady w f ms es → Steady v f ns es
-steady_same w v f ms ns es a b c s k =
-    (fitting_same w v f ms ns a b c s k.0, subst (λ p. Each (citable f.constraints ns) (λ n d. Calm es (pair_at p.items n) d)) (sym b) (subst (λ xs. AllCalm w es (citable f.constraints xs)) s k.1))
+pub steady_same : (w v : Lists) (f : Formula) (ms ns : List Lemma) (es : List Entry) → v.rows ≡ w.rows → v.pairs ≡ w.pairs → ms ≡ ns → Steady w f ms es → Steady v f ns es
+steady_same w v f ms ns es a b s k =
+    (fitting_same w v f ms ns a b s k.0, subst (λ p. Each (citable f.constraints ns) (λ n d. Calm es (pair_at p n) d)) (sym b) (subst (λ xs. AllCalm w es (citable f.constraints xs)) s k.1))
 
 pub snoc_last : (xs ys : List Lit) (a b : Lit) → xs ++ a ∷ [] ≡ ys ++ b ∷ [] → a ≡ b
 snoc_last xs ys a b e =
@@ -45,16 +45,16 @@ snoc_front xs ys a b e =
     append_cancel_right xs ys (a ∷ []) (e ∙ ap (λ z. ys ++ z ∷ []) (sym (snoc_last xs ys a b e)))
 
 -- one constraint more
-each_more : (w v : Lists) (all : List Constraint) (c : Constraint) (P : Option Pair → Constraint → Type 0) → length w.pairs.items ≡ length all → (a : Adds w v c) → Each all (λ n d. P (pair_at w.pairs.items n) d) → P a.pair c → Each (all ++ c ∷ []) (λ n d. P (pair_at v.pairs.items n) d)
+each_more : (w v : Lists) (all : List Constraint) (c : Constraint) (P : Option Pair → Constraint → Type 0) → length w.pairs ≡ length all → (a : Adds w v c) → Each all (λ n d. P (pair_at w.pairs n) d) → P a.pair c → Each (all ++ c ∷ []) (λ n d. P (pair_at v.pairs n) d)
 each_more w v all c P len a h p n d e =
     elim (push_case all c d n e) [
       | inl q ↦
-          let low : n < length w.pairs.items = omega (arith, q.0, len) in
-          let same : pair_at v.pairs.items n ≡ pair_at w.pairs.items n = ap (λ ps. get_or ps n None) a.pairs ∙ get_or_append_left w.pairs.items (a.pair ∷ []) None n low in
+          let low : n < length w.pairs = omega (arith, q.0, len) in
+          let same : pair_at v.pairs n ≡ pair_at w.pairs n = ap (λ ps. get_or ps n None) a.pairs ∙ get_or_append_left w.pairs (a.pair ∷ []) None n low in
           subst (λ x. P x d) (sym same) (h n d q.1)
       | inr q ↦
-          let at : n ≡ length w.pairs.items = q.0 ∙ sym len in
-          let same : pair_at v.pairs.items n ≡ a.pair = ap (λ ps. get_or ps n None) a.pairs ∙ get_or_push w.pairs.items a.pair None n (sym at) in
+          let at : n ≡ length w.pairs = q.0 ∙ sym len in
+          let same : pair_at v.pairs n ≡ a.pair = ap (λ ps. get_or ps n None) a.pairs ∙ get_or_push w.pairs a.pair None n (sym at) in
           subst (λ x. P x d) (sym same) (subst (P a.pair) q.1 p)
     ]
 
@@ -97,21 +97,21 @@ ready_again w v f ms ns m ls es fs gs h kept hush o e g cut rows a seen more spo
     let cs : List Constraint = citable f.constraints ns in
     let k : Known = known_from fs in
     let at : List Entry = take cut.place es in
-    let len : length w.pairs.items ≡ length (citable f.constraints ms) = kept.0.1 ∙ sym (citable_length f.constraints ms) in
+    let len : length w.pairs ≡ length (citable f.constraints ms) = kept.0.1 ∙ sym (citable_length f.constraints ms) in
     let same : citable f.constraints ms ++ Clause ls ∷ [] ≡ citable f.constraints ns = ap (λ x. citable f.constraints ms ++ Clause x ∷ []) g ∙ (sym (citable_push f.constraints ms m) ∙ ap (citable f.constraints) (sym e)) in
     let inside : Inside (known_from fs) (known_from gs) = added_inside (citable f.constraints ns) fs gs more o in
     let front : take v.seen gs ≡ fs = ap (λ i. take i gs) seen ∙ (ap (take (length fs)) spoke ∙ (take-append-le (length fs) fs (hinted h (cut.speaks.last ∷ [])) (omega arith) ∙ take_whole fs)) in
     let said : is_true (known_from gs) cut.speaks.last ≡ true = made_true fs gs h cut.speaks.last spoke in
     let quiet : (n : ℕ) (c : Constraint) → slice_get (citable f.constraints ms) n ≡ Some c → silent (known_from fs) c ≡ true = λ n c x. subst (λ xs. silent (known_from xs) c ≡ true) (sym cut.cut) (silent_each (known_from (take cut.place es)) (citable f.constraints ms) n c (hushed_at (citable f.constraints ms) nothing es cut.place some_entry hush cut.within (cut.decided some_entry)) x) in
-    let calm : AllCalm v gs (citable f.constraints ms ++ Clause ls ∷ []) = each_more w v (citable f.constraints ms) (Clause ls) (λ p c. Calm gs p c) len a (λ n c x. pair_added (citable f.constraints ns) fs gs (pair_at w.pairs.items n) c more (pair_cut es fs cut.place (pair_at w.pairs.items n) c cut.cut (kept.1 n c x))) (pair_added (citable f.constraints ns) fs gs a.pair (Clause ls) more (new_calm es fs ls a.pair cut a.last)) in
-    let before : (n : ℕ) (c : Constraint) → slice_get (citable f.constraints ms) n ≡ Some c → Guard (known_from fs) (known_from gs) (pair_at w.pairs.items n) c = λ n c x. guard_more (known_from fs) (known_from fs) (known_from gs) (pair_at w.pairs.items n) c inside (subst (λ xs. Guard (known_from xs) (known_from xs) (pair_at w.pairs.items n) c) (sym cut.cut) (pair_guard es cut.place some_entry (pair_at w.pairs.items n) c cut.within (cut.decided some_entry) (subst (λ xs. silent (known_from xs) c ≡ true) cut.cut (quiet n c x)) (kept.1 n c x))) in
+    let calm : AllCalm v gs (citable f.constraints ms ++ Clause ls ∷ []) = each_more w v (citable f.constraints ms) (Clause ls) (λ p c. Calm gs p c) len a (λ n c x. pair_added (citable f.constraints ns) fs gs (pair_at w.pairs n) c more (pair_cut es fs cut.place (pair_at w.pairs n) c cut.cut (kept.1 n c x))) (pair_added (citable f.constraints ns) fs gs a.pair (Clause ls) more (new_calm es fs ls a.pair cut a.last)) in
+    let before : (n : ℕ) (c : Constraint) → slice_get (citable f.constraints ms) n ≡ Some c → Guard (known_from fs) (known_from gs) (pair_at w.pairs n) c = λ n c x. guard_more (known_from fs) (known_from fs) (known_from gs) (pair_at w.pairs n) c inside (subst (λ xs. Guard (known_from xs) (known_from xs) (pair_at w.pairs n) c) (sym cut.cut) (pair_guard es cut.place some_entry (pair_at w.pairs n) c cut.within (cut.decided some_entry) (subst (λ xs. silent (known_from xs) c ≡ true) cut.cut (quiet n c x)) (kept.1 n c x))) in
     let guard : AllGuard (known_from fs) (known_from gs) v (citable f.constraints ms ++ Clause ls ∷ []) = each_more w v (citable f.constraints ms) (Clause ls) (λ p c. Guard (known_from fs) (known_from gs) p c) len a before (new_guard fs (known_from fs) (known_from gs) ls a.pair cut.speaks a.last said) in
-    let short : ShortSet (known_from gs) v.shorts.items (citable f.constraints ms ++ Clause ls ∷ []) = λ n i ys x le. elim (push_case (citable f.constraints ms) (Clause ls) (Clause ys) n x) [
+    let short : ShortSet (known_from gs) (citable f.constraints ms ++ Clause ls ∷ []) = λ n ys x le. elim (push_case (citable f.constraints ms) (Clause ls) (Clause ys) n x) [
       | inl p ↦ firm_more (known_from fs) (known_from gs) ys inside (firm_of (known_from fs) ys le (quiet n (Clause ys) p.1))
       | inr p ↦ subst (Firm (known_from gs)) (same_lits ls ys p.1) (new_firm (known_from fs) (known_from gs) ls cut.speaks (subst (λ zs. length zs ≤ 1) (sym (same_lits ls ys p.1)) le) said)
     ] in
     let longer : v.seen ≤ length gs = omega (arith, seen, ap length spoke, length-append fs (hinted h (cut.speaks.last ∷ []))) in
-    ((fitting_more w v f ms ns m ls e g rows a kept.0, subst (AllCalm v gs) same calm), longer, subst (λ xs. AllGuard (known_from xs) (known_from gs) v (citable f.constraints ns)) (sym front) (subst (AllGuard (known_from fs) (known_from gs) v) same guard), inr (subst (ShortSet (known_from gs) v.shorts.items) same short))
+    ((fitting_more w v f ms ns m ls e g rows a kept.0, subst (AllCalm v gs) same calm), longer, subst (λ xs. AllGuard (known_from xs) (known_from gs) v (citable f.constraints ns)) (sym front) (subst (AllGuard (known_from fs) (known_from gs) v) same guard), inr (subst (ShortSet (known_from gs)) same short))
 
 -- what a clause makes true
 

@@ -34,20 +34,15 @@ lit_within n [] a w h = absurd (false≢true h)
 lit_within n (m ∷ ls) a w h =
     within_case n m a ls (same_lit m a) refl (All-head (λ l. (1 ≤ l.variable) × (l.variable ≤ n)) m ls w) (λ r. lit_within n ls a (All-tail (λ l. (1 ≤ l.variable) × (l.variable ≤ n)) m ls w) r) h
 
-any_default : (ps : List (Option Pair)) (i : ℕ) (a b : Option Pair) → i < length ps → get_or ps i a ≡ get_or ps i b
-any_default [] i a b low = absurd (omega arith)
-any_default (p ∷ ps) zero a b low = refl
-any_default (p ∷ ps) (suc i) a b low = any_default ps i a b (omega arith)
+pub pair_is : (ps : List (Option Pair)) (i : ℕ) (r : Option Pair) (p : Pair) → r ≡ pair_at ps i → r ≡ Some p → pair_at ps i ≡ Some p
+pair_is ps i r p e f = sym e ∙ f
 
-pub pair_is : (ps : List (Option Pair)) (i : ℕ) (r : Option Pair) (p : Pair) → i < length ps → r ≡ get_or ps i r → r ≡ Some p → pair_at ps i ≡ Some p
-pair_is ps i r p low e f = any_default ps i None r low ∙ (sym e ∙ f)
-
-pub beside_has : (ps : List (Option Pair)) (i : ℕ) (r : Option Pair) (p : Pair) (ls : List Lit) (l o : Lit) → i < length ps → r ≡ get_or ps i r → r ≡ Some p → IfPair (pair_at ps i) (λ p. Watches ls p.first p.second) → Beside p l o → has_lit ls o ≡ true
-beside_has ps i r p ls l o low e f w (inl b) =
-    let h : Watches ls p.first p.second = subst (λ x. IfPair x (λ p. Watches ls p.first p.second)) (pair_is ps i r p low e f) w in
+pub beside_has : (ps : List (Option Pair)) (i : ℕ) (r : Option Pair) (p : Pair) (ls : List Lit) (l o : Lit) → r ≡ pair_at ps i → r ≡ Some p → IfPair (pair_at ps i) (λ p. Watches ls p.first p.second) → Beside p l o → has_lit ls o ≡ true
+beside_has ps i r p ls l o e f w (inl b) =
+    let h : Watches ls p.first p.second = subst (λ x. IfPair x (λ p. Watches ls p.first p.second)) (pair_is ps i r p e f) w in
     ap (has_lit ls) (sym b.1) ∙ h.second
-beside_has ps i r p ls l o low e f w (inr b) =
-    let h : Watches ls p.first p.second = subst (λ x. IfPair x (λ p. Watches ls p.first p.second)) (pair_is ps i r p low e f) w in
+beside_has ps i r p ls l o e f w (inr b) =
+    let h : Watches ls p.first p.second = subst (λ x. IfPair x (λ p. Watches ls p.first p.second)) (pair_is ps i r p e f) w in
     ap (has_lit ls) (sym b.1) ∙ h.first
 
 pub row_low : (n r : ℕ) (l : Lit) → l.variable ≤ n → n * 2 + 2 ≤ r → row_of l < r

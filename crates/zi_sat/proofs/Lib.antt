@@ -21,6 +21,7 @@ pub mod PlaceLaws
 pub mod LearnLaws
 pub mod WatchLaws
 pub mod RowLaws
+pub mod PairLaws
 pub mod GuardLaws
 pub mod VisitLaws
 pub mod SettleLaws

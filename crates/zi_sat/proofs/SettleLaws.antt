@@ -1,14 +1,14 @@
 -- Going over the trail: what was looked at stays so, and all is silent once all was.
-use Rattle.std.proofs.Common.{◌≡◌, ℕ, suc, ◌<◌, ◌≤◌, ◌+◌, ◌&&◌, Bool, true, false, cond, eqb, List, [], ◌∷◌, ◌++◌, length, length-append, get_or, drop, take, refl, sym, ap, ◌∙◌, subst, arith, Option, Some, None, ◌⊎◌, inl, inr}
+use Rattle.std.proofs.Common.{◌≡◌, ℕ, suc, ◌<◌, ◌≤◌, ◌+◌, ◌&&◌, Bool, true, false, cond, eqb, List, [], ◌∷◌, ◌++◌, length, length-append, get_or, take, refl, sym, ap, ◌∙◌, subst, arith, Option, Some, None, is_some, inl, inr}
 use Rattle.std.specs.List.{slice_get}
-use Rattle.std.proofs.lemmas.Bool.{false≢true}
+use Rattle.std.proofs.lemmas.Bool.{false≢true, cases_eq}
 use Rattle.std.proofs.lemmas.List.{take-append-le}
 use Rattle.zi_sat.proofs.CountLaws.{eqb_self}
 use Rattle.zi_formula.specs.declared.formula.Lit.{Lit}
 use Rattle.zi_formula.specs.declared.formula.Formula.{Formula}
 use Rattle.zi_formula.specs.declared.formula.Constraint.{Constraint}
 use Rattle.zi_formula.specs.declared.formula.Constraint.TheVariants.{Clause, AtMostOne}
-use Rattle.zi_formula.specs.Form.{has_lit, OnceAll}
+use Rattle.zi_formula.specs.Form.{same_lit, has_lit, OnceAll}
 use Rattle.zi_proof.specs.declared.proof.Lemma.{Lemma}
 use Rattle.zi_proof.specs.Accepted.{citable}
 use Rattle.zi_proof.specs.Known.{Known, nothing, put, is_true, is_false, Fails, Goes, by_standing}
@@ -19,14 +19,14 @@ use Rattle.zi_sat.specs.Trail.{lits_of, known_from, OpenAll, fails, silent, all_
 use Rattle.zi_sat.specs.Moves.{Added, entries_of}
 use Rattle.zi_sat.specs.Marking.{Inside}
 use Rattle.zi_sat.specs.Rows.{In, Has}
-use Rattle.zi_sat.specs.Guard.{pair_at, Held, Looked, Guard, Each, AllGuard, AllCalm, Firm, ShortSet, Ready}
+use Rattle.zi_sat.specs.Watching.{Watches}
+use Rattle.zi_sat.specs.Guard.{pair_at, HeldPair, Held, Looked, Guard, Each, AllGuard, AllCalm, Firm, ShortSet, Ready}
 use Rattle.zi_sat.proofs.GroupLaws.{In as InGroup}
-use Rattle.zi_sat.proofs.FreshStep.{lit_self}
+use Rattle.zi_sat.proofs.FreshStep.{lit_self, lits_same}
 use Rattle.zi_sat.proofs.FreshLaws.{put_self, learn_extends, open_back}
 use Rattle.zi_sat.proofs.TrailLaws.{known-append, lits-append}
 use Rattle.zi_sat.proofs.LessLaws.{says_within}
 use Rattle.zi_sat.proofs.ReachLaws.{known_next, front_inside, take_whole}
-use Rattle.zi_sat.proofs.RowLaws.{in_drop}
 use Rattle.zi_sat.proofs.WatchLaws.{Looked as LookedGroup, looked_silent, quiet_silent, true_silent}
 use Rattle.zi_sat.proofs.GuardLaws.{once_at}
 use Rattle.zi_sat.specs.declared.entry.Why.TheVariants.{Decision}
@@ -51,23 +51,36 @@ firm_silent : (k : Known) (ls : List Lit) → Firm k ls → silent k (Clause ls)
 firm_silent k [] f = absurd f
 firm_silent k (l ∷ ls) f = true_silent k l (l ∷ ls) (ap (λ b. cond b true (has_lit ls l)) (lit_self l)) f
 
-abbrev pub Left : List Constraint → Known → List ℕ → ℕ → ℕ → Type 0
-Left all k sh i n = In n (drop i sh) ⊎ ((ls : List Lit) → slice_get all n ≡ Some (Clause ls) → length ls ≤ 1 → Firm k ls)
+-- those up to a place
+abbrev pub ShortsTo : List Constraint → Known → ℕ → Type 0
+ShortsTo all k i = (n : ℕ) → n < i → (ls : List Lit) → slice_get all n ≡ Some (Clause ls) → length ls ≤ 1 → Firm k ls
 
-pub shorts_step : (all : List Constraint) (sh xs : List ℕ) (i : ℕ) (k g : Known) → xs ≡ sh → i < length xs → Inside k g → ((c : Constraint) → slice_get all (get_or xs i 0) ≡ Some c → silent g c ≡ true) → ((n : ℕ) → In n sh → Left all k sh i n) → (n : ℕ) → In n sh → Left all g sh (i + 1) n
-shorts_step all sh xs i k g e low w s f n h =
-    elim (f n h) [
-      | inl d ↦ elim (in_drop sh i 0 n (omega (arith, low, ap length e)) d) [
-        | inl same ↦ inr (λ ls a b. firm_of g ls b (s (Clause ls) (subst (λ m. slice_get all m ≡ Some (Clause ls)) (same ∙ ap (λ ys. get_or ys i 0) (sym e)) a)))
-        | inr r ↦ inl r
-      ]
-      | inr r ↦ inr (λ ls a b. firm_more k g ls w (r ls a b))
+pub shorts_step : (all : List Constraint) (i : ℕ) (k g : Known) → Inside k g → ((ls : List Lit) → slice_get all i ≡ Some (Clause ls) → length ls ≤ 1 → silent g (Clause ls) ≡ true) → ShortsTo all k i → ShortsTo all g (i + 1)
+shorts_step all i k g w s f n low ls a b =
+    elim (cases_eq n i) [
+      | inl same ↦ firm_of g ls b (s ls (subst (λ m. slice_get all m ≡ Some (Clause ls)) same a) b)
+      | inr other ↦ let before : n < i = omega (arith, low, other) in firm_more k g ls w (f n before ls a b)
     ]
+
+-- a clause that watches two of its literals isn't short
+pub watched_long : (ls : List Lit) (a b : Lit) → Watches ls a b → length ls ≤ 1 → ⊥
+watched_long [] a b w le = false≢true w.first
+watched_long (l ∷ []) a b w le = alone (same_lit l a) (same_lit l b) refl refl w.first w.second
+  where
+    alone : (p q : Bool) → same_lit l a ≡ p → same_lit l b ≡ q → cond p true false ≡ true → cond q true false ≡ true → ⊥
+    alone true true e f x y = false≢true (sym w.apart ∙ (ap (λ v. same_lit v b) (sym (lits_same l a e)) ∙ f))
+    alone true false e f x y = false≢true y
+    alone false q e f x y = false≢true x
+watched_long (l ∷ m ∷ ls) a b w le = absurd (omega (arith, le))
+
+pub held_long : (h : ℕ → ℕ → Type 0) (n : ℕ) (ls : List Lit) (p : Option Pair) → HeldPair h n ls p → is_some p ≡ true → length ls ≤ 1 → ⊥
+held_long h n ls None d e le = false≢true e
+held_long h n ls (Some p) d e le = watched_long ls p.first p.second d.0 le
 
 -- more entries
 
-pub shorts_more : (k g : Known) (sh : List ℕ) (all : List Constraint) → Inside k g → ShortSet k sh all → ShortSet g sh all
-shorts_more k g sh all i s = λ n h ls e b. firm_more k g ls i (s n h ls e b)
+pub shorts_more : (k g : Known) (all : List Constraint) → Inside k g → ShortSet k all → ShortSet g all
+shorts_more k g all i s = λ n ls e b. firm_more k g ls i (s n ls e b)
 
 take_more : (es fs gs : List Entry) (s : ℕ) → fs ≡ es ++ gs → s ≤ length es → take s fs ≡ take s es
 take_more es fs gs s e h = ap (take s) e ∙ take-append-le s es gs h
@@ -76,11 +89,11 @@ pub seen_more : (es fs gs : List Entry) (s : ℕ) → fs ≡ es ++ gs → s ≤ 
 seen_more es fs gs s e h = omega (arith, ap length e, length-append es gs, h)
 
 guards_more : (w : Lists) (all : List Constraint) (es fs gs : List Entry) (s : ℕ) → fs ≡ es ++ gs → s ≤ length es → Inside (known_from es) (known_from fs) → AllGuard (known_from (take s es)) (known_from es) w all → AllGuard (known_from (take s fs)) (known_from fs) w all
-guards_more w all es fs gs s e h i g = λ n c x. subst (λ ds. Guard (known_from ds) (known_from fs) (pair_at w.pairs.items n) c) (sym (take_more es fs gs s e h)) (guard_more (known_from (take s es)) (known_from es) (known_from fs) (pair_at w.pairs.items n) c i (g n c x))
+guards_more w all es fs gs s e h i g = λ n c x. subst (λ ds. Guard (known_from ds) (known_from fs) (pair_at w.pairs n) c) (sym (take_more es fs gs s e h)) (guard_more (known_from (take s es)) (known_from es) (known_from fs) (pair_at w.pairs n) c i (g n c x))
 
 ready_longer : (w : Lists) (f : Formula) (ms : List Lemma) (es fs gs : List Entry) → fs ≡ es ++ gs → Inside (known_from es) (known_from fs) → AllCalm w fs (citable f.constraints ms) → Ready w f ms es → Ready w f ms fs
 ready_longer w f ms es fs gs e i h r =
-    ((r.0.0, h), seen_more es fs gs w.seen e r.1, guards_more w (citable f.constraints ms) es fs gs w.seen e r.1 i r.2, elim r.3 [ inl z ↦ inl z | inr s ↦ inr (shorts_more (known_from es) (known_from fs) w.shorts.items (citable f.constraints ms) i s) ])
+    ((r.0.0, h), seen_more es fs gs w.seen e r.1, guards_more w (citable f.constraints ms) es fs gs w.seen e r.1 i r.2, elim r.3 [ inl z ↦ inl z | inr s ↦ inr (shorts_more (known_from es) (known_from fs) (citable f.constraints ms) i s) ])
 
 pub ready_added : (w : Lists) (f : Formula) (ms : List Lemma) (es fs : List Entry) → Added (citable f.constraints ms) es fs → OpenAll nothing (lits_of fs) → Ready w f ms es → Ready w f ms fs
 ready_added w f ms es fs a o r =
@@ -109,20 +122,20 @@ group_in x (y ∷ ys) (inr i) = inr (group_in x ys i)
 group_looked : (k : Known) (xs : List ℕ) → Looked k k xs → LookedGroup k k xs
 group_looked k xs l = λ x y i j e n. l x y (group_in x xs i) (group_in y xs j) e (λ same. false≢true (sym n ∙ (ap (λ z. eqb z x) same ∙ eqb_self x)))
 
-held_silent : (sh : List ℕ) (h : ℕ → ℕ → Type 0) (k : Known) (all : List Constraint) (n : ℕ) (p : Option Pair) (c : Constraint) → OnceAll all → slice_get all n ≡ Some c → ShortSet k sh all → Held sh h n p c → Guard k k p c → silent k c ≡ true
-held_silent sh h k all n None (Clause ls) o e s d g = firm_silent k ls (s n d.0 ls e d.1)
-held_silent sh h k all n (Some p) (Clause ls) o e s d g = quiet_silent k p.first p.second ls d.0 g
-held_silent sh h k all n p (AtMostOne xs) o e s d g = looked_silent k xs (once_at all n (AtMostOne xs) o e) (group_looked k xs g)
+held_silent : (h : ℕ → ℕ → Type 0) (k : Known) (all : List Constraint) (n : ℕ) (p : Option Pair) (c : Constraint) → OnceAll all → slice_get all n ≡ Some c → ShortSet k all → Held h n p c → Guard k k p c → silent k c ≡ true
+held_silent h k all n None (Clause ls) o e s d g = firm_silent k ls (s n ls e d)
+held_silent h k all n (Some p) (Clause ls) o e s d g = quiet_silent k p.first p.second ls d.0 g
+held_silent h k all n p (AtMostOne xs) o e s d g = looked_silent k xs (once_at all n (AtMostOne xs) o e) (group_looked k xs g)
 
 each_silent : (k : Known) (all : List Constraint) → Each all (λ n c. silent k c ≡ true) → all_silent k all ≡ true
 each_silent k [] s = refl
 each_silent k (c ∷ cs) s = ap (λ b. b && all_silent k cs) (s 0 c refl) ∙ each_silent k cs (λ n d e. s (suc n) d e)
 
-pub ready_silent : (w : Lists) (f : Formula) (ms : List Lemma) (es : List Entry) → OnceAll (citable f.constraints ms) → Ready w f ms es → length es ≤ w.seen → ShortSet (known_from es) w.shorts.items (citable f.constraints ms) → all_silent (known_from es) (citable f.constraints ms) ≡ true
+pub ready_silent : (w : Lists) (f : Formula) (ms : List Lemma) (es : List Entry) → OnceAll (citable f.constraints ms) → Ready w f ms es → length es ≤ w.seen → ShortSet (known_from es) (citable f.constraints ms) → all_silent (known_from es) (citable f.constraints ms) ≡ true
 ready_silent w f ms es o r h s =
     let n : w.seen ≡ length es = omega (arith, h, r.1) in
     let t : take w.seen es ≡ es = ap (λ i. take i es) n ∙ take_whole es in
-    each_silent (known_from es) (citable f.constraints ms) (λ n c e. held_silent w.shorts.items (Has w.rows.items) (known_from es) (citable f.constraints ms) n (pair_at w.pairs.items n) c o e s (r.0.0.0 n c e) (subst (λ ds. Guard (known_from ds) (known_from es) (pair_at w.pairs.items n) c) t (r.2 n c e)))
+    each_silent (known_from es) (citable f.constraints ms) (λ n c e. held_silent (Has w.rows.items) (known_from es) (citable f.constraints ms) n (pair_at w.pairs n) c o e s (r.0.0.0 n c e) (subst (λ ds. Guard (known_from ds) (known_from es) (pair_at w.pairs n) c) t (r.2 n c e)))
 
 all_guarded : (w : Lists) (f : Formula) (ms : List Lemma) (es : List Entry) → w.seen ≡ length es → Ready w f ms es → AllGuard (known_from es) (known_from es) w (citable f.constraints ms)
 all_guarded w f ms es n r =

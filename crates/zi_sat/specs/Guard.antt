@@ -42,14 +42,14 @@ abbrev pub Lacks : Pair → Lit → Type 0
 Lacks p l = (p.first ≡ l → ⊥) × (p.second ≡ l → ⊥)
 
 -- What a constraint of number n needs of the lists: a clause of two literals or more stands in the rows of the two that it
--- watches, one with fewer among the short ones, and a group in the rows of the opposites of all its variables.
-abbrev pub HeldPair : List ℕ → (ℕ → ℕ → Type 0) → ℕ → List Lit → Option Pair → Type 0
-HeldPair short has n ls None = In n short × (length ls ≤ 1)
-HeldPair short has n ls (Some p) = Watches ls p.first p.second × has (row_of p.first) n × has (row_of p.second) n
+-- watches, one with fewer in none, and a group in the rows of the opposites of all its variables.
+abbrev pub HeldPair : (ℕ → ℕ → Type 0) → ℕ → List Lit → Option Pair → Type 0
+HeldPair has n ls None = length ls ≤ 1
+HeldPair has n ls (Some p) = Watches ls p.first p.second × has (row_of p.first) n × has (row_of p.second) n
 
-abbrev pub Held : List ℕ → (ℕ → ℕ → Type 0) → ℕ → Option Pair → Constraint → Type 0
-Held short has n p (Clause ls) = HeldPair short has n ls p
-Held short has n p (AtMostOne xs) = (x : ℕ) → In x xs → has (row_of (denied x)) n
+abbrev pub Held : (ℕ → ℕ → Type 0) → ℕ → Option Pair → Constraint → Type 0
+Held has n p (Clause ls) = HeldPair has n ls p
+Held has n p (AtMostOne xs) = (x : ℕ) → In x xs → has (row_of (denied x)) n
 
 -- Where a variable of a group was looked at while true, the others are false.
 abbrev pub Looked : Known → Known → List ℕ → Type 0
@@ -95,10 +95,10 @@ abbrev pub Each : List Constraint → (ℕ → Constraint → Type 0) → Type 0
 Each all P = (n : ℕ) (c : Constraint) → slice_get all n ≡ Some c → P n c
 
 abbrev pub AllHeld : Lists → List Constraint → Type 0
-AllHeld w all = Each all (λ n c. Held w.shorts.items (Has w.rows.items) n (pair_at w.pairs.items n) c)
+AllHeld w all = Each all (λ n c. Held (Has w.rows.items) n (pair_at w.pairs n) c)
 
 abbrev pub AllGuard : Known → Known → Lists → List Constraint → Type 0
-AllGuard q k w all = Each all (λ n c. Guard q k (pair_at w.pairs.items n) c)
+AllGuard q k w all = Each all (λ n c. Guard q k (pair_at w.pairs n) c)
 
 -- before each decision of the trail the pair was quiet
 abbrev pub CalmPair : List Entry → Option Pair → Type 0
@@ -110,7 +110,7 @@ Calm es p (Clause ls) = CalmPair es p
 Calm es p (AtMostOne xs) = Unit {0}
 
 abbrev pub AllCalm : Lists → List Entry → List Constraint → Type 0
-AllCalm w es all = Each all (λ n c. Calm es (pair_at w.pairs.items n) c)
+AllCalm w es all = Each all (λ n c. Calm es (pair_at w.pairs n) c)
 
 -- while the row r is gone over: what is left of it counts too
 abbrev pub HasOr : List (Vec ℕ Global) → ℕ → List ℕ → ℕ → ℕ → Type 0
@@ -121,13 +121,13 @@ abbrev pub Firm : Known → List Lit → Type 0
 Firm k [] = ⊥
 Firm k (l ∷ ls) = is_true k l ≡ true
 
-abbrev pub ShortSet : Known → List ℕ → List Constraint → Type 0
-ShortSet k short all = (n : ℕ) → In n short → (ls : List Lit) → slice_get all n ≡ Some (Clause ls) → length ls ≤ 1 → Firm k ls
+abbrev pub ShortSet : Known → List Constraint → Type 0
+ShortSet k all = (n : ℕ) (ls : List Lit) → slice_get all n ≡ Some (Clause ls) → length ls ≤ 1 → Firm k ls
 
 -- the lists fit the constraints and lemmas
 abbrev pub Fitting : Lists → Formula → List Lemma → Type 0
 Fitting w f ms =
-    AllHeld w (citable f.constraints ms) × (length w.pairs.items ≡ length f.constraints + length ms) × (f.variables * 2 + 2 ≤ length w.rows.items)
+    AllHeld w (citable f.constraints ms) × (length w.pairs ≡ length f.constraints + length ms) × (f.variables * 2 + 2 ≤ length w.rows.items)
 
 -- and nothing has to be looked at for the entries before a decision, where the trail goes back to it
 abbrev pub Steady : Lists → Formula → List Lemma → List Entry → Type 0
@@ -137,7 +137,7 @@ Steady w f ms es = Fitting w f ms × AllCalm w es (citable f.constraints ms)
 abbrev pub Ready : Lists → Formula → List Lemma → List Entry → Type 0
 Ready w f ms es =
     Steady w f ms es × (w.seen ≤ length es) × AllGuard (known_from (take w.seen es)) (known_from es) w (citable f.constraints ms)
-    × ((w.seen ≡ 0) ⊎ ShortSet (known_from es) w.shorts.items (citable f.constraints ms))
+    × ((w.seen ≡ 0) ⊎ ShortSet (known_from es) (citable f.constraints ms))
 
 -- a clause watches its last two
 abbrev pub LastTwo : Constraint → Option Pair → Type 0
@@ -148,8 +148,7 @@ LastTwo (AtMostOne xs) p = Unit {0}
 -- one constraint more is held
 pub record Adds (w v : Lists) (c : Constraint) : Type 0 where
   pub pair : Option Pair
-  pub pairs : v.pairs.items ≡ w.pairs.items ++ pair ∷ []
-  pub held : Held v.shorts.items (Has v.rows.items) (length w.pairs.items) pair c
+  pub pairs : v.pairs ≡ w.pairs ++ pair ∷ []
+  pub held : Held (Has v.rows.items) (length w.pairs) pair c
   pub last : LastTwo c pair
   pub grows : (q m : ℕ) → Has w.rows.items q m → Has v.rows.items q m
-  pub shorts : (m : ℕ) → In m w.shorts.items → In m v.shorts.items

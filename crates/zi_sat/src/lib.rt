@@ -19,6 +19,7 @@ mod kept;
 mod look;
 mod mark;
 mod pair;
+mod pairs;
 mod propagation;
 mod rounds;
 mod rows;

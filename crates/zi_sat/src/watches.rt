@@ -27,6 +27,7 @@ ghost use Rattle.zi_formula.specs.declared.formula.Constraint.TheVariants.{Claus
 use crate::entry::Why;
 use crate::look::{is_clause_silent, is_silent, take_clause};
 use crate::pair::{Pair, other_of, row};
+use crate::pairs::Pairs;
 use crate::propagation::take_constraint;
 use crate::rows::{add, empty_rows, put_back, take_row};
 use crate::trail::Trail;
@@ -41,9 +42,7 @@ pub(crate) struct Watches {
     // By literal, the places of what watches it.
     rows: Vec<Vec<u32>>,
     // By place, the two that a clause watches.
-    pairs: Vec<Option<Pair>>,
-    // The places of the clauses with fewer than two literals.
-    shorts: Vec<u32>,
+    pairs: Pairs,
     // How many entries were looked at.
     seen: u32,
 }
@@ -68,7 +67,7 @@ pub(crate) fn exhaust(c: Lent<'_>, hint: u32, t: &mut Trail) -> Result<bool, Mem
 // Looks at a clause where the literal became false.
 fn visit_clause(
     rows: &mut Vec<Vec<u32>>,
-    pairs: &mut Vec<Option<Pair>>,
+    pairs: &mut Pairs,
     lits: &[Lit],
     i: u32,
     l: Lit,
@@ -77,19 +76,19 @@ fn visit_clause(
     requires within { LitsWithin t.old.variables lits.now }
     requires once { Once lits.now }
     requires few { i + 1 < 2 ^ 32 }
-    requires low { i < length pairs.old.items }
+    requires low { i < length pairs.old }
     requires rows { t.old.variables * 2 + 2 ≤ length rows.old.items }
     requires high { l.variable ≤ t.old.variables }
-    requires pair { IfPair (pair_at pairs.old.items i) (λ p. WatchesPair lits.now p.first p.second) }
+    requires pair { IfPair (pair_at pairs.old i) (λ p. WatchesPair lits.now p.first p.second) }
     ensures variables { t.new.variables ≡ t.old.variables }
     ensures len { length rows.new.items ≡ length rows.old.items }
     ensures grows { (q m : ℕ) → Has rows.old.items q m → Has rows.new.items q m }
-    ensures pairs { length pairs.new.items ≡ length pairs.old.items }
-    ensures others { (n : ℕ) → n ≢ i → pair_at pairs.new.items n ≡ pair_at pairs.old.items n }
+    ensures pairs { length pairs.new ≡ length pairs.old }
+    ensures others { (n : ℕ) → n ≢ i → pair_at pairs.new n ≡ pair_at pairs.old n }
     ensures added { (all : List AnyConstraint) → cited all (i + 1) ≡ Some (Clause lits.now) → Added all t.old.entries t.new.entries }
-    ensures looks { Looks (Clause lits.now) l (known_from t.new.entries) (λ r. Has rows.new.items r i) (pair_at pairs.old.items i) (pair_at pairs.new.items i) result }
+    ensures looks { Looks (Clause lits.now) l (known_from t.new.entries) (λ r. Has rows.new.items r i) (pair_at pairs.old i) (pair_at pairs.new i) result }
 {
-    let other = match pairs[i as usize] {
+    let other = match pairs.at(i as usize) {
         None => return Ok(false),
         Some(pair) => match other_of(pair, l) {
             None => return Ok(false),
@@ -99,10 +98,11 @@ fn visit_clause(
     match look_at(lits, other, t) {
         Look::Moves(m) => {
             add(rows, row(m), i)?;
-            pairs[i as usize] = Some(Pair {
+            let pair = Pair {
                 first: m,
                 second: other,
-            });
+            };
+            pairs.put(i as usize, pair);
             Ok(false)
         }
         Look::Stays => {
@@ -147,7 +147,7 @@ fn visit_group(
 // Looks at the constraint or lemma at a place, where the literal became false.
 fn visit_one(
     rows: &mut Vec<Vec<u32>>,
-    pairs: &mut Vec<Option<Pair>>,
+    pairs: &mut Pairs,
     f: &Formula,
     lemmas: &[Lemma],
     i: u32,
@@ -160,17 +160,17 @@ fn visit_one(
     requires same { t.old.variables ≡ f.now.variables }
     requires few { length f.now.constraints + length lemmas.now < 2 ^ 32 }
     requires low { i < length f.now.constraints + length lemmas.now }
-    requires paired { length pairs.old.items ≡ length f.now.constraints + length lemmas.now }
+    requires paired { length pairs.old ≡ length f.now.constraints + length lemmas.now }
     requires rows { f.now.variables * 2 + 2 ≤ length rows.old.items }
     requires high { l.variable ≤ f.now.variables }
-    requires pair { (ls : List AnyLit) → slice_get (citable f.now.constraints lemmas.now) i ≡ Some (Clause ls) → IfPair (pair_at pairs.old.items i) (λ p. WatchesPair ls p.first p.second) }
+    requires pair { (ls : List AnyLit) → slice_get (citable f.now.constraints lemmas.now) i ≡ Some (Clause ls) → IfPair (pair_at pairs.old i) (λ p. WatchesPair ls p.first p.second) }
     ensures variables { t.new.variables ≡ t.old.variables }
     ensures len { length rows.new.items ≡ length rows.old.items }
     ensures grows { (q m : ℕ) → Has rows.old.items q m → Has rows.new.items q m }
-    ensures pairs { length pairs.new.items ≡ length pairs.old.items }
-    ensures others { (n : ℕ) → n ≢ i → pair_at pairs.new.items n ≡ pair_at pairs.old.items n }
+    ensures pairs { length pairs.new ≡ length pairs.old }
+    ensures others { (n : ℕ) → n ≢ i → pair_at pairs.new n ≡ pair_at pairs.old n }
     ensures added { Added (citable f.now.constraints lemmas.now) t.old.entries t.new.entries }
-    ensures looks { (c : AnyConstraint) → slice_get (citable f.now.constraints lemmas.now) i ≡ Some c → Looks c l (known_from t.new.entries) (λ r. Has rows.new.items r i) (pair_at pairs.old.items i) (pair_at pairs.new.items i) result }
+    ensures looks { (c : AnyConstraint) → slice_get (citable f.now.constraints lemmas.now) i ≡ Some c → Looks c l (known_from t.new.entries) (λ r. Has rows.new.items r i) (pair_at pairs.old i) (pair_at pairs.new i) result }
 {
     let count = f.constraints.len();
     let place = i as usize;
@@ -199,7 +199,7 @@ fn visit(
     requires once { OnceAll (citable f.now.constraints lemmas.now) }
     requires same { t.old.variables ≡ f.now.variables }
     requires few { length f.now.constraints + length lemmas.now < 2 ^ 32 }
-    requires paired { length w.old.pairs.items ≡ length f.now.constraints + length lemmas.now }
+    requires paired { length w.old.pairs ≡ length f.now.constraints + length lemmas.now }
     requires rows { f.now.variables * 2 + 2 ≤ length w.old.rows.items }
     requires high { l.variable ≤ f.now.variables }
     requires off { is_false (known_from t.old.entries) l ≡ true }
@@ -207,8 +207,7 @@ fn visit(
     requires calm { AllCalm w.old t.old.entries (citable f.now.constraints lemmas.now) }
     ensures variables { t.new.variables ≡ t.old.variables }
     ensures len { length w.new.rows.items ≡ length w.old.rows.items }
-    ensures pairs { length w.new.pairs.items ≡ length w.old.pairs.items }
-    ensures shorts { w.new.shorts ≡ w.old.shorts }
+    ensures pairs { length w.new.pairs ≡ length w.old.pairs }
     ensures seen { w.new.seen ≡ w.old.seen }
     ensures added { Added (citable f.now.constraints lemmas.now) t.old.entries t.new.entries }
     ensures held { IfOk result (λ r. AllHeld w.new (citable f.now.constraints lemmas.now)) }
@@ -281,23 +280,24 @@ fn look_shorts(
     requires earlier { lemmas_within f.now.variables lemmas.now ≡ true }
     requires same { t.old.variables ≡ f.now.variables }
     requires few { length f.now.constraints + length lemmas.now < 2 ^ 32 }
-    requires paired { length w.now.pairs.items ≡ length f.now.constraints + length lemmas.now }
-    requires short { (w.now.seen ≡ 0) ⊎ ShortSet (known_from t.old.entries) w.now.shorts.items (citable f.now.constraints lemmas.now) }
+    requires paired { length w.now.pairs ≡ length f.now.constraints + length lemmas.now }
+    requires held { AllHeld w.now (citable f.now.constraints lemmas.now) }
+    requires short { (w.now.seen ≡ 0) ⊎ ShortSet (known_from t.old.entries) (citable f.now.constraints lemmas.now) }
     ensures variables { t.new.variables ≡ t.old.variables }
     ensures added { Added (citable f.now.constraints lemmas.now) t.old.entries t.new.entries }
-    ensures short { IfOk result (λ r. IfNone r (ShortSet (known_from t.new.entries) w.now.shorts.items (citable f.now.constraints lemmas.now))) }
+    ensures short { IfOk result (λ r. IfNone r (ShortSet (known_from t.new.entries) (citable f.now.constraints lemmas.now))) }
     ensures clash { IfOk result (λ r. IfSome r (λ h. step_cited (known_from t.new.entries) (cited (citable f.now.constraints lemmas.now) h) ≡ Contradiction)) }
 {
     if w.seen != 0 {
         return Ok(None);
     }
     t.are_new();
-    for i in w.shorts.as_slice() {
-        if (*i as usize) >= w.pairs.len() {
+    for i in 0..w.pairs.len() {
+        if w.pairs.at(i).is_some() {
             continue;
         }
-        if exhaust_one(f, lemmas, *i, t)? {
-            return Ok(Some(*i + 1));
+        if exhaust_one(f, lemmas, i as u32, t)? {
+            return Ok(Some(i as u32 + 1));
         }
         t.are_new();
     }
@@ -344,13 +344,12 @@ pub(crate) fn settle(
 // No constraint, over so many variables.
 pub(crate) fn no_watches(alloc: Global, n: u32) -> Result<Watches, Memory>
     ensures rows { IfOk result (λ w. n * 2 + 2 ≤ length w.rows.items) }
-    ensures pairs { IfOk result (λ w. w.pairs.items ≡ []) }
+    ensures pairs { IfOk result (λ w. w.pairs ≡ []) }
     ensures seen { IfOk result (λ w. w.seen ≡ 0) }
 {
     Ok(Watches {
         rows: empty_rows(alloc, n as usize * 2 + 2)?,
-        pairs: Vec::new(alloc),
-        shorts: Vec::new(alloc),
+        pairs: Pairs::new(alloc),
         seen: 0,
     })
 }
@@ -359,7 +358,6 @@ pub(crate) fn no_watches(alloc: Global, n: u32) -> Result<Watches, Memory>
 pub(crate) fn cut_to(w: &mut Watches, len: u32)
     ensures rows { w.new.rows ≡ w.old.rows }
     ensures pairs { w.new.pairs ≡ w.old.pairs }
-    ensures shorts { w.new.shorts ≡ w.old.shorts }
     ensures seen { w.new.seen ≡ len }
 {
     w.seen = len;
@@ -370,7 +368,7 @@ pub(crate) fn add_clause(w: &mut Watches, n: u32, lits: &[Lit]) -> Result<(), Me
     requires within { LitsWithin n lits.now }
     requires once { Once lits.now }
     requires rows { n * 2 + 2 ≤ length w.old.rows.items }
-    requires few { length w.old.pairs.items < 2 ^ 32 }
+    requires few { length w.old.pairs < 2 ^ 32 }
     ensures len { length w.new.rows.items ≡ length w.old.rows.items }
     ensures seen { w.new.seen ≡ w.old.seen }
     ensures adds { OnOk result (Adds w.old w.new (Clause lits.now)) }
@@ -378,15 +376,14 @@ pub(crate) fn add_clause(w: &mut Watches, n: u32, lits: &[Lit]) -> Result<(), Me
     let i = w.pairs.len() as u32;
     let len = lits.len();
     if len < 2 {
-        w.shorts.push(i)?;
-        w.pairs.push(None)?;
+        w.pairs.push_none()?;
         return Ok(());
     }
     let first = lits[len - 1];
     let second = lits[len - 2];
     add(&mut w.rows, row(first), i)?;
     add(&mut w.rows, row(second), i)?;
-    w.pairs.push(Some(Pair { first, second }))?;
+    w.pairs.push(Pair { first, second })?;
     Ok(())
 }
 
@@ -394,7 +391,7 @@ pub(crate) fn add_clause(w: &mut Watches, n: u32, lits: &[Lit]) -> Result<(), Me
 fn add_group(w: &mut Watches, n: u32, variables: &[u32]) -> Result<(), Memory>
     requires within { VarsWithin n variables.now }
     requires rows { n * 2 + 2 ≤ length w.old.rows.items }
-    requires few { length w.old.pairs.items < 2 ^ 32 }
+    requires few { length w.old.pairs < 2 ^ 32 }
     ensures len { length w.new.rows.items ≡ length w.old.rows.items }
     ensures seen { w.new.seen ≡ w.old.seen }
     ensures adds { OnOk result (Adds w.old w.new (AtMostOne variables.now)) }
@@ -407,7 +404,7 @@ fn add_group(w: &mut Watches, n: u32, variables: &[u32]) -> Result<(), Memory>
         };
         add(&mut w.rows, row(denied), i)?;
     }
-    w.pairs.push(None)?;
+    w.pairs.push_none()?;
     Ok(())
 }
 
@@ -416,7 +413,7 @@ fn add_constraint(w: &mut Watches, n: u32, c: Lent<'_>) -> Result<(), Memory>
     requires within { ConstraintWithin n (shows c) }
     requires once { ItemsOnce (shows c) }
     requires rows { n * 2 + 2 ≤ length w.old.rows.items }
-    requires few { length w.old.pairs.items < 2 ^ 32 }
+    requires few { length w.old.pairs < 2 ^ 32 }
     ensures len { length w.new.rows.items ≡ length w.old.rows.items }
     ensures seen { w.new.seen ≡ w.old.seen }
     ensures adds { OnOk result (Adds w.old w.new (shows c.entry)) }
@@ -448,7 +445,7 @@ pub(crate) fn watch_last(w: &mut Watches, n: u32, lemmas: &[Lemma]) -> Result<()
     requires filled { Filled lemmas.now }
     requires some { 0 < length lemmas.now }
     requires rows { n * 2 + 2 ≤ length w.old.rows.items }
-    requires few { length w.old.pairs.items < 2 ^ 32 }
+    requires few { length w.old.pairs < 2 ^ 32 }
     ensures len { length w.new.rows.items ≡ length w.old.rows.items }
     ensures seen { w.new.seen ≡ w.old.seen }
     ensures adds { OnOk result ((d : AnyLemma) → Adds w.old w.new (Clause (slice_index_or lemmas.now (length lemmas.now - 1) d).lits)) }

@@ -10,9 +10,8 @@ loop-x-preserved c =
       c.add.ensures.len ∙ i.0,
       i.1,
       i.2,
-      i.3,
-      λ q m h. c.add.ensures.grows q m (i.4 q m h),
-      λ x h. elim (i.5 x h) [
+      λ q m h. c.add.ensures.grows q m (i.3 q m h),
+      λ x h. elim (i.4 x h) [
         | inl a ↦ inl (c.add.ensures.grows (row_of (denied x)) c.len-i.result a)
         | inr d ↦ elim (in_drop c.args.variables.now c.loop-x.x-index 0 x c.loop-x-test.true d) [
           | inl e ↦ inl (subst (λ y. Has c.add.new.rows.items (row_of (denied y)) c.len-i.result) (sym e) (subst (λ r. Has c.add.new.rows.items r c.len-i.result) c.row.ensures c.in_ok-add.ensures.ok))

@@ -51,7 +51,7 @@ loop-w-preserved c =
     let lit : opposite c.opposite-l.result ≡ (get_or c.loop-w.t.entries c.loop-w.w.seen c.entry.result).lit = ap opposite c.opposite-l.ensures ∙ (opposite_twice c.entry.result.lit ∙ ap (λ e. e.lit) c.entry.ensures) in
     let next : AllGuard (put (known_from (take c.loop-w.w.seen c.loop-w.t.entries)) (get_or c.loop-w.t.entries c.loop-w.w.seen c.entry.result).lit) (known_from c.visit.new.t.entries) c.visit.new.w (citable c.args.f.now.constraints c.args.lemmas.now) = subst (λ l. AllGuard (put (known_from (take c.loop-w.w.seen c.loop-w.t.entries)) l) (known_from c.visit.new.t.entries) c.visit.new.w (citable c.args.f.now.constraints c.args.lemmas.now)) lit after in
     let longer : length c.loop-w.t.entries ≤ length c.visit.new.t.entries = omega (arith, ap length c.visit.ensures.added.1, length-append c.loop-w.t.entries (entries_of c.visit.ensures.added.0)) in
-    let short : ShortSet (known_from c.visit.new.t.entries) c.visit.new.w.shorts.items (citable c.args.f.now.constraints c.args.lemmas.now) = subst (λ v. ShortSet (known_from c.visit.new.t.entries) v.items (citable c.args.f.now.constraints c.args.lemmas.now)) (sym c.visit.ensures.shorts) (shorts_more (known_from c.loop-w.t.entries) (known_from c.visit.new.t.entries) c.loop-w.w.shorts.items (citable c.args.f.now.constraints c.args.lemmas.now) more i.3) in
+    let short : ShortSet (known_from c.visit.new.t.entries) (citable c.args.f.now.constraints c.args.lemmas.now) = shorts_more (known_from c.loop-w.t.entries) (known_from c.visit.new.t.entries) (citable c.args.f.now.constraints c.args.lemmas.now) more i.3 in
     (c.visit.ensures.variables ∙ i.0, added_all (citable c.args.f.now.constraints c.args.lemmas.now) c.args.t.now.entries c.loop-w.t.entries c.visit.new.t.entries i.1 c.visit.ensures.added, (((c.in_ok-hint-2.ensures.held, c.visit.ensures.pairs ∙ i.2.0.0.1, omega (arith, i.2.0.0.2, c.visit.ensures.len)), c.in_ok-hint-2.ensures.calm), omega (arith, low, longer, c.visit.ensures.seen), next_guard c.visit.new.w (citable c.args.f.now.constraints c.args.lemmas.now) c.loop-w.t.entries c.visit.new.t.entries (entries_of c.visit.ensures.added.0) c.loop-w.w.seen (c.visit.new.w.seen + 1) c.entry.result (known_from c.visit.new.t.entries) c.visit.ensures.added.1 low (ap (λ n. n + 1) c.visit.ensures.seen) next, inr short), short, fresh, c.are_new-in-loop-w.ensures.within)
 
 pub returns-clause-end : goal.returns-clause-end
@@ -68,3 +68,6 @@ returns-in-Some-2-clause-kept c =
 
 pub visit-requires-clause-calm : goal.visit-requires-clause-calm
 visit-requires-clause-calm c = c.loop-w.invariant.2.0.1
+
+pub look_shorts-requires-clause-held : goal.look_shorts-requires-clause-held
+look_shorts-requires-clause-held c = c.requires.ready.0.0.0
