@@ -18,19 +18,19 @@ use Rattle.zi_session.specs.Stepping.{IsRun, HasGone, CallsToEnd, Says, SaysOn, 
 use Rattle.zi_session.specs.declared.session.Session.{Session}
 use Rattle.zi_session.specs.declared.step.Step.{Step}
 use Rattle.zi_session.specs.declared.step.Step.TheVariants as step
-use Rattle.zi_session.proofs.MapsLemmas.{some_of}
 use Rattle.zi_session.proofs.AloneLemmas.{alone_law, begun_own}
 use Rattle.zi_adding.specs.Trying.{one, IsRight, HasEnded, Costs, Adds}
 use Rattle.zi_adding.specs.declared.adding.AddFault.{AddFault}
 use Rattle.zi_adding.specs.Answers.{IsEnd, Mismatches, AddsTree}
+use Rattle.zi_text.proofs.ListLaws.{some_of}
 
 -- The last step of a session.
-fault_end : (answer : Step) (tmp : Option ℕ) (number : Option ℕ) (text : Name) → answer ≡ step.Fault tmp → Blames answer number → text ≡ blamed_name number → IsEnd answer text
+pub fault_end : (answer : Step) (tmp : Option ℕ) (number : Option ℕ) (text : Name) → answer ≡ step.Fault tmp → Blames answer number → text ≡ blamed_name number → IsEnd answer text
 fault_end answer tmp number text e b named =
     let same : number ≡ tmp = subst (λ a. Blames a number) e b in
     subst (λ a. IsEnd a text) (sym e) (named ∙ ap blamed_name same)
 
-says_end : (p q : Phase) (answer : Step) (number : Option ℕ) (text : Name) → Says p q answer → answer ≢ step.More → Blames answer number → text ≡ blamed_name number → IsEnd answer text
+pub says_end : (p q : Phase) (answer : Step) (number : Option ℕ) (text : Name) → Says p q answer → answer ≢ step.More → Blames answer number → text ≡ blamed_name number → IsEnd answer text
 says_end p (Ended Stored) answer number text e ne b named = subst (λ a. IsEnd a text) (sym e) tt
 says_end p (Ended Present) answer number text e ne b named = subst (λ a. IsEnd a text) (sym e) tt
 says_end p (Ended FullOf) answer number text e ne b named = subst (λ a. IsEnd a text) (sym e) refl
@@ -44,7 +44,7 @@ says_end p Storing answer number text e ne b named = absurd (ne e)
 says_end p (Removing n) answer number text e ne b named = absurd (ne e)
 says_end p Leaving answer number text e ne b named = absurd (ne e)
 
-on_end : (p : Phase) (reply : Reply) (q : Phase) (answer : Step) (number : Option ℕ) (text : Name) → SaysOn p reply q answer → answer ≢ step.More → Blames answer number → text ≡ blamed_name number → IsEnd answer text
+pub on_end : (p : Phase) (reply : Reply) (q : Phase) (answer : Step) (number : Option ℕ) (text : Name) → SaysOn p reply q answer → answer ≢ step.More → Blames answer number → text ≡ blamed_name number → IsEnd answer text
 on_end p NoRoom q answer number text e ne b named = subst (λ a. IsEnd a text) (sym e) tt
 on_end p Did q answer number text e ne b named = says_end p q answer number text e ne b named
 on_end p Exists q answer number text e ne b named = says_end p q answer number text e ne b named
@@ -56,11 +56,11 @@ run_end x y before after answer number text run ne b named =
     on_end run.goes.there.phase last.reply y.phase answer number text last.says ne b named
 
 -- A shelf whose count was below its end and is as it was has not failed.
-not_risen : (h k : ℕ) → Rose h k → k ≡ h → h < 2 ^ 64 - 1 → ⊥
+pub not_risen : (h k : ℕ) → Rose h k → k ≡ h → h < 2 ^ 64 - 1 → ⊥
 not_risen h k (inl less) same below = omega arith
 not_risen h k (inr full) same below = omega arith
 
-costs : (answer : Step) (before after : Shelving) → CountFits answer before.faults after.faults → (before.sure → after.faults ≡ before.faults) → (before.sure → IsSure before) → Costs answer before after
+pub costs : (answer : Step) (before after : Shelving) → CountFits answer before.faults after.faults → (before.sure → after.faults ≡ before.faults) → (before.sure → IsSure before) → Costs answer before after
 costs (step.Fault tmp) before after rose calm is = (rose, λ s. not_risen before.faults after.faults rose (calm s) (is s).below_end)
 costs step.Stored before after same calm is = same
 costs step.Present before after same calm is = same

@@ -19,9 +19,9 @@ use Rattle.zi_session.specs.Alone.{Tops, Ending, EndsAlone, added}
 use Rattle.zi_session.specs.declared.step.Step.{Step}
 use Rattle.zi_session.specs.declared.step.Step.TheVariants as step
 use Rattle.zi_session.proofs.TiedLemmas.{no_tmp}
-use Rattle.zi_session.proofs.MapsLemmas.{same_or_not}
 use Rattle.zi_adding.specs.Trying.{Tried, IsRight, RunInTurn, HasEnded, IsDone, Costs, CostsAll, Adds}
 use Rattle.zi_adding.specs.Gains.{Uses, IsKept, Gains, GainsOnly, KeepsTrees}
+use Rattle.zi_shelf.proofs.TopsLemmas.{same_or_not}
 
 -- each of them stands under its name
 abbrev pub AreDone : List Tried → Type 0
@@ -97,10 +97,10 @@ adds_then xs ys a b c done p q = record {
 
 -- What stands under the names of a shelf.
 
-not_tmp : (n : Name) → IsDigestName n → (k : ℕ) → n ≡ tmp_name k → ⊥
+pub not_tmp : (n : Name) → IsDigestName n → (k : ℕ) → n ≡ tmp_name k → ⊥
 not_tmp n (d, is, named) k e = no_tmp d k (named ∙ e)
 
-kept_by : (name : Name) (tree : Dir) (before : Tops) (answer : Step) (after : Tops) → Ending name tree before answer after → (n : Name) (e : Top Dir) → before n ≡ Some e → after n ≡ Some e
+pub kept_by : (name : Name) (tree : Dir) (before : Tops) (answer : Step) (after : Tops) → Ending name tree before answer after → (n : Name) (e : Top Dir) → before n ≡ Some e → after n ≡ Some e
 kept_by name tree before step.Stored after x n e at = x.others n (λ q. cc (ap before q, x.free, at)) ∙ at
 kept_by name tree before step.Present after x n e at = x.same n ∙ at
 kept_by name tree before (step.Crowded tried) after x n e at = x.1.same n ∙ at
@@ -109,7 +109,7 @@ kept_by name tree before step.Memory after x n e at = x.kept n e at
 kept_by name tree before step.More after x n e at = absurd x
 kept_by name tree before step.Over after x n e at = absurd x
 
-others_by : (name : Name) (tree : Dir) (before : Tops) (answer : Step) (after : Tops) → Ending name tree before answer after → (n : Name) → IsDigestName n → n ≢ name → after n ≡ before n
+pub others_by : (name : Name) (tree : Dir) (before : Tops) (answer : Step) (after : Tops) → Ending name tree before answer after → (n : Name) → IsDigestName n → n ≢ name → after n ≡ before n
 others_by name tree before step.Stored after x n d ne = x.others n ne
 others_by name tree before step.Present after x n d ne = x.same n
 others_by name tree before (step.Crowded tried) after x n d ne = x.1.same n
@@ -128,7 +128,7 @@ comes_by name tree before step.Memory after x e = x.comes e
 comes_by name tree before step.More after x e = absurd x
 comes_by name tree before step.Over after x e = absurd x
 
-some_kept : (o p : Option (Top Dir)) → IsSome o → ((e : Top Dir) → o ≡ Some e → p ≡ Some e) → IsSome p
+pub some_kept : (o p : Option (Top Dir)) → IsSome o → ((e : Top Dir) → o ≡ Some e → p ≡ Some e) → IsSome p
 some_kept (Some e) p h k = subst (λ x. IsSome x) (sym (k e refl)) refl
 some_kept None p h k = absurd cc
 

@@ -23,7 +23,6 @@ use Rattle.zi_session.specs.declared.session.Session.{Session}
 use Rattle.zi_session.specs.declared.step.Step.{Step}
 use Rattle.zi_session.specs.declared.step.Step.TheVariants as step
 use Rattle.zi_session.specs.Alone.{Tops, Ending}
-use Rattle.zi_session.proofs.MapsLemmas.{some_of}
 use Rattle.zi_session.proofs.TiedLemmas.{no_tmp}
 use Rattle.zi_session.proofs.AloneLemmas.{ends_alone, begun_own}
 use Rattle.zi_words.specs.Forms.{Word}
@@ -38,8 +37,11 @@ use Rattle.zi_app.specs.AddingParts.{files_outcome, IsEnd, Closes, Lent, AddsTre
 use Rattle.zi_world.specs.Asking.{FeedsStay}
 use Rattle.zi_tree.specs.declared.change.TreeLimit.TheVariants as limit
 use Rattle.zi_world.proofs.AskingLemmas.{asks_stay}
-use Rattle.zi_world.proofs.ShelvesLemmas.{some_is, untouched, untouched_lasts}
+use Rattle.zi_world.proofs.ShelvesLemmas.{untouched, untouched_lasts}
 use Rattle.zi_app.proofs.GatheringLemmas.{gathers_some}
+use Rattle.zi_adding.proofs.HistoryLaws.{not_tmp, kept_by, others_by}
+use Rattle.zi_adding.proofs.AddingLemmas.{fault_end, says_end, on_end, not_risen, costs}
+use Rattle.zi_text.proofs.ListLaws.{some_is, some_of}
 
 -- Why there is no tree of the files.
 refuses_adds : (name : DigestName) (files : List Word) (before after : World) (fault : GatherFault) → Refuses files before.feeds after.feeds fault → AddsNothing before after
@@ -62,35 +64,6 @@ refuses_stay files f g (gather.TooLarge limit.Depth number) r = absurd r
 refuses_stay files f g gather.Memory r = asks_stay _ f g r.1.asked
 
 -- The last step of a session.
-fault_end : (answer : Step) (tmp : Option ℕ) (number : Option ℕ) (text : Name) → answer ≡ step.Fault tmp → Blames answer number → text ≡ blamed_name number → IsEnd answer text
-fault_end answer tmp number text e b named =
-    let same : number ≡ tmp = subst (λ a. Blames a number) e b in
-    subst (λ a. IsEnd a text) (sym e) (named ∙ ap blamed_name same)
-
-says_end : (p q : Phase) (answer : Step) (number : Option ℕ) (text : Name) → Says p q answer → answer ≢ step.More → Blames answer number → text ≡ blamed_name number → IsEnd answer text
-says_end p (Ended Stored) answer number text e ne b named = subst (λ a. IsEnd a text) (sym e) tt
-says_end p (Ended Present) answer number text e ne b named = subst (λ a. IsEnd a text) (sym e) tt
-says_end p (Ended FullOf) answer number text e ne b named = subst (λ a. IsEnd a text) (sym e) refl
-says_end p (Ended Fault) answer number text e ne b named = fault_end answer _ number text e b named
-says_end p Stopped answer number text e ne b named = absurd e
-says_end p (Making n) answer number text e ne b named = absurd (ne e)
-says_end p (Filling n k) answer number text e ne b named = absurd (ne e)
-says_end p (Settling n) answer number text e ne b named = absurd (ne e)
-says_end p (Renaming n) answer number text e ne b named = absurd (ne e)
-says_end p Storing answer number text e ne b named = absurd (ne e)
-says_end p (Removing n) answer number text e ne b named = absurd (ne e)
-says_end p Leaving answer number text e ne b named = absurd (ne e)
-
-on_end : (p : Phase) (reply : Reply) (q : Phase) (answer : Step) (number : Option ℕ) (text : Name) → SaysOn p reply q answer → answer ≢ step.More → Blames answer number → text ≡ blamed_name number → IsEnd answer text
-on_end p NoRoom q answer number text e ne b named = subst (λ a. IsEnd a text) (sym e) tt
-on_end p Did q answer number text e ne b named = says_end p q answer number text e ne b named
-on_end p Exists q answer number text e ne b named = says_end p q answer number text e ne b named
-on_end p Failed q answer number text e ne b named = says_end p q answer number text e ne b named
-
-pub run_end : (x y : Standing) (before after : Shelving) (answer : Step) (number : Option ℕ) (text : Name) → IsRun x before answer y after → answer ≢ step.More → Blames answer number → text ≡ blamed_name number → IsEnd answer text
-run_end x y before after answer number text run ne b named =
-    let last = run.goes.last in
-    on_end run.goes.there.phase last.reply y.phase answer number text last.says ne b named
 
 -- A session that has begun has no entry yet.
 no_residue : (p : SessionPhase) (n k : ℕ) → Making 0 ≡ phase_of p n k → residue_of p n ≡ None
@@ -118,18 +91,6 @@ begun_at : (name : DigestName) (d : Dir) (x : Session) → IsBegun name d x → 
 begun_at name d x b = begins_at name d (standing x) b.stands.named b.stands.makes b.stands.phase (no_residue x.phase x.number x.done b.stands.phase)
 
 -- A shelf whose count was below its end and is as it was has not failed.
-not_risen : (h k : ℕ) → Rose h k → k ≡ h → h < 2 ^ 64 - 1 → ⊥
-not_risen h k (inl less) same below = omega arith
-not_risen h k (inr full) same below = omega arith
-
-costs : (answer : Step) (before after : Shelving) → CountFits answer before.faults after.faults → (before.sure → after.faults ≡ before.faults) → (before.sure → IsSure before) → Costs answer before after
-costs (step.Fault tmp) before after rose calm is = (rose, λ s. not_risen before.faults after.faults rose (calm s) (is s).below_end)
-costs step.Stored before after same calm is = same
-costs step.Present before after same calm is = same
-costs (step.Crowded tried) before after same calm is = same
-costs step.Memory before after same calm is = same
-costs step.More before after same calm is = same
-costs step.Over before after same calm is = same
 
 pub has_run : (name : DigestName) (d : Dir) (x : Session) (y : Standing) (before after : Shelving) (answer : Step) → IsBegun name d x → answer ≢ step.More → (before.sure → IsSure before)
     → IsRun (standing x) before answer y after → KeepsShelf (standing x) before answer y after → HasRun name d before after answer
@@ -140,7 +101,7 @@ has_run name d x y before after answer b ne is run keeps = record {
       (λ s. let t = some_of before.told (is s).tells in keeps.no_rise t.0 s t.1 (begun_own name d x t.0.shelf b)) is;
   alone = λ s h e. ends_alone name d x y before after s answer b h e ne run;
   later = keeps.later;
-  stays = keeps.stays;
+  kept_by = keeps.stays;
 }
 
 -- A tree that is to be added, by the answer of the last step.
@@ -175,28 +136,7 @@ tree_adds name files f g before after d outcome a (inr (inr (inl (right, ne, inr
 tree_adds name files f g before after d outcome a (inr (inr (inr (e, u)))) =
     subst (λ x. AddsTo name files (world f before) (world g after) x) (sym e) (inl (gathers_some files f g d a, u))
 
--- What stays.
-
-not_tmp : (n : Name) → IsDigestName n → (k : ℕ) → n ≡ tmp_name k → ⊥
-not_tmp n (d, is, named) k e = no_tmp d k (named ∙ e)
-
-stays : (name : Name) (tree : Dir) (before : Tops) (answer : Step) (after : Tops) → Ending name tree before answer after → (n : Name) (e : Top Dir) → before n ≡ Some e → after n ≡ Some e
-stays name tree before step.Stored after x n e at = x.others n (λ q. cc (ap before q, x.free, at)) ∙ at
-stays name tree before step.Present after x n e at = x.same n ∙ at
-stays name tree before (step.Crowded tried) after x n e at = x.1.same n ∙ at
-stays name tree before (step.Fault tmp) after x n e at = x.kept n e at
-stays name tree before step.Memory after x n e at = x.kept n e at
-stays name tree before step.More after x n e at = absurd x
-stays name tree before step.Over after x n e at = absurd x
-
-others_stay : (name : Name) (tree : Dir) (before : Tops) (answer : Step) (after : Tops) → Ending name tree before answer after → (n : Name) → IsDigestName n → n ≢ name → after n ≡ before n
-others_stay name tree before step.Stored after x n d ne = x.others n ne
-others_stay name tree before step.Present after x n d ne = x.same n
-others_stay name tree before (step.Crowded tried) after x n d ne = x.1.same n
-others_stay name tree before (step.Fault tmp) after x n d ne = x.others n ne (λ k l q. not_tmp n d k q)
-others_stay name tree before step.Memory after x n d ne = x.others n ne (λ k l q. not_tmp n d k q)
-others_stay name tree before step.More after x n d ne = absurd x
-others_stay name tree before step.Over after x n d ne = absurd x
+-- What kept_by.
 
 same_keeps : (name : DigestName) (before after : Shelving) → Untouched before after → KeepsStored name before after
 same_keeps name before after u = record { keeps = λ s h e. (s, u.told ∙ e, λ n y d at. at, λ n d ne. refl) }
@@ -207,8 +147,8 @@ run_keeps name d before after answer r = record {
       let a = r.alone s h e in (
         a.0,
         a.1,
-        λ n y is at. stays (spelling name) d s.shelf.tops answer a.0.shelf.tops a.2.tops n y at,
-        λ n is ne. others_stay (spelling name) d s.shelf.tops answer a.0.shelf.tops a.2.tops n is ne,
+        λ n y is at. kept_by (spelling name) d s.shelf.tops answer a.0.shelf.tops a.2.tops n y at,
+        λ n is ne. others_by (spelling name) d s.shelf.tops answer a.0.shelf.tops a.2.tops n is ne,
       );
 }
 
@@ -219,7 +159,7 @@ tree_keeps name before after d outcome (inr (inr (inl (right, ne, m, u)))) = sam
 tree_keeps name before after d outcome (inr (inr (inr (e, u)))) = same_keeps name before.shelf after.shelf u.0
 
 run_lasts : (name : DigestName) (d : Dir) (before after : Shelving) (answer : Step) → HasRun name d before after answer → Lasts before after
-run_lasts name d before after answer r = record { tells = λ s h e. let a = r.alone s h e in some_is after.told a.0 a.1; later = r.later; stays = r.stays }
+run_lasts name d before after answer r = record { tells = λ s h e. let a = r.alone s h e in some_is after.told a.0 a.1; later = r.later; kept_by = r.stays }
 
 tree_lasts : (name : DigestName) (before after : Lent) (d : Dir) (outcome : Outcome) → AddsTree name d before after outcome → Lasts before.shelf after.shelf
 tree_lasts name before after d outcome (inl c) = run_lasts name d before.shelf after.shelf c.answer c.run

@@ -20,13 +20,13 @@ use Rattle.zi_outcome.specs.Writing.{Prints}
 use Rattle.zi_world.specs.Shelves.{Lasts}
 use Rattle.zi_world.specs.World.{World}
 use Rattle.zi_world.specs.Meets.{Meets}
-use Rattle.zi_world.proofs.ShelvesLemmas.{some_is}
 use Rattle.zi_choosing.specs.declared.chosen.Chosen.{Chosen}
 use Rattle.zi_outside.specs.Views.{Sinking}
 use Rattle.zi_fetching.specs.Outcomes.{unmade, unadded}
 use Rattle.zi_fetching.specs.Fetching.{FetchesNot}
 use Rattle.zi_fetching.specs.Download.{Downloads, DownloadsTo, FetchesThen}
 use Rattle.zi_app.specs.Adding.{AddsNothing, AddsTo, Tries}
+use Rattle.zi_text.proofs.ListLaws.{some_is}
 
 -- `store add`: nothing was done, or one tree was tried.
 module _ (name : DigestName) (files : List Word) (before after : World) where

@@ -1,6 +1,7 @@
 -- What the commands that read the store say, put together.
 use Rattle.std.proofs.Common.{◌≡◌, ℕ, inl, Bool, true, false, List, [], ◌∷◌, ◌++◌, length, refl, sym, ap, subst, ◌∙◌, Option, Some, None, Result, Ok, Err, arith}
 use Rattle.std.specs.Prelude.{ℤ, ◌≤◌, ◌<◌, bytes_eq, MatchOption, IfOk}
+use Rattle.std.proofs.lemmas.Option.{same_Some}
 use Rattle.zi_outside.specs.Views.{Sinking}
 use Rattle.zi_tree.specs.Dir.{Dir, Nothing, AFile, ALink, AFolder}
 use Rattle.zi_digest.specs.declared.Algorithm.{Algorithm}
@@ -34,6 +35,7 @@ use Rattle.zi_world.specs.Shelves.{Held}
 use Rattle.zi_outcome.specs.Writing.{Prints}
 use Rattle.zi_app.specs.StoreList.{name_line}
 use Rattle.zi_app.specs.StoreVerify.{manifest_limit, HasOwnManifest, HasDigest, HasComputed, Compares, DiffersBy}
+use Rattle.zi_reading.proofs.KindLaws.{some_none}
 
 file_twice : (n b : List ℕ) (e : Bool) (t : ℤ) (rest : Dir) (test : Bool) → bytes_eq n own_name ≡ test → as_read (as_read rest) ≡ as_read rest
     → as_read (as_read (AFile n b e t rest)) ≡ as_read (AFile n b e t rest)
@@ -57,17 +59,11 @@ some_tree_at a r x y at_r at_x is = subst (λ z. IsOfSomeTree a (Ok z)) at_x (su
 
 -- `store verify`
 
-some_same : {X : Type 0} {x y : X} → Some x ≡ Some y → x ≡ y
-some_same e = cc
-
-some_none : {X : Type 0} {x : X} → Some x ≡ None → ⊥
-some_none e = cc
-
 -- the file that was read is the manifest that stands there, if it is one
 pub own_is : (a : Algorithm) (top : Name) (s : Shelved Dir) (bytes : List ℕ) (own : Option (List ℕ)) → file_at top (own_name ∷ []) s ≡ Some bytes → length bytes ≤ manifest_limit
     → MatchOption own (IsManifest a bytes → ⊥) (λ kept. (kept ≡ bytes) × IsManifest a bytes)
     → MatchOption own ((b : List ℕ) → HasOwnManifest a top s b → ⊥) (λ b. HasOwnManifest a top s b)
-own_is a top s bytes None there few m = λ b h. m (subst (λ x. IsManifest a x) (some_same (sym h.there ∙ there)) h.good)
+own_is a top s bytes None there few m = λ b h. m (subst (λ x. IsManifest a x) (same_Some _ _ (sym h.there ∙ there)) h.good)
 own_is a top s bytes (Some kept) there few (e, good) = subst (λ b. HasOwnManifest a top s b) (sym e) (record { there = there; few = few; good = good })
 
 abbrev IsOwn : Algorithm → Name → Shelved Dir → Option (List ℕ) → Type 0
@@ -94,7 +90,7 @@ pub own_long : (a : Algorithm) (top : Name) (path : List Name) (s : Shelved Dir)
     → ReadsFile top path manifest_limit answer s → (b : List ℕ) → HasOwnManifest a top s b → ⊥
 own_long a top path s answer at_path at_answer reads b h =
     let f : ReadsFile top (own_name ∷ []) manifest_limit (Ok file.TooLong) s = subst (λ x. ReadsFile top x manifest_limit (Ok file.TooLong) s) at_path (subst (λ x. ReadsFile top path manifest_limit x s) at_answer reads) in
-    too_long b f.0 (some_same (sym h.there ∙ f.1)) h.few f.2
+    too_long b f.0 (same_Some _ _ (sym h.there ∙ f.1)) h.few f.2
   where
     too_long : (b own : List ℕ) → b ≡ own → length b ≤ manifest_limit → manifest_limit < length own → ⊥
     too_long b own e few many = absurd (omega (arith, few, subst (λ x. manifest_limit < length x) (sym e) many))
@@ -107,7 +103,7 @@ own_none a top s r e is = subst (λ x. IfOk x (IsOwn a top s)) e is
 
 -- the manifest that was read is the computed one
 entry_is : (top : Name) (s : Shelved Dir) (e : Top Dir) → s.tops top ≡ Some e → (h : HasDigest top s) → e ≡ h.entry
-entry_is top s e there h = some_same (sym there ∙ h.there)
+entry_is top s e there h = same_Some _ _ (sym there ∙ h.there)
 
 pub computed_read : (a : Algorithm) (top : Name) (s : Shelved Dir) (text : List ℕ) → ReadsManifest a top (Ok (read.Read text)) s → HasComputed a top s text
 computed_read a top s text (e, there, within, good, is) = record { entry = e; there = there; is = is ∙ ap (λ d. text_of (sketch a d)) (sym (as_read_twice e.tree)) }

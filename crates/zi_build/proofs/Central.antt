@@ -9,7 +9,7 @@ use Rattle.zi_formula.specs.Truth.{clause_true, none_true, group_true, constrain
 use Rattle.zi_choice.specs.Vars.{Var, Cand, var_number}
 use Rattle.zi_build.specs.Clauses.{Says, Rule, Some_of, One_of, rules, lit_of, constraint_of, formula}
 use Rattle.zi_build.specs.Laws.{IsCandidatePart, IsOfModel, IsOnWalk, ValidIsModel, NoneIsNoModel, ModelHoldsValid}
-use Rattle.zi_choice.proofs.Base.{Iff, candidate_is, some_of, is_some_of}
+use Rattle.zi_choice.proofs.Base.{Iff, candidate_is}
 use Rattle.zi_build.proofs.Meaning.{Means}
 use Rattle.zi_build.proofs.Read.{says_true, some_true, none_of, one_true, rule_true, rules_true, rules_mean}
 use Rattle.zi_build.proofs.MeansValid.{Suited, means_valid}
@@ -19,6 +19,7 @@ use Rattle.zi_build.proofs.Model.{held, held_valid, held_true}
 use Rattle.zi_build.proofs.Numbers.{table, at_number}
 use Rattle.zi_build.specs.There.{Listed}
 use Rattle.zi_build.proofs.Formed.{rules_listed, rules_agree}
+use Rattle.zi_text.proofs.ListLaws.{some_is, some_of}
 
 abbrev pub by_var : List Interface → (ℕ → Bool) → Var → Bool
 by_var u v x = v (var_number u x)
@@ -75,9 +76,9 @@ model_valid u req s m o =
     let w : Var → Bool = by_var u m.0 in
     let suited : Suited u w s o.0 = record {
       sound = λ i c p. let k = some_of (candidate_at u i c) (m.1.fits.there i c p) in (k.0, sym (candidate_is u i c) ∙ k.1, m.1.are_true i c p);
-      full = λ i c k on at t. m.1.are_chosen i c (is_some_of (candidate_at u i c) k (candidate_is u i c ∙ at)) t;
+      full = λ i c k on at t. m.1.are_chosen i c (some_is (candidate_at u i c) k (candidate_is u i c ∙ at)) t;
     } in
-    means_valid u req w ((models_mean u req m.0).0 m.2) s o.0 o.1 suited m.1.fits.each (λ i c p. (on_is u req s o.0 o.1 i ((o.2 i).0 (is_some_of (pick s i) c p))).1)
+    means_valid u req w ((models_mean u req m.0).0 m.2) s o.0 o.1 suited m.1.fits.each (λ i c p. (on_is u req s o.0 o.1 i ((o.2 i).0 (some_is (pick s i) c p))).1)
 
 pub valid_is_model : ValidIsModel
 valid_is_model u req s =

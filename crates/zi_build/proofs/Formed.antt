@@ -20,11 +20,12 @@ use Rattle.zi_formula.specs.Form.{ConstraintWithin, Within, same_lit, has_lit, h
 use Rattle.zi_choice.specs.Vars.{Var, Cand, Cmd, Wide, candidates_of, var_number, var_count}
 use Rattle.zi_build.specs.Clauses.{same_var, Says, yes, no, Rule, Some_of, One_of, same_says, without, once, clause, each, keep, is_admitted, at_target, among, admitted_one, refused_one, admission, having, named_one, naming, named_by, need, needs, of_width, of_command, of_candidate, of_interface, two_or_more, one_var, group_of, root_one, wanted_one, of_requirement, rules, lit_of, constraint_of, formula, size_of, literals}
 use Rattle.zi_build.specs.Laws.{IsFormed}
-use Rattle.zi_choice.proofs.Base.{nat_same, found_of, candidates_at}
+use Rattle.zi_choice.proofs.Base.{found_of, candidates_at}
 use Rattle.zi_build.proofs.Meaning.{IsAt}
 use Rattle.zi_build.proofs.Read.{some_true, none_of, one_true, rule_true, rules_true}
 use Rattle.zi_build.proofs.Numbers.{one_number, number_low, number_high}
 use Rattle.zi_build.specs.There.{Listed}
+use Rattle.zi_xml.proofs.CharLemmas.{same_self}
 
 abbrev pub Every : {A : Type 0} → (A → Type 0) → List A → Type 0
 Every P [] = Unit {0}
@@ -124,8 +125,8 @@ once_once [] = tt
 once_once (l ∷ ls) = (without_lacks l (once ls), without_once l (once ls) (once_once ls))
 
 var_same : (x : Var) → same_var x x ≡ true
-var_same (Cand i c) = and_from (i == i) (c == c) (nat_same i) (nat_same c)
-var_same (Cmd i c n) = and_from (i == i) (c == c && n == n) (nat_same i) (and_from (c == c) (n == n) (nat_same c) (nat_same n))
+var_same (Cand i c) = and_from (i == i) (c == c) (same_self i) (same_self c)
+var_same (Cmd i c n) = and_from (i == i) (c == c && n == n) (same_self i) (and_from (c == c) (n == n) (same_self c) (same_self n))
 var_same Wide = refl
 
 sign_turned : (a b : Bool) → cond a b (not b) ≡ true → cond b a (not a) ≡ true

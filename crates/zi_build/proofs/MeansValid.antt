@@ -3,9 +3,10 @@
 use Rattle.std.proofs.Common.{◌≡◌, ℕ, ◌==◌, Bool, true, false, ◌&&◌, List, [], ◌∷◌, length, refl, sym, ap, ◌∙◌, subst, Option, Some, None, inl, inr}
 use Rattle.std.specs.Prelude.{slice_get, All, IsSome, IfSome, IsSomeAnd, option_and_then, bytes_eq, if◌then◌else◌}
 use Rattle.std.specs.Cmp.Lexicographic.{bytes_decides}
-use Rattle.std.proofs.lemmas.Bool.{false≢true, and_from}
+use Rattle.std.proofs.lemmas.Bool.{false≢true, and_from, both_ways}
 use Rattle.std.proofs.lemmas.Option.{slice_get_within}
 use Rattle.std.proofs.lemmas.List.Elements.{All-nil, All-cons}
+use Rattle.std.proofs.lemmas.Map.Keys.{any_passes_from_place}
 use Rattle.zi_parts.specs.declared.types.Dep.{Dep}
 use Rattle.zi_parts.specs.declared.types.DepKind.{DepKind}
 use Rattle.zi_parts.specs.declared.types.DepKind.TheVariants.{Essential, Recommended, Restricts}
@@ -17,13 +18,16 @@ use Rattle.zi_universe.specs.Candidates.{asks, kind_asks}
 use Rattle.zi_choice.specs.Choice.{Choice, pick, candidate_at, chosen, number, command_of, command_at, deps_of, needs_of, command_place}
 use Rattle.zi_choice.specs.Walk.{Use, Walk, Walks, is_listed, is_used, leads_to, wanted}
 use Rattle.zi_choice.specs.Valid.{Has, Suits, IsMet, AreMet, IsValid, target}
-use Rattle.zi_choice.proofs.WalkLaws.{none_some, one_value, true_false}
+use Rattle.zi_choice.proofs.WalkLaws.{one_value, true_false}
 use Rattle.zi_choice.specs.Vars.{Var, Cand, Cmd, Wide, candidates_of}
 use Rattle.zi_build.specs.Clauses.{is_admitted, named_by}
-use Rattle.zi_choice.proofs.Base.{all_from, any_at, some_of, is_some_of, if_some_from, candidate_is, chosen_is, chosen_from, Stands, stands_at, found_of, nat_same}
+use Rattle.zi_choice.proofs.Base.{all_from, if_some_from, candidate_is, chosen_is, chosen_from, Stands, stands_at, found_of}
 use Rattle.zi_choice.proofs.WalkFacts.{is_on, on_is, Item, Visit, Need, has, IsThere, LeadsBy, Leads, deps_after, after, closed, root_listed, spread}
 use Rattle.zi_choice.proofs.ThereLaws.{In}
 use Rattle.zi_build.proofs.Meaning.{IsAt, UsesOne, Uses, HasOne, DepMeans, AllMean, Means}
+use Rattle.zi_xml.proofs.CharLemmas.{same_self}
+use Rattle.zi_feed.specs.IdLaws.{none_some}
+use Rattle.zi_text.proofs.ListLaws.{some_is, some_of}
 
 pub recommended_apart : ◌≡◌ {A = DepKind} Recommended Essential → ⊥
 recommended_apart e = cc
@@ -89,7 +93,7 @@ module _ (u : List Interface) (req : Requirement) (w : Var → Bool) (m : Means 
 
 has_by : (w : Var → Bool) (j e : ℕ) (k : Candidate) (name : List ℕ) (o : Option ℕ) → command_place k name ≡ o → UsesOne w j e o → Has k name
 has_by w j e k name None p h = absurd h
-has_by w j e k name (Some n) p h = let f = found_of k name n p in is_some_of (command_of k name) f.0 f.1
+has_by w j e k name (Some n) p h = let f = found_of k name n p in some_is (command_of k name) f.0 f.1
 
 pub has_all_named : (w : Var → Bool) (j e : ℕ) (k : Candidate) (names : List (List ℕ)) → Uses w j e k names → All (λ name. Has k name) names
 has_all_named w j e k [] h = All-nil (λ name. Has k name)
@@ -154,7 +158,7 @@ module _ (u : List Interface) (req : Requirement) (w : Var → Bool) (m : Means 
       let here : x.interface ≡ i = one_value n x.target in
       let on : is_listed a i ≡ true = g (Visit i) (i, leads_where u d i (essential_asks d q) n, refl) tt in
       let x_at : IsAt u i x.candidate x.item = subst (λ j. IsAt u j x.candidate x.item) here x.there in
-      is_some_of (chosen u s i) x.item (chosen_is u s i x.candidate x.item (suited.full i x.candidate x.item on x_at (subst (λ j. w (Cand j x.candidate) ≡ true) here x.is_true)) x_at)
+      some_is (chosen u s i) x.item (chosen_is u s i x.candidate x.item (suited.full i x.candidate x.item on x_at (subst (λ j. w (Cand j x.candidate) ≡ true) here x.is_true)) x_at)
 
   met_suits : (d : Dep) (i : ℕ) (k : Candidate) → DepMeans u w d → number u d.interface ≡ Some i → chosen u s i ≡ Some k → Suits d k
   met_suits d i k h n e =
@@ -177,9 +181,6 @@ module _ (u : List Interface) (req : Requirement) (w : Var → Bool) (m : Means 
       })
       (all_met ds h.1 (λ z l t. g z (inr l) t))
 
-bits_apart : (b : Bool) → b ≡ true → b ≡ false → ⊥
-bits_apart b e f = true_false e f
-
 module _ (u : List Interface) (req : Requirement) (w : Var → Bool) (m : Means u req w) (s : Choice) (a : Walk) (k : Walks u req s a) (suited : Suited u w s a) where
   root_there : chosen u s 0 ≡ Some m.root.item
   root_there =
@@ -190,7 +191,7 @@ module _ (u : List Interface) (req : Requirement) (w : Var → Bool) (m : Means 
   root_names (Some name) h = has_by w 0 m.root.candidate m.root.item name (command_place m.root.item name) refl h.0
 
   is_candidate : (i c : ℕ) → pick s i ≡ Some c → IsSome (candidate_at u i c)
-  is_candidate i c p = let x = suited.sound i c p in is_some_of (candidate_at u i c) x.0 (candidate_is u i c ∙ x.1)
+  is_candidate i c p = let x = suited.sound i c p in some_is (candidate_at u i c) x.0 (candidate_is u i c ∙ x.1)
 
   deps_met : (i : ℕ) (x : Candidate) → is_listed a i ≡ true → chosen u s i ≡ Some x → AreMet u s x.imp.deps
   deps_met i x on e =
@@ -207,7 +208,7 @@ module _ (u : List Interface) (req : Requirement) (w : Var → Bool) (m : Means 
 
   uses_met : (n : ℕ) (x : Use) → slice_get a.used n ≡ Some x → IfSome (command_at u s x.interface x.command) (λ m. AreMet u s (needs_of m))
   uses_met n x e =
-      let on : is_used a x.interface x.command ≡ true = any_at (λ (y : Use). y.interface == x.interface && bytes_eq y.command x.command) a.used n x e (and_from (x.interface == x.interface) (bytes_eq x.command x.command) (nat_same x.interface) ((bytes_decides x.command x.command).1 refl)) in
+      let on : is_used a x.interface x.command ≡ true = any_passes_from_place (λ (y : Use). y.interface == x.interface && bytes_eq y.command x.command) a.used n x e (and_from (x.interface == x.interface) (bytes_eq x.command x.command) (same_self x.interface) ((bytes_decides x.command x.command).1 refl)) in
       if_some_from (λ m. AreMet u s (needs_of m)) (command_at u s x.interface x.command) (λ y g. use_case x.interface x.command (chosen u s x.interface) y refl g g on)
 
   pub means_valid : length s ≡ length u → ((i c : ℕ) → pick s i ≡ Some c → is_listed a i ≡ true) → IsValid u req s
@@ -221,6 +222,6 @@ module _ (u : List Interface) (req : Requirement) (w : Var → Bool) (m : Means 
     one_group = λ i j c d e f g h.
         let x = chosen_from u s i c e in
         let y = chosen_from u s j d f in
-        bits_apart (w Wide) ((m.each j y.0 d y.2).bits64 (suited.sound j y.0 y.1).2 h) ((m.each i x.0 c x.2).bits32 (suited.sound i x.0 x.1).2 g);
+        both_ways (w Wide) ((m.each i x.0 c x.2).bits32 (suited.sound i x.0 x.1).2 g) ((m.each j y.0 d y.2).bits64 (suited.sound j y.0 y.1).2 h);
     exactly = λ i. ((λ h. let c = some_of (pick s i) h in is_on u req s a k i c.0 (reached i c.0 c.1) c.1), (λ h. (on_is u req s a k i h).0));
   }

@@ -2,19 +2,19 @@
 use Rattle.std.proofs.Common.{◌≡◌, ℕ, zero, suc, ◌+◌, ◌<◌, Bool, true, false, cond, List, [], ◌∷◌, length, refl, sym, ap, ◌∙◌, subst, arith, Option, Some, None, inl, inr}
 use Rattle.std.specs.Prelude.{slice_get}
 use Rattle.std.proofs.lemmas.Bool.{false≢true, cases_lt}
-use Rattle.std.proofs.lemmas.Option.{slice_get_within}
+use Rattle.std.proofs.lemmas.Option.{slice_get_within, same_Some}
 use Rattle.zi_universe.specs.declared.types.Requirement.{Requirement}
 use Rattle.zi_universe.specs.declared.types.Candidate.{Candidate}
 use Rattle.zi_universe.specs.declared.types.Interface.{Interface}
 use Rattle.zi_choice.specs.Choice.{Choice, pick}
 use Rattle.zi_choice.specs.Walk.{Walk, is_listed}
 use Rattle.zi_choice.specs.Valid.{IsValid}
-use Rattle.zi_choice.proofs.WalkLaws.{none_some, some_same}
 use Rattle.zi_choice.proofs.ThereLaws.{walk_there}
 use Rattle.zi_choice.specs.Vars.{Var, Cand, candidates_of}
 use Rattle.zi_choice.proofs.WalkFacts.{same_walk}
 use Rattle.zi_build.proofs.Meaning.{IsAt, Means}
 use Rattle.zi_build.proofs.MeansValid.{Suited, means_valid}
+use Rattle.zi_feed.specs.IdLaws.{none_some}
 
 -- a true candidate of an interface, if one of the first so many is
 abbrev true_one : (Var → Bool) → ℕ → ℕ → Option ℕ
@@ -23,7 +23,7 @@ true_one w i (suc n) = cond (w (Cand i n)) (Some n) (true_one w i n)
 
 true_case : (w : Var → Bool) (i n c : ℕ) (b : Bool) → w (Cand i n) ≡ b → (true_one w i n ≡ Some c → (c < n) × (w (Cand i c) ≡ true)) → cond b (Some n) (true_one w i n) ≡ Some c → (c < suc n) × (w (Cand i c) ≡ true)
 true_case w i n c true p h e =
-    let q : n ≡ c = some_same e in (omega (arith, q), subst (λ x. w (Cand i x) ≡ true) q p)
+    let q : n ≡ c = same_Some _ _ e in (omega (arith, q), subst (λ x. w (Cand i x) ≡ true) q p)
 true_case w i n c false p h e = let r = h e in let l = r.0 in (omega (arith, l), r.1)
 
 true_is : (w : Var → Bool) (i n c : ℕ) → true_one w i n ≡ Some c → (c < n) × (w (Cand i c) ≡ true)

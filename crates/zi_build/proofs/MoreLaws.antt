@@ -15,12 +15,7 @@ use Rattle.zi_build.specs.There.{Listed}
 use Rattle.zi_build.specs.Writing.{Puts, Adds}
 use Rattle.zi_parts.specs.declared.types.Command.{Command}
 use Rattle.zi_parts.specs.declared.types.Runner.{Runner}
-use Rattle.zi_build.proofs.WriteLaws.{adds_both, adds_as, puts_as, item_at, no_yes, without_app}
-
--- what a command needs
-needs_app : (u : List Interface) (y : Var) (ds es : List Dep) → needs u y (ds ++ es) ≡ needs u y ds ++ needs u y es
-needs_app u y [] es = refl
-needs_app u y (d ∷ ds) es = ap (λ rs. need u y d ++ rs) (needs_app u y ds es) ∙ sym (append_assoc (need u y d) (needs u y ds) (needs u y es))
+use Rattle.zi_build.proofs.WriteLaws.{adds_both, adds_as, puts_as, item_at, no_yes, without_app, needs_join}
 
 pub command_clause : ℕ → ℕ → ℕ → Rule
 command_clause i c n = clause (no (Cmd i c n) ∷ yes (Cand i c) ∷ [])
@@ -31,7 +26,7 @@ command_adds keeps u i c n m r v w x z a b e f g p q s =
     let first : Adds keeps u v (clause (no y ∷ yes (Cand i c) ∷ []) ∷ []) w = puts_as keeps u v w (Clause (a ∷ b ∷ [])) (clause (no y ∷ yes (Cand i c) ∷ [])) (ap (λ k. Clause (k ∷ b ∷ [])) e ∙ ap (λ k. Clause (lit_of u (no y) ∷ k ∷ [])) f) p in
     let more : Adds keeps u w (needs u y m.deps ++ need u y r.dep) z = adds_both keeps u w x z (needs u y m.deps) (need u y r.dep) q s in
     let same : needs u y m.deps ++ need u y r.dep ≡ needs u y (needs_of m) =
-    sym (needs_app u y m.deps (r.dep ∷ []) ∙ ap (λ rs. needs u y m.deps ++ rs) (append-nil (need u y r.dep))) ∙ ap (λ o. needs u y (with_runner m.deps o)) (sym g) in
+    sym (needs_join u y m.deps (r.dep ∷ []) ∙ ap (λ rs. needs u y m.deps ++ rs) (append-nil (need u y r.dep))) ∙ ap (λ o. needs u y (with_runner m.deps o)) (sym g) in
     adds_both keeps u v w z (clause (no y ∷ yes (Cand i c) ∷ []) ∷ []) (needs u y (needs_of m)) first (adds_as keeps u w z (needs u y m.deps ++ need u y r.dep) (needs u y (needs_of m)) same more)
 
 pub command_item : (u : List Interface) (i c n : ℕ) (k : Candidate) (ms : List Command) → slice_get (candidates_of u i) c ≡ Some k → ms ≡ k.imp.commands → n < length ms → Listed u (Cmd i c n)

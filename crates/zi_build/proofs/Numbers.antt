@@ -2,23 +2,23 @@
 use Rattle.std.proofs.Common.{◌≡◌, ℕ, zero, suc, ◌+◌, ◌-◌, ◌<◌, ◌≤◌, List, [], ◌∷◌, ◌++◌, length, get_or, refl, sym, ap, ◌∙◌, subst, arith, Some}
 use Rattle.std.specs.Prelude.{slice_get}
 use Rattle.std.proofs.lemmas.List.{get_or_append_left, get_or-append-add, length-append}
-use Rattle.std.proofs.lemmas.Option.{slice_get_within}
+use Rattle.std.proofs.lemmas.Option.{slice_get_within, same_Some}
 use Rattle.zi_parts.specs.declared.types.Command.{Command}
 use Rattle.zi_universe.specs.declared.types.Candidate.{Candidate}
 use Rattle.zi_universe.specs.declared.types.Interface.{Interface}
-use Rattle.zi_choice.proofs.WalkLaws.{none_some, some_same}
 use Rattle.zi_choice.specs.Vars.{Var, Cand, Cmd, Wide, total, before, candidates_of, own_candidates, own_commands, all_commands, var_number, var_count}
 use Rattle.zi_build.specs.Clauses.{each}
 use Rattle.zi_build.specs.There.{Listed}
 use Rattle.zi_choice.proofs.SumLaws.{before_below}
 use Rattle.zi_build.proofs.Meaning.{IsAt}
 use Rattle.zi_choice.proofs.Base.{interface_at, candidates_at}
+use Rattle.zi_feed.specs.IdLaws.{none_some}
 
 -- an item of lists that stand one after another
 pub each_get : {A B : Type 0} (size : A → ℕ) (f : ℕ → A → List B) (fit : (n : ℕ) (x : A) → length (f n x) ≡ size x) (n : ℕ) (xs : List A) (i : ℕ) (x : A) (j : ℕ) (d : B) → slice_get xs i ≡ Some x → j < size x → get_or (each n f xs) (before size xs i + j) d ≡ get_or (f (n + i) x) j d
 each_get size f fit n [] i x j d e l = absurd (none_some e)
 each_get size f fit n (y ∷ ys) zero x j d e l =
-    let same : y ≡ x = some_same e in
+    let same : y ≡ x = same_Some _ _ e in
     let q : 0 + j ≡ j = omega arith in
     let z : n ≡ n + 0 = omega arith in
     let fy : length (f n y) ≡ size y = fit n y in

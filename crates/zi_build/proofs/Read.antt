@@ -1,7 +1,8 @@
 -- The list of constraints is true of an assignment exactly where its families hold.
 use Rattle.std.proofs.Common.{◌≡◌, ℕ, zero, suc, ◌==◌, ◌+◌, ◌<◌, Bool, true, false, not, cond, ◌||◌, ◌&&◌, List, [], ◌∷◌, ◌++◌, length, refl, sym, ap, ap₂, ◌∙◌, subst, arith, Option, Some, None, ◌⊎◌, inl, inr, eqb-true}
 use Rattle.std.specs.Prelude.{slice_get}
-use Rattle.std.proofs.lemmas.Bool.{false≢true, false_from_ne_true, and_parts, and_from, or_left, or_right}
+use Rattle.std.proofs.lemmas.Bool.{false≢true, false_from_ne_true, and_parts, and_from, or_left, or_right, cases_Bool, or_cases}
+use Rattle.std.proofs.lemmas.Option.{same_Some}
 use Rattle.zi_policy.specs.declared.types.Width.{Width}
 use Rattle.zi_policy.specs.declared.types.Width.TheVariants.{Any, Bits32, Bits64}
 use Rattle.zi_parts.specs.declared.types.Dep.{Dep}
@@ -14,12 +15,12 @@ use Rattle.zi_universe.specs.declared.types.Interface.{Interface}
 use Rattle.zi_choice.specs.Choice.{number, needs_of, command_place}
 use Rattle.zi_choice.specs.Walk.{wanted}
 use Rattle.zi_choice.specs.Valid.{group}
-use Rattle.zi_choice.proofs.WalkLaws.{none_some, some_same}
 use Rattle.zi_choice.specs.Vars.{Var, Cand, Cmd, Wide, candidates_of}
 use Rattle.zi_build.specs.Clauses.{same_var, Says, yes, no, Rule, Some_of, One_of, same_says, without, once, clause, each, keep, is_admitted, at_target, among, admitted_one, refused_one, admission, having, named_one, naming, named_by, need, needs, of_width, of_command, of_candidate, of_interface, two_or_more, one_var, group_of, root_one, wanted_one, of_requirement, rules}
-use Rattle.zi_choice.proofs.Base.{interface_at, candidates_at, Iff, bool_case, or_split}
+use Rattle.zi_choice.proofs.Base.{interface_at, candidates_at, Iff}
 use Rattle.zi_build.proofs.Meaning.{IsAt, UsesOne, Uses, HasOne, DepMeans, AllMean, HasRoot, AtMostOneOf, CandidateMeans, Means}
 use Rattle.zi_build.proofs.MeansValid.{recommended_apart, restricts_apart}
+use Rattle.zi_feed.specs.IdLaws.{none_some}
 
 abbrev pub says_true : (Var → Bool) → Says → Bool
 says_true w l = cond l.holds (w l.of) (not (w l.of))
@@ -66,7 +67,7 @@ each_true {A = A} w n f (y ∷ ys) = (
 )
   where
     forth : rules_true w (f n y) ≡ true → ((k : ℕ) (x : A) → slice_get ys k ≡ Some x → rules_true w (f (suc n + k) x) ≡ true) → (k : ℕ) (x : A) → slice_get (y ∷ ys) k ≡ Some x → rules_true w (f (n + k) x) ≡ true
-    forth a b zero x e = let z : n ≡ n + 0 = omega arith in subst (λ m. rules_true w (f m x) ≡ true) z (subst (λ t. rules_true w (f n t) ≡ true) (some_same e) a)
+    forth a b zero x e = let z : n ≡ n + 0 = omega arith in subst (λ m. rules_true w (f m x) ≡ true) z (subst (λ t. rules_true w (f n t) ≡ true) (same_Some _ _ e) a)
     forth a b (suc k) x e = let z : suc n + k ≡ n + suc k = omega arith in subst (λ m. rules_true w (f m x) ≡ true) z (b k x e)
 
 pub each0_true : {A : Type 0} (w : Var → Bool) (f : ℕ → A → List Rule) (xs : List A) → Iff (rules_true w (each 0 f xs) ≡ true) ((k : ℕ) (x : A) → slice_get xs k ≡ Some x → rules_true w (f k x) ≡ true)
@@ -162,8 +163,8 @@ keep_rule w false r = (λ h e. absurd (false≢true e), λ h. refl)
 some_app : (w : Var → Bool) (a b : List Says) → Iff (some_true w (a ++ b) ≡ true) ((some_true w a ≡ true) ⊎ (some_true w b ≡ true))
 some_app w [] b = (λ h. inr h, λ h. elim h [ inl p ↦ absurd (false≢true p) | inr q ↦ q ])
 some_app w (l ∷ a) b = (
-  λ h. elim (or_split (says_true w l) (some_true w (a ++ b)) h) [ inl p ↦ inl (or_left (says_true w l) (some_true w a) p) | inr q ↦ elim ((some_app w a b).0 q) [ inl p ↦ inl (or_right (says_true w l) (some_true w a) p) | inr r ↦ inr r ] ],
-  λ h. elim h [ inl p ↦ elim (or_split (says_true w l) (some_true w a) p) [ inl x ↦ or_left (says_true w l) (some_true w (a ++ b)) x | inr y ↦ or_right (says_true w l) (some_true w (a ++ b)) ((some_app w a b).1 (inl y)) ] | inr q ↦ or_right (says_true w l) (some_true w (a ++ b)) ((some_app w a b).1 (inr q)) ],
+  λ h. elim (or_cases (says_true w l) (some_true w (a ++ b)) h) [ inl p ↦ inl (or_left (says_true w l) (some_true w a) p) | inr q ↦ elim ((some_app w a b).0 q) [ inl p ↦ inl (or_right (says_true w l) (some_true w a) p) | inr r ↦ inr r ] ],
+  λ h. elim h [ inl p ↦ elim (or_cases (says_true w l) (some_true w a) p) [ inl x ↦ or_left (says_true w l) (some_true w (a ++ b)) x | inr y ↦ or_right (says_true w l) (some_true w (a ++ b)) ((some_app w a b).1 (inl y)) ] | inr q ↦ or_right (says_true w l) (some_true w (a ++ b)) ((some_app w a b).1 (inr q)) ],
 )
 
 -- one of what is said of each item holds where it does of one, by its place
@@ -182,7 +183,7 @@ some_each {A = A} w n f (y ∷ ys) = (
   where
     back : (SomeAt w (suc n) f ys → some_true w (each (suc n) f ys) ≡ true) → (k : ℕ) (x : A) → slice_get (y ∷ ys) k ≡ Some x → some_true w (f (n + k) x) ≡ true → some_true w (f n y ++ each (suc n) f ys) ≡ true
     back later zero x e t =
-        let z : n + 0 ≡ n = omega arith in (some_app w (f n y) (each (suc n) f ys)).1 (inl (subst (λ v. some_true w (f n v) ≡ true) (sym (some_same e)) (subst (λ m. some_true w (f m x) ≡ true) z t)))
+        let z : n + 0 ≡ n = omega arith in (some_app w (f n y) (each (suc n) f ys)).1 (inl (subst (λ v. some_true w (f n v) ≡ true) (sym (same_Some _ _ e)) (subst (λ m. some_true w (f m x) ≡ true) z t)))
     back later (suc k) x e t =
         let z : n + suc k ≡ suc n + k = omega arith in (some_app w (f n y) (each (suc n) f ys)).1 (inr (later (k, x, e, subst (λ m. some_true w (f m x) ≡ true) z t)))
 
@@ -196,7 +197,7 @@ some_each0 w f xs = (
 target_true : (u : List Interface) (w : Var → Bool) (f : ℕ → ℕ → Candidate → List Rule) (o : Option ℕ) → Iff (rules_true w (at_target u f o) ≡ true) ((j e : ℕ) (k : Candidate) → o ≡ Some j → IsAt u j e k → rules_true w (f j e k) ≡ true)
 target_true u w f None = (λ h j e k n at. absurd (none_some n), λ h. refl)
 target_true u w f (Some i) = (
-  λ h j e k n at. let q : i ≡ j = some_same n in subst (λ x. rules_true w (f x e k) ≡ true) q ((each0_true w (f i) (candidates_of u i)).0 h e k (subst (λ x. IsAt u x e k) (sym q) at)),
+  λ h j e k n at. let q : i ≡ j = same_Some _ _ n in subst (λ x. rules_true w (f x e k) ≡ true) q ((each0_true w (f i) (candidates_of u i)).0 h e k (subst (λ x. IsAt u x e k) (sym q) at)),
   λ h. (each0_true w (f i) (candidates_of u i)).1 (λ e k at. h i e k refl at),
 )
 
@@ -204,7 +205,7 @@ target_some : (u : List Interface) (w : Var → Bool) (f : ℕ → ℕ → Candi
 target_some u w f None = (λ h. absurd (false≢true h), λ h. absurd (none_some h.3))
 target_some u w f (Some i) = (
   λ h. let r = (some_each0 w (f i) (candidates_of u i)).0 h in (i, r.0, r.1, refl, r.2, r.3),
-  λ h. let q : i ≡ h.0 = some_same h.3 in (some_each0 w (f i) (candidates_of u i)).1 (h.1, h.2, subst (λ x. IsAt u x h.1 h.2) (sym q) h.4, subst (λ x. some_true w (f x h.1 h.2) ≡ true) (sym q) h.5),
+  λ h. let q : i ≡ h.0 = same_Some _ _ h.3 in (some_each0 w (f i) (candidates_of u i)).1 (h.1, h.2, subst (λ x. IsAt u x h.1 h.2) (sym q) h.4, subst (λ x. some_true w (f x h.1 h.2) ≡ true) (sym q) h.5),
 )
 
 -- need(y, d)
@@ -397,7 +398,7 @@ group_true_is : (w : Var → Bool) (i : ℕ) (x : Interface) → Iff (rules_true
 group_true_is w i x =
     let g = One_of (each 0 (one_var i) x.candidates) in
     let len = length x.candidates in (
-      λ h c d l m p q. elim (bool_case (two_or_more len)) [ inl t ↦ (one_from_zero w i len).0 ((one_each w i 0 x.candidates).0 ((keep_rule w (two_or_more len) g).0 h t)) c d l m p q | inr f ↦ small len c d f l m ],
+      λ h c d l m p q. elim (cases_Bool (two_or_more len)) [ inl t ↦ (one_from_zero w i len).0 ((one_each w i 0 x.candidates).0 ((keep_rule w (two_or_more len) g).0 h t)) c d l m p q | inr f ↦ small len c d f l m ],
       λ h. (keep_rule w (two_or_more len) g).1 (λ t. (one_each w i 0 x.candidates).1 ((one_from_zero w i len).1 h)),
     )
 

@@ -6,6 +6,7 @@ use Rattle.zi_universe.specs.declared.types.Interface.{Interface}
 use Rattle.zi_choice.specs.Vars.{Var, Cand, Cmd, Wide, total, before, candidates_of, own_candidates, own_commands, all_commands, var_number, var_count}
 use Rattle.zi_choice.proofs.Base.{candidates_at}
 use Rattle.zi_build.specs.There.{Listed}
+use Rattle.zi_universe.proofs.OfferingLemmas.{item_at}
 
 -- which item a place belongs to, where each has some
 pub record Lies {A : Type 0} (size : A → ℕ) (xs : List A) (p : ℕ) : Type 0 where
@@ -27,11 +28,6 @@ lies size (x ∷ xs) p l =
     further : Lies size xs (p - size x) → size x ≤ p → Lies size (x ∷ xs) p
     further r h = let i = r.is in record { item = suc r.item; value = r.value; inner = r.inner; there = r.there; within = r.within; is = omega (arith, i, h) }
 
-get_there : {A : Type 0} (xs : List A) (n : ℕ) → n < length xs → (x : A) × (slice_get xs n ≡ Some x)
-get_there [] n l = absurd (omega (arith, l))
-get_there (x ∷ xs) zero l = (x, refl)
-get_there (x ∷ xs) (suc n) l = get_there xs n (omega (arith, l))
-
 -- the variable of a number
 pub variable_of : (u : List Interface) (x : ℕ) → 1 ≤ x → x ≤ var_count u → (y : Var) × Listed u y × (var_number u y ≡ x)
 variable_of u x low high =
@@ -46,7 +42,7 @@ variable_of u x low high =
   where
     cand : Lies own_candidates u (x - 1) → (y : Var) × Listed u y × (var_number u y ≡ x)
     cand r =
-        let k = get_there r.value.candidates r.inner r.within in
+        let k = item_at r.value.candidates r.inner r.within in
         let i = r.is in
         (Cand r.item r.inner, (k.0, subst (λ ks. slice_get ks r.inner ≡ Some k.0) (sym (candidates_at u r.item r.value r.there)) k.1), omega (arith, i, low))
 
@@ -55,7 +51,7 @@ variable_of u x low high =
       where
         inner : total own_candidates u ≤ x - 1 → (r : Lies all_commands u ((x - 1) - total own_candidates u)) → Lies own_commands r.value.candidates r.inner → (y : Var) × Listed u y × (var_number u y ≡ x)
         inner l r q =
-            let m = get_there q.value.imp.commands q.inner q.within in
+            let m = item_at q.value.imp.commands q.inner q.within in
             let i = r.is in
             let j = q.is in
             let ks = candidates_at u r.item r.value r.there in

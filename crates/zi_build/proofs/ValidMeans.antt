@@ -3,8 +3,9 @@
 use Rattle.std.proofs.Common.{◌≡◌, ℕ, zero, suc, ◌==◌, ◌<◌, Bool, true, false, ◌&&◌, ◌||◌, List, [], ◌∷◌, length, refl, sym, ap, ◌∙◌, subst, arith, Option, Some, None, inl, inr, eqb-true}
 use Rattle.std.specs.Prelude.{slice_get, All, IfSome, IsSomeAnd, option_and_then, bytes_eq, if◌then◌else◌}
 use Rattle.std.specs.Cmp.Lexicographic.{bytes_decides}
-use Rattle.std.proofs.lemmas.Bool.{false≢true, false_from_ne_true, cases_lt, and_parts, and_from, or_left, or_right}
+use Rattle.std.proofs.lemmas.Bool.{false≢true, false_from_ne_true, cases_lt, and_parts, and_from, or_left, or_right, or_cases}
 use Rattle.std.proofs.lemmas.List.Elements.{All-head, All-tail, All-nil, All-cons}
+use Rattle.std.proofs.lemmas.Option.{same_Some}
 use Rattle.zi_policy.specs.declared.types.Width.{Width}
 use Rattle.zi_policy.specs.declared.types.Width.TheVariants.{Any, Bits32, Bits64}
 use Rattle.zi_parts.specs.declared.types.Dep.{Dep}
@@ -17,13 +18,16 @@ use Rattle.zi_universe.specs.Candidates.{asks}
 use Rattle.zi_choice.specs.Choice.{Choice, pick, chosen, number, command_of, command_at, deps_of, needs_of, command_place}
 use Rattle.zi_choice.specs.Walk.{Use, Walk, is_listed, is_used, wanted}
 use Rattle.zi_choice.specs.Valid.{Has, Suits, IsMet, AreMet, group, IsValid, target}
-use Rattle.zi_choice.proofs.WalkLaws.{none_some, some_same, one_value}
+use Rattle.zi_choice.proofs.WalkLaws.{one_value}
 use Rattle.zi_choice.specs.Vars.{Var, Cand, Cmd, Wide}
-use Rattle.zi_choice.proofs.Base.{all_at, any_found, some_of, is_some_of, if_some_at, chosen_is, chosen_from, Stands, stands_at, found_of, or_split, nat_same}
+use Rattle.zi_choice.proofs.Base.{all_at, any_found, if_some_at, chosen_is, chosen_from, Stands, stands_at, found_of}
 use Rattle.zi_choice.proofs.WalkFacts.{Item, Visit, Need, has, IsThere, LeadsBy, Leads, deps_after, closed, cover_each, on_is}
 use Rattle.zi_choice.proofs.ThereLaws.{In}
 use Rattle.zi_build.proofs.Meaning.{IsAt, UsesOne, Uses, HasOne, AllMean, Means}
 use Rattle.zi_build.proofs.MeansValid.{leads_where, target_at, target_from}
+use Rattle.zi_xml.proofs.CharLemmas.{same_self}
+use Rattle.zi_feed.specs.IdLaws.{none_some}
+use Rattle.zi_text.proofs.ListLaws.{some_is, some_of}
 
 abbrev pub is_pick : Option ℕ → ℕ → Bool
 is_pick None c = false
@@ -34,7 +38,7 @@ pick_eq None c e = absurd (false≢true e)
 pick_eq (Some d) c e = ap (λ x. Some x) (eqb-true d c e)
 
 pub pick_is : (o : Option ℕ) (c : ℕ) → o ≡ Some c → is_pick o c ≡ true
-pick_is o c e = subst (λ x. is_pick x c ≡ true) (sym e) (nat_same c)
+pick_is o c e = subst (λ x. is_pick x c ≡ true) (sym e) (same_self c)
 
 -- the command at a place is the one of its name, and it is used
 abbrev pub use_of : Walk → ℕ → ℕ → Candidate → Option Command → Bool
@@ -83,7 +87,7 @@ wide_from u s i (suc n) h l =
 pub wide_to : (u : List Interface) (s : Choice) (n : ℕ) → some_wide u s n ≡ true → (i : ℕ) × (k : Candidate) × (chosen u s i ≡ Some k) × (group k ≡ Bits64)
 wide_to u s zero h = absurd (false≢true h)
 wide_to u s (suc n) h =
-    elim (or_split (wide_at (chosen u s n)) (some_wide u s n) h) [ inl p ↦ let r = wide_is (chosen u s n) p in (n, r.0, r.1, r.2) | inr q ↦ wide_to u s n q ]
+    elim (or_cases (wide_at (chosen u s n)) (some_wide u s n) h) [ inl p ↦ let r = wide_is (chosen u s n) p in (n, r.0, r.1, r.2) | inr q ↦ wide_to u s n q ]
 
 pub in_universe : (u : List Interface) (i c : ℕ) (k : Candidate) → IsAt u i c k → i < length u
 in_universe [] i c k e = absurd (none_some e)
@@ -151,7 +155,7 @@ module _ (u : List Interface) (req : Requirement) (s : Choice) (v : IsValid u re
       (b.0, pick_eq (command_place k m.name) n b.1)
 
   pub on_walk : (i c : ℕ) → pick s i ≡ Some c → is_listed v.walk i ≡ true
-  on_walk i c p = (on_is u req s v.walk v.walks i ((v.exactly i).0 (is_some_of (pick s i) c p))).1
+  on_walk i c p = (on_is u req s v.walk v.walks i ((v.exactly i).0 (some_is (pick s i) c p))).1
 
   command_means : (i c n : ℕ) (k : Candidate) (m : Command) → IsAt u i c k → slice_get k.imp.commands n ≡ Some m → w (Cmd i c n) ≡ true → (w (Cand i c) ≡ true) × AllMean u w (needs_of m)
   command_means i c n k m at e t =
@@ -186,7 +190,7 @@ module _ (u : List Interface) (req : Requirement) (s : Choice) (v : IsValid u re
       record {
         root = record { candidate = c.0; item = r.0; there = c.2; is_true = pick_is (pick s 0) c.0 c.1 };
         root_has = λ e k at t. wants e k req.command at t (subst (λ x. IfSome req.command (λ name. Has x name)) (one_value (picked 0 e k at t) r.1) r.2) (λ name l there. cover_each name there.0 v.walks.needs l there.1);
-        one = λ i e f l n p q. some_same (sym (pick_eq (pick s i) e p) ∙ pick_eq (pick s i) f q);
+        one = λ i e f l n p q. same_Some _ _ (sym (pick_eq (pick s i) e p) ∙ pick_eq (pick s i) f q);
         each = λ i e k at. record {
           bits64 = λ t b. wide_from u s i (length u) (subst (λ o. wide_at o ≡ true) (sym (picked i e k at t)) (ap is_wide b)) (in_universe u i e k at);
           bits32 = λ t b. false_from_ne_true (some_wide u s (length u)) (λ h. let x = wide_to u s (length u) h in v.one_group i x.0 k x.1 (picked i e k at t) x.2 b x.3);

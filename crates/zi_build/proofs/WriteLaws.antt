@@ -24,6 +24,7 @@ use Rattle.zi_build.specs.There.{Listed}
 use Rattle.zi_build.specs.Writing.{starts, IsTable, Holds, Puts, Adds}
 use Rattle.zi_build.proofs.Numbers.{number_high, number_low}
 use Rattle.zi_build.proofs.NumberLaws.{starts_at, command_starts_at}
+use Rattle.zi_version.proofs.Steps.{and-false}
 
 pub literals_app : (cs ds : List Constraint) → literals (cs ++ ds) ≡ literals cs + literals ds
 literals_app [] ds = omega arith
@@ -196,13 +197,8 @@ own_few (x ∷ u) (suc j) = let h = own_few u j in omega (arith, h)
 pub candidates_few : (u : List Interface) (j : ℕ) → IsWhole u → length (candidates_of u j) ≤ 65536
 candidates_few u j h = let a = own_few u j in let b = total_few u h in omega (arith, a, b)
 
--- the clause that says of two variables that not both hold
-and_false : (b : Bool) → (b && false) ≡ false
-and_false true = refl
-and_false false = refl
-
 pub no_yes : (x z : Var) (ls : List Says) → without (no x) (yes z ∷ ls) ≡ yes z ∷ without (no x) ls
-no_yes x z ls = ap (λ b. cond b (without (no x) ls) (yes z ∷ without (no x) ls)) (and_false (same_var x z))
+no_yes x z ls = ap (λ b. cond b (without (no x) ls) (yes z ∷ without (no x) ls)) (and-false (same_var x z))
 
 pub having_stays : (x : Var) (j e : ℕ) (o : Option ℕ) → without (no x) (having j e o) ≡ having j e o
 having_stays x j e None = refl
@@ -239,7 +235,7 @@ needs_more b u y ds i d v w x l e g h =
     adds_as b u v x (needs u y (take i ds) ++ need u y d) (needs u y (take (i + 1) ds)) (sym (needs_next u y ds i d l e) ∙ ap (λ n. needs u y (take n ds)) s) (adds_both b u v w x (needs u y (take i ds)) (need u y d) g h)
 
 -- pieces of dependencies
-needs_join : (u : List Interface) (y : Var) (ds es : List Dep) → needs u y (ds ++ es) ≡ needs u y ds ++ needs u y es
+pub needs_join : (u : List Interface) (y : Var) (ds es : List Dep) → needs u y (ds ++ es) ≡ needs u y ds ++ needs u y es
 needs_join u y [] es = refl
 needs_join u y (d ∷ ds) es = ap (λ rs. need u y d ++ rs) (needs_join u y ds es) ∙ sym (append_assoc (need u y d) (needs u y ds) (needs u y es))
 

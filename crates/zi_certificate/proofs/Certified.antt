@@ -3,6 +3,7 @@ use Rattle.std.proofs.Common.{◌≡◌, ◌≢◌, ℕ, zero, suc, ◌+◌, Boo
 use Rattle.std.specs.Prelude.{slice_get}
 use Rattle.std.proofs.lemmas.Bool.{false≢true, false_from_ne_true, and_parts}
 use Rattle.std.proofs.lemmas.Bool.Decides.{nat_tests}
+use Rattle.std.proofs.lemmas.Option.{same_Some}
 use Rattle.zi_formula.specs.declared.formula.Lit.{Lit}
 use Rattle.zi_formula.specs.declared.formula.Formula.{Formula}
 use Rattle.zi_formula.specs.Truth.{lit_true, clause_true, all_true, Models}
@@ -20,17 +21,19 @@ use Rattle.zi_choice.specs.Choice.{Choice, pick, candidate_at}
 use Rattle.zi_choice.specs.Walk.{Place, Walk}
 use Rattle.zi_choice.specs.Valid.{IsValid}
 use Rattle.zi_choice.specs.Best.{IsBetter, RanksEarlier}
-use Rattle.zi_choice.proofs.WalkLaws.{none_some, some_same, walk_one}
+use Rattle.zi_choice.proofs.WalkLaws.{walk_one}
 use Rattle.zi_choice.proofs.ApartLaws.{one_earlier}
 use Rattle.zi_choice.specs.Vars.{Cand, candidates_of, var_number}
 use Rattle.zi_build.specs.Clauses.{each, keep, formula}
 use Rattle.zi_build.specs.Laws.{IsCandidatePart}
-use Rattle.zi_choice.proofs.Base.{candidate_is, is_some_of, some_of}
+use Rattle.zi_choice.proofs.Base.{candidate_is}
 use Rattle.zi_build.proofs.Meaning.{IsAt}
 use Rattle.zi_choice.proofs.WalkFacts.{faithful}
 use Rattle.zi_build.proofs.Central.{valid_is_model, none_is_no_model}
 use Rattle.zi_certificate.specs.Certificates.{Asked, is_passed, is_so, is_not, said_at, asked_one, asked_from, AreBlocks, Refutes}
 use Rattle.zi_certificate.specs.Laws.{CertifiedIsBest, RefutedIsNone}
+use Rattle.zi_feed.specs.IdLaws.{none_some}
+use Rattle.zi_text.proofs.ListLaws.{at_front, some_is, some_of}
 
 -- every block that is asked for is accepted by some hints
 abbrev IsAccepted : Formula → List Lemma → Asked → Type 0
@@ -58,7 +61,7 @@ accepted_at : {A : Type 0} (f : Formula) (ms : List Lemma) (n : ℕ) (g : ℕ �
 accepted_at f ms n g [] c x e h = absurd (none_some e)
 accepted_at f ms n g (y ∷ ys) zero x e h =
     let z : n ≡ n + 0 = omega arith in
-    subst (λ m. AllAccepted f ms (g m x)) z (subst (λ a. AllAccepted f ms (g n a)) (some_same e) (accepted_left f ms (g n y) (each (suc n) g ys) h))
+    subst (λ m. AllAccepted f ms (g m x)) z (subst (λ a. AllAccepted f ms (g n a)) (same_Some _ _ e) (accepted_left f ms (g n y) (each (suc n) g ys) h))
 accepted_at f ms n g (y ∷ ys) (suc c) x e h =
     let z : suc n + c ≡ n + suc c = omega arith in
     subst (λ m. AllAccepted f ms (g m x)) z (accepted_at f ms (suc n) g ys c x e (accepted_right f ms (g n y) (each (suc n) g ys) h))
@@ -88,7 +91,7 @@ module _ (u : List Interface) (req : Requirement) (ms : List Lemma) (log : follo
 
   none_false : (i c : ℕ) (k : Candidate) → pick t i ≡ None → IsAt u i c k → MakesTrue v (is_not u i c k)
   none_false i c k e at =
-      let f : v (var_number u (Cand i c)) ≡ false = false_from_ne_true (v (var_number u (Cand i c))) (λ y. none_some (sym e ∙ part.are_chosen i c (is_some_of (candidate_at u i c) k (candidate_is u i c ∙ at)) y)) in
+      let f : v (var_number u (Cand i c)) ≡ false = false_from_ne_true (v (var_number u (Cand i c))) (λ y. none_some (sym e ∙ part.are_chosen i c (some_is (candidate_at u i c) k (candidate_is u i c ∙ at)) y)) in
       (ap not f, tt)
 
   said_true : (i : ℕ) (p : Option ℕ) → pick t i ≡ p → MakesTrue v (said_at u i p)
@@ -109,11 +112,6 @@ module _ (u : List Interface) (req : Requirement) (ms : List Lemma) (log : follo
       (accepted_right (formula u req) ms (each 0 (asked_one u n before c) (candidates_of u c.interface)) (asked_from u (suc n) (before ++ said_at u c.interface c.pick) (cs ++ record { interface = i; pick = q } ∷ other)) h)
       (makes_both v before (said_at u c.interface c.pick) g (said_true c.interface c.pick (like 0 c refl)))
       (λ m x y. like (suc m) x y) p b
-
-front_get : {A : Type 0} (xs ys : List A) (n : ℕ) (x : A) → slice_get xs n ≡ Some x → slice_get (xs ++ ys) n ≡ Some x
-front_get [] ys n x e = absurd (none_some e)
-front_get (y ∷ xs) ys zero x e = e
-front_get (y ∷ xs) ys (suc n) x e = front_get xs ys n x e
 
 mid_get : {A : Type 0} (xs : List A) (y : A) (ys : List A) → (n : ℕ) × (slice_get (xs ++ y ∷ ys) n ≡ Some y)
 mid_get [] y ys = (0, refl)
@@ -137,7 +135,7 @@ certified_is_best u req s c valid h = record {
         no_better u req c.proof.lemmas h.follow t m.0 m.1 m.2 1 [] g.before.common g.before.interface d g.before.there g.before.other_rest
         (subst (λ ps. AllAccepted (formula u req) c.proof.lemmas (asked_from u 1 [] ps)) is_s (blocks_accepted (formula u req) c.proof.lemmas (asked_from u 1 [] h.walk.places) c.blocks h.blocks))
         tt
-        (λ n p y. there n p (ap (λ ps. slice_get ps n) g.before.is ∙ front_get g.before.common (record { interface = g.before.interface; pick = g.before.here } ∷ g.before.rest) n p y))
+        (λ n p y. there n p (ap (λ ps. slice_get ps n) g.before.is ∙ at_front g.before.common (record { interface = g.before.interface; pick = g.before.here } ∷ g.before.rest) n p y))
         (there mid.0 (record { interface = g.before.interface; pick = g.before.here }) (ap (λ ps. slice_get ps mid.0) g.before.is ∙ mid.1) ∙ e)
         (subst (λ o. IsBetter o g.before.there) e g.before.better)
 

@@ -2,6 +2,7 @@
 use Rattle.std.proofs.Common.{◌≡◌, ℕ, zero, suc, ◌<◌, Bool, true, false, List, [], ◌∷◌, length, map, sym, ap, ◌∙◌, subst, Some, Decides}
 use Rattle.std.specs.Prelude.{slice_get, All}
 use Rattle.std.proofs.lemmas.Bool.{false≢true}
+use Rattle.std.proofs.lemmas.Option.{same_Some}
 use Rattle.zi_formula.specs.declared.formula.Formula.{Formula}
 use Rattle.zi_proof.specs.declared.proof.Block.{Block}
 use Rattle.zi_proof.specs.declared.proof.Certificate.{Certificate}
@@ -17,11 +18,12 @@ use Rattle.zi_choice.specs.declared.traced.Traced.{Traced}
 use Rattle.zi_choice.specs.Vars.{candidates_of}
 use Rattle.zi_choice.proofs.Base.{all_from, if_some_from}
 use Rattle.zi_choice.proofs.WalkFacts.{faithful}
-use Rattle.zi_choice.proofs.WalkLaws.{none_some, some_same, walk_one}
+use Rattle.zi_choice.proofs.WalkLaws.{walk_one}
 use Rattle.zi_build.specs.Clauses.{formula}
 use Rattle.zi_certificate.specs.Certificates.{asked_from, AreBlocks, Excludes}
 use Rattle.zi_check.specs.Taking.{Within}
 use Rattle.zi_check.proofs.ValidLaws.{there_within}
+use Rattle.zi_feed.specs.IdLaws.{none_some}
 
 pub not_followed : (u : List Interface) (req : Requirement) (s : Choice) (c : Certificate) (f : Formula) (b : Bool) → f ≡ formula u req → b ≡ follows f c.proof.lemmas → b ≡ false → Decides false (Excludes u req s c)
 not_followed u req s c f b e h g = (λ t. absurd (false≢true t), λ x. absurd (false≢true (sym g ∙ h ∙ ap (λ f. follows f c.proof.lemmas) e ∙ x.follow)))
@@ -41,7 +43,7 @@ excluded u v req s c f w ps bs b e n p q follow walks t = (
 -- what is picked at a place of a walk is one of the candidates
 mapped : (ps : List Place) (m : ℕ) (p : Place) → slice_get ps m ≡ Some p → slice_get (map as_place ps) m ≡ Some (as_place p)
 mapped [] m p e = absurd (none_some e)
-mapped (x ∷ ps) zero p e = ap (λ y. Some (as_place y)) (some_same e)
+mapped (x ∷ ps) zero p e = ap (λ y. Some (as_place y)) (same_Some _ _ e)
 mapped (x ∷ ps) (suc m) p e = mapped ps m p e
 
 pub all_within : (u v : List Interface) (req : Requirement) (s : Choice) (t : Traced) (ps : List Place) → v ≡ u → ps ≡ t.places → Fits u s → Walks u req s (as_walk t) → All (λ p. Within v (as_place p)) ps

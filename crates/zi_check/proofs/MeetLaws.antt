@@ -8,7 +8,7 @@ use Rattle.zi_policy.specs.contracts.types.Width.{the_type}
 use Rattle.std.specs.List.{list_all}
 use Rattle.std.proofs.lemmas.Bool.{false≢true}
 use Rattle.std.proofs.lemmas.List.{take_all, take_more}
-use Rattle.std.proofs.lemmas.Option.{slice_get_within, get_or_from_slice_get}
+use Rattle.std.proofs.lemmas.Option.{slice_get_within, get_or_from_slice_get, same_Some}
 use Rattle.std.proofs.lemmas.List.Elements.{All-head, All-tail, All-nil, All-cons, All-push}
 use Rattle.zi_version.specs.Range.{admits}
 use Rattle.zi_policy.specs.declared.types.Width.{Width}
@@ -21,10 +21,11 @@ use Rattle.zi_universe.specs.declared.types.Interface.{Interface}
 use Rattle.zi_universe.specs.Candidates.{asks}
 use Rattle.zi_choice.specs.Choice.{Choice, chosen, number, command_of, command_at, needs_of, with_runner}
 use Rattle.zi_choice.specs.Valid.{Has, Suits, target, IsMet, AreMet, group}
-use Rattle.zi_choice.proofs.Base.{is_some_of, if_some_at, if_some_from}
-use Rattle.zi_choice.proofs.WalkLaws.{none_some, some_same}
+use Rattle.zi_choice.proofs.Base.{if_some_at, if_some_from}
+use Rattle.zi_feed.specs.IdLaws.{none_some}
+use Rattle.zi_text.proofs.ListLaws.{some_is}
 
-none_is : {A : Type 0} (o : Option A) → o ≡ None → IsSome o → ⊥
+pub none_is : {A : Type 0} (o : Option A) → o ≡ None → IsSome o → ⊥
 none_is None e h = false≢true h
 none_is (Some x) e h = none_some (sym e)
 
@@ -55,7 +56,7 @@ tells_taken P xs n le h = (λ _. subst (All P) (take_all n xs le) h, λ _. refl)
 
 pub tells_some : {A : Type 0} (o : Option (Bor A)) (p : Option A) (b : Bool) → option_copied o ≡ p → b ≡ is_some o → Decides b (IsSome p)
 tells_some None p b e f = (λ t. absurd (false≢true (sym f ∙ t)), λ h. absurd (none_is p (sym e) h))
-tells_some (Some x) p b e f = (λ t. is_some_of p x.now (sym e), λ h. f)
+tells_some (Some x) p b e f = (λ t. some_is p x.now (sym e), λ h. f)
 
 pub tells_if : {A : Type 0} (P : A → Type 0) (o : Option A) (x : A) (b : Bool) → o ≡ Some x → Decides b (P x) → Decides b (IfSome o P)
 tells_if P o x b e h = (λ t. subst (λ p. IfSome p P) (sym e) (h.0 t), λ g. h.1 (subst (λ p. IfSome p P) e g))
@@ -81,7 +82,7 @@ tells_has u s i k name b e h = (λ t. subst IsSome (sym (its_command u s i k nam
 
 -- the candidate of a bit group
 pub tells_group : (u : List Interface) (s : Choice) (i : ℕ) (k : Candidate) (width : Width) (b : Bool) → chosen u s i ≡ Some k → Decides b (group k ≡ width) → Decides b ((c : Candidate) × (chosen u s i ≡ Some c) × (group c ≡ width))
-tells_group u s i k width b e h = (λ t. (k, e, h.0 t), λ g. h.1 (subst (λ (x : Candidate). group x ≡ width) (some_same (sym g.1 ∙ e)) g.2))
+tells_group u s i k width b e h = (λ t. (k, e, h.0 t), λ g. h.1 (subst (λ (x : Candidate). group x ≡ width) (same_Some _ _ (sym g.1 ∙ e)) g.2))
 
 pub tells_width : (a b : Width) (r : Bool) → r ≡ sameb the_type a b → Decides r (a ≡ b)
 tells_width a b r e = (λ t. same_true the_type (search rules) a b (sym e ∙ t), λ h. e ∙ true_same the_type a b h)
@@ -112,10 +113,6 @@ suits_each u s i d k b a r c e f g h w = (
   λ y. w.1 (all_has u s i k d.commands c (y.commands (sym g ∙ h))),
 )
 
--- it is met
-pub target_there : (u : List Interface) (s : Choice) (d : Dep) (i : ℕ) → number u d.interface ≡ Some i → target u s d ≡ chosen u s i
-target_there u s d i e = ap (λ o. option_and_then (λ j. chosen u s j) o) e
-
 pub no_target : (u : List Interface) (s : Choice) (d : Dep) → number u d.interface ≡ None → target u s d ≡ None
 no_target u s d e = ap (λ o. option_and_then (λ j. chosen u s j) o) e
 
@@ -130,8 +127,8 @@ met_without u s d e h = record {
 
 pub met_with : (u : List Interface) (s : Choice) (d : Dep) (k : Candidate) → target u s d ≡ Some k → Suits d k → IsMet u s d
 met_with u s d k e h = record {
-  there = λ q. is_some_of (target u s d) k e;
-  suits = if_some_from (λ c. Suits d c) (target u s d) (λ c g. subst (λ x. Suits d x) (some_same (sym e ∙ g)) h);
+  there = λ q. some_is (target u s d) k e;
+  suits = if_some_from (λ c. Suits d c) (target u s d) (λ c g. subst (λ x. Suits d x) (same_Some _ _ (sym e ∙ g)) h);
 }
 
 pub met_suits : (u : List Interface) (s : Choice) (d : Dep) (k : Candidate) → target u s d ≡ Some k → IsMet u s d → Suits d k

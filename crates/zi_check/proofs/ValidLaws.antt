@@ -2,7 +2,7 @@
 use Rattle.std.proofs.Common.{◌≡◌, ℕ, zero, suc, ◌+◌, ◌<◌, ◌≤◌, Bool, true, false, not, List, [], ◌∷◌, length, map, get_or, slice_index_or, refl, sym, ap, ◌∙◌, subst, arith, Option, Some, None, ◌⊎◌, inl, inr, Decides}
 use Rattle.std.specs.Prelude.{slice_get, is_some, IsSome, IfSome, IsSomeAnd, All, MatchOption, unwrap_or}
 use Rattle.std.proofs.lemmas.Bool.{false≢true}
-use Rattle.std.proofs.lemmas.Option.{slice_get-get_or}
+use Rattle.std.proofs.lemmas.Option.{slice_get-get_or, same_Some}
 use Rattle.zi_policy.specs.declared.types.Width.TheVariants.{Bits32, Bits64}
 use Rattle.zi_universe.specs.declared.types.Requirement.{Requirement}
 use Rattle.zi_universe.specs.declared.types.Candidate.{Candidate}
@@ -15,20 +15,18 @@ use Rattle.zi_choice.specs.declared.traced.Traced.{Traced}
 use Rattle.zi_choice.specs.declared.traced.Used.{Used}
 use Rattle.zi_choice.specs.Valid.{Has, AreMet, IsValid}
 use Rattle.zi_choice.specs.Vars.{candidates_of}
-use Rattle.zi_choice.proofs.Base.{all_at, all_from, some_of, is_some_of, if_some_at, if_some_from, chosen_from, candidate_is, candidates_at}
+use Rattle.zi_choice.proofs.Base.{all_at, all_from, if_some_at, if_some_from, chosen_from, candidate_is, candidates_at}
 use Rattle.zi_choice.proofs.WalkFacts.{is_on, on_is}
-use Rattle.zi_choice.proofs.WalkLaws.{none_some, some_same, walk_one}
+use Rattle.zi_choice.proofs.WalkLaws.{walk_one}
 use Rattle.zi_check.specs.declared.meeting.Setting.{Setting}
 use Rattle.zi_numbering.specs.Listing.{AreListed}
 use Rattle.zi_check.specs.Parts.{universe_of, picks_of, IsUseMet, IsCandidateMet, SomeAre, Below, IsThere, IsOn, IsRight}
+use Rattle.zi_choice.proofs.ThereIsBest.{pick_inside}
+use Rattle.zi_feed.specs.IdLaws.{none_some}
+use Rattle.zi_text.proofs.ListLaws.{some_is, some_of}
 
 pub pick_at : (s : Choice) (i : ℕ) (p : Option ℕ) → i < length s → get_or s i None ≡ p → pick s i ≡ p
 pick_at s i p l e = ap (λ o. unwrap_or o None) (slice_get-get_or s i None l) ∙ e
-
-pub in_range : (s : Choice) (i c : ℕ) → pick s i ≡ Some c → i < length s
-in_range [] i c e = absurd (none_some e)
-in_range (x ∷ s) zero c e = omega arith
-in_range (x ∷ s) (suc i) c e = let r = in_range s i c e in omega (arith, r)
 
 -- what is so of each number below one
 pub below_none : (P : ℕ → Type 0) → Below 0 P
@@ -68,9 +66,9 @@ there_none u s i e c p = absurd (none_some (sym e ∙ p))
 
 pub there_some : (u : List Interface) (s : Choice) (i c : ℕ) → pick s i ≡ Some c → c < length (candidates_of u i) → IsThere u s i
 there_some u s i c e l d p =
-    let same : c ≡ d = some_same (sym e ∙ p) in
+    let same : c ≡ d = same_Some _ _ (sym e ∙ p) in
     let k = item (candidates_of u i) c l in
-    subst (λ m. IsSome (candidate_at u i m)) same (is_some_of (candidate_at u i c) k.0 (candidate_is u i c ∙ k.1))
+    subst (λ m. IsSome (candidate_at u i m)) same (some_is (candidate_at u i c) k.0 (candidate_is u i c ∙ k.1))
   where
     item : (ks : List Candidate) (c : ℕ) → c < length ks → (k : Candidate) × (slice_get ks c ≡ Some k)
     item [] c l = absurd (omega (arith, l))
@@ -103,7 +101,7 @@ fits_fails u s i b t e = (λ y. absurd (false≢true y), λ h. absurd (false≢t
 
 pub fits_holds : (u : List Interface) (s : Choice) (m n i : ℕ) → m ≡ length s → n ≡ length u → m ≡ n → Below i (IsThere u s) → m ≤ i → Decides true (Fits u s)
 fits_holds u s m n i e f d h l = (
-  λ y. record { each = sym e ∙ d ∙ f; there = λ j c p. let r = in_range s j c p in h j (omega (arith, r, l, e)) c p },
+  λ y. record { each = sym e ∙ d ∙ f; there = λ j c p. let r = pick_inside s j c p in h j (omega (arith, r, l, e)) c p },
   λ y. refl,
 )
 
@@ -112,7 +110,7 @@ pub tells_on_none : (s : Choice) (i : ℕ) (P : Type 0) → pick s i ≡ None �
 tells_on_none s i P e = (λ y h. absurd (false≢true (subst IsSome e h)), λ y. refl)
 
 pub tells_on : (s : Choice) (i c : ℕ) (b : Bool) (P : Type 0) → pick s i ≡ Some c → Decides b P → Decides b (IsSome (pick s i) → P)
-tells_on s i c b P e t = (λ y h. t.0 y, λ h. t.1 (h (is_some_of (pick s i) c e)))
+tells_on s i c b P e t = (λ y h. t.0 y, λ h. t.1 (h (some_is (pick s i) c e)))
 
 pub tells_listed : (n : ℕ) (ps : List APlace) (s : Choice) (ms : List Bool) (i : ℕ) (b : Bool) → AreListed n ps ms → i < n → Decides b (IsSome (pick s i) → slice_index_or ms i false ≡ true) → Decides b (IsOn ps s i)
 tells_listed n ps s ms i b a l t = (λ y h. sym (a.are i l) ∙ t.0 y h, λ h. t.1 (λ y. a.are i l ∙ h y))
@@ -153,7 +151,7 @@ module _ (on : Setting) (req : Requirement) (n : ℕ) where
     used_met = uses;
     one_group = λ i j c d g h p q. r.apart (i, below i c g, (c, g, p)) (j, below j d h, (d, h, q));
     exactly = λ i. (
-      λ h. (let c = some_of (pick s i) h in is_on u req s w walks i c.0 (placed i (in_range s i c.0 c.1) h) c.1),
+      λ h. (let c = some_of (pick s i) h in is_on u req s w walks i c.0 (placed i (pick_inside s i c.0 c.1) h) c.1),
       λ h. (on_is u req s w walks i h).0,
     );
   }
@@ -161,7 +159,7 @@ module _ (on : Setting) (req : Requirement) (n : ℕ) where
       below : (i : ℕ) (k : Candidate) → chosen u s i ≡ Some k → i < n
       below i k g =
           let c = chosen_from u s i k g in
-          let l = in_range s i c.0 c.1 in
+          let l = pick_inside s i c.0 c.1 in
           let each = f.each in omega (arith, l, each, e)
 
   pub valid_right : IsValid u req s → IsRight on req n
@@ -180,12 +178,12 @@ module _ (on : Setting) (req : Requirement) (n : ℕ) where
 
   mapped : (xs : List Used) (m : ℕ) (x : Used) → slice_get xs m ≡ Some x → slice_get (map as_use xs) m ≡ Some (as_use x)
   mapped [] m x e = absurd (none_some e)
-  mapped (y ∷ xs) zero x e = ap (λ z. Some (as_use z)) (some_same e)
+  mapped (y ∷ xs) zero x e = ap (λ z. Some (as_use z)) (same_Some _ _ e)
   mapped (y ∷ xs) (suc m) x e = mapped xs m x e
 
   unmapped : (xs : List Used) (m : ℕ) (x : Use) → slice_get (map as_use xs) m ≡ Some x → (y : Used) × (slice_get xs m ≡ Some y) × (as_use y ≡ x)
   unmapped [] m x e = absurd (none_some e)
-  unmapped (y ∷ xs) zero x e = (y, refl, some_same e)
+  unmapped (y ∷ xs) zero x e = (y, refl, same_Some _ _ e)
   unmapped (y ∷ xs) (suc m) x e = unmapped xs m x e
 
   pub uses_to : (xs : List Used) → All (λ x. IsUseMet on (as_use x)) xs → All (λ x. IsUseMet on x) (map as_use xs)

@@ -3,6 +3,7 @@ use Rattle.std.proofs.Common.{◌≡◌, ◌≢◌, ℕ, zero, suc, ◌<◌, Lis
 use Rattle.std.specs.Prelude.{slice_get, All, Contains, IsSome, IfSome, IsSomeAnd, option_and_then, ◌↔◌}
 use Rattle.std.proofs.lemmas.List.{length-map}
 use Rattle.std.proofs.lemmas.Bool.{false≢true}
+use Rattle.std.proofs.lemmas.Option.{same_Some}
 use Rattle.zi_policy.specs.declared.types.Width.{Width}
 use Rattle.zi_policy.specs.declared.types.Width.TheVariants.{Bits32, Bits64}
 use Rattle.zi_universe.specs.declared.types.Requirement.{Requirement}
@@ -14,7 +15,8 @@ use Rattle.zi_choice.specs.Valid.{IsValid, AreMet, IsChosenOn, Has, group}
 use Rattle.zi_choice.specs.Best.{IsBetter, RanksEarlier}
 use Rattle.zi_choice.specs.Laws.{FirstAloneIsBest, NoRootNoChoice}
 use Rattle.zi_choice.proofs.ChoiceLaws.{same_list}
-use Rattle.zi_choice.proofs.WalkLaws.{some_same, none_some, not_both, one_value, walk_one}
+use Rattle.zi_choice.proofs.WalkLaws.{not_both, one_value, walk_one}
+use Rattle.zi_feed.specs.IdLaws.{none_some}
 
 -- No candidate here has a dependency of its own.
 abbrev AskNothing : List Candidate → Type 0
@@ -22,7 +24,7 @@ AskNothing ks = (c : ℕ) (k : Candidate) → slice_get ks c ≡ Some k → k.im
 
 asks_nothing : (ks : List Candidate) → All (λ k. k.imp.deps ≡ []) ks → AskNothing ks
 asks_nothing [] all c k e = absurd (none_some e)
-asks_nothing (x ∷ ks) all zero k e = subst (λ (y : Candidate). y.imp.deps ≡ []) (some_same e) (all 0 x (omega arith))
+asks_nothing (x ∷ ks) all zero k e = subst (λ (y : Candidate). y.imp.deps ≡ []) (same_Some _ _ e) (all 0 x (omega arith))
 asks_nothing (x ∷ ks) all (suc c) k e = asks_nothing ks (λ n d lt. all (suc n) d (omega arith)) c k e
 
 of_candidate : (ks : List Candidate) → AskNothing ks → (o : Option Candidate) (c : ℕ) → slice_get ks c ≡ o → deps_of o ≡ []
@@ -81,7 +83,7 @@ module _ (x : Interface) (xs : List Interface) (req : Requirement) (k : Candidat
   chosen_past j = ap (λ p. option_and_then (λ c. candidate_at u (suc j) c) p) (none_past xs j)
 
   are_candidates : (i c : ℕ) → pick s i ≡ Some c → IsSome (candidate_at u i c)
-  are_candidates zero c e = subst (λ n. IsSome (candidate_at u 0 n)) (some_same e) (subst (λ o. IsSome o) (sym first) refl)
+  are_candidates zero c e = subst (λ n. IsSome (candidate_at u 0 n)) (same_Some _ _ e) (subst (λ o. IsSome o) (sym first) refl)
   are_candidates (suc j) c e = not_both (none_past xs j) e
 
   fits : Fits u s
@@ -156,7 +158,7 @@ has_first (k ∷ ks) lt = (k, refl)
 pub first_alone_best : FirstAloneIsBest
 first_alone_best [] req root e plain all lt = absurd (none_some e)
 first_alone_best (x ∷ xs) req root e plain all lt =
-    let here : x ≡ root = some_same e in
+    let here : x ≡ root = same_Some _ _ e in
     let none : AskNothing x.candidates = asks_nothing x.candidates (subst (λ (r : Interface). All (λ c. c.imp.deps ≡ []) r.candidates) (sym here) all) in
     let one = has_first x.candidates (subst (λ (r : Interface). 0 < length r.candidates) (sym here) lt) in
     record {
@@ -172,4 +174,4 @@ no_candidate (k ∷ ks) (Some c) Q e h = omega (arith, e)
 pub no_root_no_choice : NoRootNoChoice
 no_root_no_choice [] req root s e empty v = none_some e
 no_root_no_choice (x ∷ xs) req root s e empty v =
-    no_candidate x.candidates (pick s 0) (λ c. IfSome req.command (λ name. Has c name)) (subst (λ (r : Interface). length r.candidates ≡ 0) (sym (some_same e)) empty) v.root
+    no_candidate x.candidates (pick s 0) (λ c. IfSome req.command (λ name. Has c name)) (subst (λ (r : Interface). length r.candidates ≡ 0) (sym (same_Some _ _ e)) empty) v.root

@@ -2,28 +2,18 @@
 use Rattle.std.proofs.Common.{◌≡◌, ℕ, zero, suc, ◌==◌, ◌+◌, Bool, true, false, cond, ◌||◌, List, [], ◌∷◌, get_or, refl, sym, ap, ◌∙◌, subst, arith, Option, Some, None, ◌⊎◌, inl, inr, eq-eqb}
 use Rattle.std.specs.Prelude.{slice_get, All, IsSome, IfSome, option_and_then, find, bytes_eq}
 use Rattle.std.specs.List.{position_from, list_any}
-use Rattle.std.proofs.lemmas.Bool.{false≢true, or_left, or_right}
-use Rattle.std.proofs.lemmas.Option.{slice_get_within, slice_get-get_or, get_or_from_slice_get}
+use Rattle.std.proofs.lemmas.Bool.{false≢true, or_left, or_right, or_cases}
+use Rattle.std.proofs.lemmas.Option.{slice_get_within, slice_get-get_or, get_or_from_slice_get, same_Some}
 use Rattle.zi_parts.specs.declared.types.Command.{Command}
 use Rattle.zi_universe.specs.declared.types.Candidate.{Candidate}
 use Rattle.zi_universe.specs.declared.types.Interface.{Interface}
 use Rattle.zi_choice.specs.Choice.{Choice, pick, candidate_at, chosen, command_of, command_place}
-use Rattle.zi_choice.proofs.WalkLaws.{none_some, some_same, not_both, one_value}
+use Rattle.zi_choice.proofs.WalkLaws.{not_both, one_value}
 use Rattle.zi_choice.specs.Vars.{candidates_of}
+use Rattle.zi_feed.specs.IdLaws.{none_some}
 
 abbrev pub Iff : Type 0 → Type 0 → Type 0
 Iff A B = (A → B) × (B → A)
-
-pub bool_case : (b : Bool) → (b ≡ true) ⊎ (b ≡ false)
-bool_case true = inl refl
-bool_case false = inr refl
-
-pub or_split : (a b : Bool) → (a || b) ≡ true → (a ≡ true) ⊎ (b ≡ true)
-or_split true b e = inl refl
-or_split false b e = inr e
-
-pub nat_same : (i : ℕ) → (i == i) ≡ true
-nat_same i = eq-eqb i i refl
 
 -- what holds of each item, by its place
 pub all_at : {A : Type 0} (P : A → Type 0) (xs : List A) (n : ℕ) (x : A) → All P xs → slice_get xs n ≡ Some x → P x
@@ -32,22 +22,10 @@ all_at P xs n x h e = subst P (get_or_from_slice_get xs n x x e) (h n x (slice_g
 pub all_from : {A : Type 0} (P : A → Type 0) (xs : List A) → ((n : ℕ) (x : A) → slice_get xs n ≡ Some x → P x) → All P xs
 all_from P xs h k d lt = h k (get_or xs k d) (slice_get-get_or xs k d lt)
 
-pub any_at : {A : Type 0} (test : A → Bool) (xs : List A) (n : ℕ) (x : A) → slice_get xs n ≡ Some x → test x ≡ true → list_any test xs ≡ true
-any_at test [] n x e t = absurd (none_some e)
-any_at test (y ∷ xs) zero x e t = or_left (test y) (list_any test xs) (subst (λ z. test z ≡ true) (sym (some_same e)) t)
-any_at test (y ∷ xs) (suc n) x e t = or_right (test y) (list_any test xs) (any_at test xs n x e t)
-
 pub any_found : {A : Type 0} (test : A → Bool) (xs : List A) → list_any test xs ≡ true → (n : ℕ) × (x : A) × (slice_get xs n ≡ Some x) × (test x ≡ true)
 any_found test [] e = absurd (false≢true e)
 any_found test (y ∷ xs) e =
-    elim (or_split (test y) (list_any test xs) e) [ inl p ↦ (0, y, refl, p) | inr q ↦ let r = any_found test xs q in (suc r.0, r.1, r.2, r.3) ]
-
-pub some_of : {A : Type 0} (o : Option A) → IsSome o → (x : A) × (o ≡ Some x)
-some_of None h = absurd (false≢true h)
-some_of (Some x) h = (x, refl)
-
-pub is_some_of : {A : Type 0} (o : Option A) (x : A) → o ≡ Some x → IsSome o
-is_some_of o x e = subst (λ p. IsSome p) (sym e) refl
+    elim (or_cases (test y) (list_any test xs) e) [ inl p ↦ (0, y, refl, p) | inr q ↦ let r = any_found test xs q in (suc r.0, r.1, r.2, r.3) ]
 
 pub if_some_at : {A : Type 0} (P : A → Type 0) (o : Option A) (x : A) → o ≡ Some x → IfSome o P → P x
 if_some_at P o x e h = subst (λ p. IfSome p P) e h
@@ -69,7 +47,7 @@ interface_at (x ∷ u) (suc i) c k e = interface_at u i c k e
 
 pub candidates_at : (u : List Interface) (i : ℕ) (x : Interface) → slice_get u i ≡ Some x → candidates_of u i ≡ x.candidates
 candidates_at [] i x e = absurd (none_some e)
-candidates_at (y ∷ u) zero x e = ap (λ (z : Interface). z.candidates) (some_same e)
+candidates_at (y ∷ u) zero x e = ap (λ (z : Interface). z.candidates) (same_Some _ _ e)
 candidates_at (y ∷ u) (suc i) x e = candidates_at u i x e
 
 pub chosen_is : (u : List Interface) (s : Choice) (i c : ℕ) (k : Candidate) → pick s i ≡ Some c → slice_get (candidates_of u i) c ≡ Some k → chosen u s i ≡ Some k
@@ -91,7 +69,7 @@ found_at test n [] m e = absurd (none_some e)
 found_at test n (x ∷ ms) m e = at (test x) refl e (λ g. found_at test (n + 1) ms m g)
   where
     at : (b : Bool) → test x ≡ b → cond b (Some x) (find test ms) ≡ Some m → (find test ms ≡ Some m → Found test (n + 1) ms m) → (j : ℕ) × (cond b (Some n) (position_from test (n + 1) ms) ≡ Some (n + j)) × (slice_get (x ∷ ms) j ≡ Some m) × (test m ≡ true)
-    at true t h later = (0, ap (λ z. Some z) (omega arith), h, subst (λ y. test y ≡ true) (some_same h) t)
+    at true t h later = (0, ap (λ z. Some z) (omega arith), h, subst (λ y. test y ≡ true) (same_Some _ _ h) t)
     at false t h later = let r = later h in (suc r.0, r.1 ∙ ap (λ z. Some z) (omega arith), r.2, r.3)
 
 none_at : (test : Command → Bool) (n : ℕ) (ms : List Command) → find test ms ≡ None → position_from test n ms ≡ None

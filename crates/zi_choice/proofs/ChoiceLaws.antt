@@ -1,7 +1,7 @@
 -- Choices are the same, or they aren't.
 use Rattle.std.proofs.Common.{◌≡◌, ◌≢◌, ℕ, zero, suc, [], ◌∷◌, length, refl, ap, arith, Option, Some, None, ◌⊎◌, inl, inr}
+use Rattle.std.proofs.lemmas.Option.{same_Some}
 use Rattle.zi_choice.specs.Choice.{Choice, pick}
-use Rattle.zi_choice.proofs.WalkLaws.{some_same}
 
 pub same_number : (m n : ℕ) → (m ≡ n) ⊎ (m ≢ n)
 same_number zero zero = inl refl
@@ -10,7 +10,7 @@ same_number (suc m) zero = inr (λ e. omega (arith, e))
 same_number (suc m) (suc n) = elim (same_number m n) [ inl e ↦ inl (ap suc e) | inr apart ↦ inr (λ e. apart (omega (arith, e))) ]
 
 option_apart : (c d : ℕ) → c ≢ d → Some c ≢ Some d
-option_apart c d apart e = apart (some_same e)
+option_apart c d apart e = apart (same_Some _ _ e)
 
 pub same_pick : (p q : Option ℕ) → (p ≡ q) ⊎ (p ≢ q)
 same_pick None None = inl refl

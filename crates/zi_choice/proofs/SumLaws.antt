@@ -2,18 +2,19 @@
 use Rattle.std.proofs.Common.{◌≡◌, ℕ, zero, suc, ◌+◌, ◌<◌, ◌≤◌, List, [], ◌∷◌, length, take, get_or, refl, sym, ap, ◌∙◌, arith, Some}
 use Rattle.std.specs.Prelude.{fold, IsSome, slice_get}
 use Rattle.std.proofs.lemmas.List.{get_or-take}
-use Rattle.std.proofs.lemmas.Option.{slice_get_within}
+use Rattle.std.proofs.lemmas.Option.{slice_get_within, same_Some}
 use Rattle.zi_universe.specs.declared.types.Interface.{Interface}
 use Rattle.zi_universe.specs.Whole.{IsWhole, candidates_in}
 use Rattle.zi_choice.specs.Choice.{candidate_at}
 use Rattle.zi_choice.specs.Vars.{total, before, own_candidates}
-use Rattle.zi_choice.proofs.WalkLaws.{none_some, some_same}
-use Rattle.zi_choice.proofs.Base.{some_of, candidate_is, interface_at}
+use Rattle.zi_choice.proofs.Base.{candidate_is, interface_at}
+use Rattle.zi_feed.specs.IdLaws.{none_some}
+use Rattle.zi_text.proofs.ListLaws.{some_of}
 
 -- sums
 pub before_below : {A : Type 0} (f : A → ℕ) (xs : List A) (i : ℕ) (x : A) (j : ℕ) → slice_get xs i ≡ Some x → j < f x → before f xs i + j < total f xs
 before_below f [] i x j e l = absurd (none_some e)
-before_below f (y ∷ xs) zero x j e l = let q : f y ≡ f x = ap f (some_same e) in omega (arith, l, q)
+before_below f (y ∷ xs) zero x j e l = let q : f y ≡ f x = ap f (same_Some _ _ e) in omega (arith, l, q)
 before_below f (y ∷ xs) (suc i) x j e l = let h = before_below f xs i x j e l in omega (arith, h)
 
 fold_total : {A : Type 0} (f : A → ℕ) (xs : List A) (a : ℕ) → fold (λ b x. b + f x) a xs ≡ a + total f xs

@@ -5,6 +5,7 @@ use Rattle.std.specs.List.{position_from}
 use Rattle.std.specs.Map.{lookup}
 use Rattle.std.specs.Cmp.Lexicographic.{bytes_decides}
 use Rattle.std.proofs.lemmas.Bool.{false≢true}
+use Rattle.std.proofs.lemmas.Option.{same_Some}
 use Rattle.indexmap.specs.IndexMap.{IndexMap, insert_entry}
 use Rattle.indexmap.proofs.CallerLemmas.{insert_entry-new}
 use Rattle.zi_parts.specs.declared.types.Command.{Command}
@@ -13,9 +14,11 @@ use Rattle.zi_universe.specs.declared.types.Interface.{Interface}
 use Rattle.zi_choice.specs.Choice.{candidate_at, command_place}
 use Rattle.zi_choice.specs.declared.table.CommandTable.{CommandTable}
 use Rattle.zi_choice.specs.Tables.{first_of, IsAdded, AreTheirPlaces, IsTableOf, Each, AreTablesOf, AreAllTables}
-use Rattle.zi_choice.proofs.WalkLaws.{none_some, some_same}
 use Rattle.zi_choice.proofs.SumLaws.{length_taken}
-use Rattle.zi_choice.proofs.TaskLaws.{bytes_turn, taken_more}
+use Rattle.zi_feed.proofs.LatestLaws.{text_swap}
+use Rattle.zi_tree.proofs.Rests.{none_is}
+use Rattle.zi_names.proofs.Expanded.{front_more}
+use Rattle.zi_feed.specs.IdLaws.{none_some}
 
 lookup_last : {K : Type 0} (test : K → Bool) (es : List (K × ℕ)) (k : K) (n : ℕ) → lookup test (es ++ (k, n) ∷ []) ≡ first_of (lookup test es) (cond (test k) (Some n) None)
 lookup_last test [] k n = refl
@@ -25,17 +28,13 @@ lookup_last test (e ∷ es) k n = at (test e.0) (lookup_last test es k n)
     at true h = refl
     at false h = h
 
-position_last : {A : Type 0} (test : A → Bool) (n : ℕ) (xs : List A) (x : A) → position_from test n (xs ++ x ∷ []) ≡ first_of (position_from test n xs) (cond (test x) (Some (n + length xs)) None)
+pub position_last : {A : Type 0} (test : A → Bool) (n : ℕ) (xs : List A) (x : A) → position_from test n (xs ++ x ∷ []) ≡ first_of (position_from test n xs) (cond (test x) (Some (n + length xs)) None)
 position_last test n [] x = let z : n ≡ n + 0 = omega arith in ap (λ k. cond (test x) (Some k) None) z
 position_last test n (y ∷ xs) x = at (test y) (position_last test (n + 1) xs x)
   where
     at : (b : Bool) → position_from test (n + 1) (xs ++ x ∷ []) ≡ first_of (position_from test (n + 1) xs) (cond (test x) (Some ((n + 1) + length xs)) None) → cond b (Some n) (position_from test (n + 1) (xs ++ x ∷ [])) ≡ first_of (cond b (Some n) (position_from test (n + 1) xs)) (cond (test x) (Some (n + suc (length xs))) None)
     at true h = refl
     at false h = let z : (n + 1) + length xs ≡ n + suc (length xs) = omega arith in h ∙ ap (λ k. first_of (position_from test (n + 1) xs) (cond (test x) (Some k) None)) z
-
-is_none : {A : Type 0} (o : Option A) → is_some o ≡ false → o ≡ None
-is_none None e = refl
-is_none (Some x) e = absurd (false≢true (sym e))
 
 or_none : (o : Option ℕ) → o ≡ first_of o None
 or_none None = refl
@@ -56,7 +55,7 @@ added_old es name n there q = at (bytes_eq q name) refl
 -- one that isn't
 pub added_new : {S : Type 0} (m : IndexMap (List ℕ) ℕ S) (fs : List (List ℕ × ℕ)) (name key : List ℕ) (n : ℕ) → key ≡ name → is_some (lookup (bytes_eq name) m.entries) ≡ false → fs ≡ insert_entry bytes_eq m.entries key n → IsAdded m.entries name n fs
 added_new m fs name key n same new e q =
-    let none : lookup (bytes_eq key) m.entries ≡ None = ap (λ k. lookup (bytes_eq k) m.entries) same ∙ is_none (lookup (bytes_eq name) m.entries) new in
+    let none : lookup (bytes_eq key) m.entries ≡ None = ap (λ k. lookup (bytes_eq k) m.entries) same ∙ none_is (lookup (bytes_eq name) m.entries) new in
     ap (lookup (bytes_eq q)) (e ∙ insert_entry-new bytes_eq m key n none) ∙ lookup_last (bytes_eq q) m.entries key n
     ∙ ap (λ k. first_of (lookup (bytes_eq q) m.entries) (cond (bytes_eq q k) (Some n) None)) same
 
@@ -68,10 +67,10 @@ places_more ms i m es fs l e are added q =
     let z : 0 + length (take i ms) ≡ i = omega (arith, len) in
     added q
     ∙ ap (λ o. first_of o (cond (bytes_eq q m.name) (Some i) None)) (are q)
-    ∙ ap (λ b. first_of (position_from test 0 (take i ms)) (cond b (Some i) None)) (bytes_turn q m.name)
+    ∙ ap (λ b. first_of (position_from test 0 (take i ms)) (cond b (Some i) None)) (text_swap q m.name)
     ∙ ap (λ k. first_of (position_from test 0 (take i ms)) (cond (test m) (Some k) None)) (sym z)
     ∙ sym (position_last test 0 (take i ms) m)
-    ∙ ap (position_from test 0) (sym (taken_more ms i m l e))
+    ∙ ap (position_from test 0) (sym (front_more ms i m l e))
 
 -- item for item, and one more
 each_last : {A B : Type 0} (R : A → B → Type 0) (xs : List A) (ys : List B) (x : A) (y : B) → Each R xs ys → R x y → Each R (xs ++ x ∷ []) (ys ++ y ∷ [])
@@ -82,13 +81,13 @@ each_last R (a ∷ xs) (b ∷ ys) x y h r = (h.0, each_last R xs ys x y h.1 r)
 
 pub each_more : {A B : Type 0} (R : A → B → Type 0) (xs : List A) (ys zs : List B) (i : ℕ) (x : A) (y : B) → i < length xs → x ≡ get_or xs i x → zs ≡ ys ++ y ∷ [] → Each R (take i xs) ys → R x y → Each R (take (i + 1) xs) zs
 each_more R xs ys zs i x y l e f h r =
-    subst (λ bs. Each R (take (i + 1) xs) bs) (sym f) (subst (λ as_. Each R as_ (ys ++ y ∷ [])) (sym (taken_more xs i x l e)) (each_last R (take i xs) ys x y h r))
+    subst (λ bs. Each R (take (i + 1) xs) bs) (sym f) (subst (λ as_. Each R as_ (ys ++ y ∷ [])) (sym (front_more xs i x l e)) (each_last R (take i xs) ys x y h r))
 
 pub each_at : {A B : Type 0} (R : A → B → Type 0) (xs : List A) (ys : List B) (i : ℕ) (y : B) → Each R xs ys → slice_get ys i ≡ Some y → (x : A) × (slice_get xs i ≡ Some x) × R x y
 each_at R [] [] i y h e = absurd (none_some e)
 each_at R [] (b ∷ ys) i y h e = absurd h
 each_at R (a ∷ xs) [] i y h e = absurd h
-each_at R (a ∷ xs) (b ∷ ys) zero y h e = (a, refl, subst (λ z. R a z) (some_same e) h.0)
+each_at R (a ∷ xs) (b ∷ ys) zero y h e = (a, refl, subst (λ z. R a z) (same_Some _ _ e) h.0)
 each_at R (a ∷ xs) (b ∷ ys) (suc i) y h e = each_at R xs ys i y h.1 e
 
 pub each_none : {A B : Type 0} (R : A → B → Type 0) (xs : List A) (ys : List B) (i : ℕ) → Each R xs ys → slice_get ys i ≡ None → slice_get xs i ≡ None

@@ -1,7 +1,7 @@
 -- What one step of the tasks of a walk does.
 use Rattle.std.proofs.Common.{◌≡◌, ℕ, zero, suc, ◌==◌, ◌+◌, ◌-◌, take, drop, get_or, ◌<◌, ◌≤◌, Bool, true, false, not, cond, ◌||◌, ◌&&◌, List, [], ◌∷◌, ◌++◌, length, map, refl, sym, ap, ◌∙◌, subst, arith, Option, Some, None, Bor, if◌then◌else◌, eq-eqb, eqb-true}
 use Rattle.std.specs.Prelude.{option_and_then, option_copied, bytes_eq, slice_get, IfSome, MatchOption}
-use Rattle.std.proofs.lemmas.Option.{slice_get-get_or}
+use Rattle.std.proofs.lemmas.Option.{slice_get-get_or, slice_get_past, same_Some}
 use Rattle.std.specs.List.{list_any, position_from, flat_map}
 use Rattle.std.proofs.Math.Seq.{drop-cons}
 use Rattle.std.specs.Cmp.Lexicographic.{bytes_decides}
@@ -14,9 +14,9 @@ use Rattle.std.proofs.lemmas.List.{map-append, length-map, drop_all}
 use Rattle.zi_policy.specs.Platform.{place}
 use Rattle.std.proofs.lemmas.List.{get_or-map}
 use Rattle.std.proofs.lemmas.Bool.{not-true, not-false}
+use Rattle.std.specs.Cmp.{both_ways}
 use Rattle.zi_universe.specs.Naming.{AreApart}
 use Rattle.zi_universe.specs.Whole.{uris_of}
-use Rattle.zi_choice.proofs.WalkLaws.{none_some, some_same}
 use Rattle.zi_choice.specs.Choice.{Choice, pick, chosen, candidate_at, command_at, deps_of, needs_of, with_runner, command_of, command_place}
 use Rattle.zi_choice.proofs.Base.{stands_at, found_of}
 use Rattle.zi_choice.specs.Walk.{Use, Walk, Visits, Needs, NeedsEach, Follows, listed, comes, lacks, again, uses, no_more, one_more, ends, passes, goes, is_listed, is_used, with_place, with_use, leads_to}
@@ -28,6 +28,9 @@ use Rattle.zi_choice.specs.Left.{to_come}
 use Rattle.zi_choice.proofs.ThereLaws.{place_less, use_less}
 use Rattle.zi_choice.specs.Traces.{as_use}
 use Rattle.zi_choice.specs.Tasks.{place_at, Does, Runs, Then, size, sizes}
+use Rattle.zi_feed.proofs.LatestLaws.{text_swap}
+use Rattle.zi_names.proofs.Expanded.{front_more}
+use Rattle.zi_feed.specs.IdLaws.{none_some}
 
 -- one more task at the end is done first
 pub run_last : (u : List Interface) (s : Choice) (ts : List Task) (t : Task) (a w : Walk) → Runs u s (ts ++ t ∷ []) a w → Then u s (Does u s t) ts a w
@@ -42,17 +45,8 @@ pub sizes_last : (ts : List Task) (t : Task) → sizes (ts ++ t ∷ []) ≡ size
 sizes_last [] t = omega arith
 sizes_last (x ∷ ts) t = let h = sizes_last ts t in omega (arith, h)
 
--- tests either way around
-same_bool : (a b : Bool) → (a ≡ true → b ≡ true) → (b ≡ true → a ≡ true) → a ≡ b
-same_bool true b f g = sym (f refl)
-same_bool false true f g = g refl
-same_bool false false f g = refl
-
 nat_turn : (i j : ℕ) → (i == j) ≡ (j == i)
-nat_turn i j = same_bool (i == j) (j == i) (λ e. eq-eqb j i (sym (eqb-true i j e))) (λ e. eq-eqb i j (sym (eqb-true j i e)))
-
-pub bytes_turn : (a b : List ℕ) → bytes_eq a b ≡ bytes_eq b a
-bytes_turn a b = same_bool (bytes_eq a b) (bytes_eq b a) (λ e. (bytes_decides b a).1 (sym ((bytes_decides a b).0 e))) (λ e. (bytes_decides a b).1 (sym ((bytes_decides b a).0 e)))
+nat_turn i j = both_ways (i == j) (j == i) (λ e. eq-eqb j i (sym (eqb-true i j e))) (λ e. eq-eqb i j (sym (eqb-true j i e)))
 
 any_map : {A B : Type 0} (f : A → B) (p : A → Bool) (q : B → Bool) (xs : List A) → ((x : A) → p x ≡ q (f x)) → list_any p xs ≡ list_any q (map f xs)
 any_map f p q [] h = refl
@@ -65,7 +59,7 @@ pub listed_is : (s : Choice) (i : ℕ) (ks : List ℕ) → list_any (λ k. i == 
 listed_is s i ks = any_map (place_at s) (λ k. i == k) (λ (p : APlace). p.interface == i) ks (λ k. nat_turn i k)
 
 pub used_is : (i : ℕ) (name : List ℕ) (ks : List Used) → list_any (λ (k : Used). i == k.interface && bytes_eq name k.command) ks ≡ list_any (λ (x : Use). x.interface == i && bytes_eq x.command name) (map as_use ks)
-used_is i name ks = any_map as_use (λ (k : Used). i == k.interface && bytes_eq name k.command) (λ (x : Use). x.interface == i && bytes_eq x.command name) ks (λ k. ap (λ b. b && bytes_eq name k.command) (nat_turn i k.interface) ∙ ap (λ b. k.interface == i && b) (bytes_turn name k.command))
+used_is i name ks = any_map as_use (λ (k : Used). i == k.interface && bytes_eq name k.command) (λ (x : Use). x.interface == i && bytes_eq x.command name) ks (λ k. ap (λ b. b && bytes_eq name k.command) (nat_turn i k.interface) ∙ ap (λ b. k.interface == i && b) (text_swap name k.command))
 
 pub keys_old : {A : Type 0} (b : Bool) (ks js : List A) (k : A) → js ≡ (if b then ks else ks ++ k ∷ []) → b ≡ true → js ≡ ks
 keys_old b ks js k e t = e ∙ ap (λ c. if c then ks else ks ++ k ∷ []) t
@@ -192,17 +186,11 @@ lent_none o p e n = sym e ∙ ap option_copied n
 pub lent_some : {T : Type 0} (o : Option (Bor T)) (x : Bor T) (p : Option T) → option_copied o ≡ p → o ≡ Some x → p ≡ Some x.now
 lent_some o x p e n = sym e ∙ ap option_copied n
 
--- the item at a place, where there is one
-pub slice_none : {A : Type 0} (xs : List A) (i : ℕ) → length xs ≤ i → slice_get xs i ≡ None
-slice_none [] i l = refl
-slice_none (x ∷ xs) zero l = absurd (omega (arith, l))
-slice_none (x ∷ xs) (suc i) l = slice_none xs i (omega (arith, l))
-
 pub slice_some : {A : Type 0} (xs : List A) (i : ℕ) (x : A) → i < length xs → x ≡ get_or xs i x → slice_get xs i ≡ Some x
 slice_some xs i x l e = slice_get-get_or xs i x l ∙ ap (λ y. Some y) (sym e)
 
 pub lent_item : {T : Type 0} (H : Bor T → Type 0) (o : Option (Bor T)) (xs : List T) (i : ℕ) → IfSome o (λ x. x.now ≡ get_or xs i x.now) → MatchOption o (length xs ≤ i) (λ x. (i < length xs) × H x) → option_copied o ≡ slice_get xs i
-lent_item H None xs i h m = sym (slice_none xs i m)
+lent_item H None xs i h m = sym (slice_get_past xs i m)
 lent_item H (Some x) xs i h m = sym (slice_some xs i x.now m.0 h)
 
 -- where an interface is visited for the first time, and a command used
@@ -277,7 +265,7 @@ position_within test n [] i e = absurd (none_some e)
 position_within test n (x ∷ xs) i e = at (test x) e (λ g. position_within test (n + 1) xs i g)
   where
     at : (b : Bool) → cond b (Some n) (position_from test (n + 1) xs) ≡ Some i → (position_from test (n + 1) xs ≡ Some i → i < n + 1 + length xs) → i < n + suc (length xs)
-    at true g later = let s : n ≡ i = some_same g in omega (arith, s)
+    at true g later = let s : n ≡ i = same_Some _ _ g in omega (arith, s)
     at false g later = let l = later g in omega (arith, l)
 
 pub number_within : (u : List Interface) (uri : List ℕ) (i : ℕ) → place uri (uris_of u) ≡ Some i → i < length u
@@ -301,18 +289,9 @@ pub empty : {A : Type 0} (xs : List A) → length xs < 1 → xs ≡ []
 empty [] l = refl
 empty (x ∷ xs) l = absurd (omega (arith, l))
 
--- one more item of a list that is gone through
-taken_next : {A : Type 0} (xs : List A) (i : ℕ) (x : A) → i < length xs → x ≡ get_or xs i x → take (suc i) xs ≡ take i xs ++ x ∷ []
-taken_next [] i x l e = absurd (omega (arith, l))
-taken_next (y ∷ xs) zero x l e = ap (λ z. z ∷ []) (sym e)
-taken_next (y ∷ xs) (suc i) x l e = ap (λ zs. y ∷ zs) (taken_next xs i x (omega (arith, l)) e)
-
-pub taken_more : {A : Type 0} (xs : List A) (i : ℕ) (x : A) → i < length xs → x ≡ get_or xs i x → take (i + 1) xs ≡ take i xs ++ x ∷ []
-taken_more xs i x l e = let s : i + 1 ≡ suc i = omega arith in ap (λ n. take n xs) s ∙ taken_next xs i x l e
-
 pub one_more_taken : {A B C : Type 0} (f : A → C) (g : B → C) (ys : List A) (xs : List B) (i : ℕ) (y : A) (x : B) → i < length xs → x ≡ get_or xs i x → map f ys ≡ map g (take i xs) → f y ≡ g x → map f (ys ++ y ∷ []) ≡ map g (take (i + 1) xs)
 one_more_taken f g ys xs i y x l e h k =
-    map-append f ys (y ∷ []) ∙ ap (λ zs. zs ++ f y ∷ []) h ∙ ap (λ z. map g (take i xs) ++ z ∷ []) k ∙ sym (map-append g (take i xs) (x ∷ [])) ∙ ap (map g) (sym (taken_more xs i x l e))
+    map-append f ys (y ∷ []) ∙ ap (λ zs. zs ++ f y ∷ []) h ∙ ap (λ z. map g (take i xs) ++ z ∷ []) k ∙ sym (map-append g (take i xs) (x ∷ [])) ∙ ap (map g) (sym (front_more xs i x l e))
 
 -- an address that is gone through for the first time isn't there yet
 not_there : (is : List Interface) (i : ℕ) (y : List ℕ) → ((k : ℕ) (d : Interface) → k < i → (get_or is k d).uri ≡ y → ⊥) → i ≤ length is → list_any (bytes_eq y) (uris_of (take i is)) ≡ false
@@ -330,7 +309,7 @@ new_address is i x y ks js apart l e n h j =
     let len : length (uris_of is) ≡ length is = length-map is (λ (x : Interface). x.uri) in
     let here : get_or (uris_of is) i y ≡ y = get_or-map (λ (x : Interface). x.uri) is i x y l ∙ ap (λ (x : Interface). x.uri) (sym e) ∙ sym n in
     let fresh : list_any (bytes_eq y) ks ≡ false = ap (list_any (bytes_eq y)) h ∙ not_there is i y (λ k d lt f. apart k i y lt (omega (arith, len, l)) (get_or-map (λ (x : Interface). x.uri) is k d y (omega (arith, lt, l)) ∙ f ∙ sym here)) (omega (arith, l)) in
-    keys_new (list_any (bytes_eq y) ks) ks js y j fresh ∙ ap (λ zs. zs ++ y ∷ []) h ∙ ap (λ z. uris_of (take i is) ++ z ∷ []) n ∙ sym (map-append (λ (x : Interface). x.uri) (take i is) (x ∷ [])) ∙ ap (map (λ (x : Interface). x.uri)) (sym (taken_more is i x l e))
+    keys_new (list_any (bytes_eq y) ks) ks js y j fresh ∙ ap (λ zs. zs ++ y ∷ []) h ∙ ap (λ z. uris_of (take i is) ++ z ∷ []) n ∙ sym (map-append (λ (x : Interface). x.uri) (take i is) (x ∷ [])) ∙ ap (map (λ (x : Interface). x.uri)) (sym (front_more is i x l e))
 
 -- the measure of the whole falls
 pub falls_on : (a b : ℕ) (m n : Bool) → n ≡ true → (m ≡ true → a < b) → (m ≡ false → a ≡ b) → a + cond m 1 0 < b + cond n 1 0

@@ -21,13 +21,15 @@ use Rattle.zi_choice.specs.Valid.{Has, Suits, IsMet, AreMet, IsChosenOn, IsValid
 use Rattle.zi_choice.specs.Best.{RanksEarlier, IsBest}
 use Rattle.zi_choice.specs.Laws.{BestIsThere}
 use Rattle.zi_choice.specs.Left.{below}
-use Rattle.zi_choice.proofs.WalkLaws.{none_some, walk_one}
+use Rattle.zi_choice.proofs.WalkLaws.{walk_one}
 use Rattle.zi_choice.proofs.ChoiceLaws.{same_number, same_choice}
 use Rattle.zi_choice.proofs.ThereLaws.{In, at_or_below, below_has, in_left, in_right, pick_within, walk_there}
-use Rattle.zi_choice.proofs.Base.{some_of, if_some_at, if_some_from}
+use Rattle.zi_choice.proofs.Base.{if_some_at, if_some_from}
 use Rattle.zi_choice.proofs.ApartLaws.{one_earlier}
 use Rattle.zi_choice.proofs.OrderLaws.{earlier_strict}
 use Rattle.zi_choice.proofs.WalkFacts.{is_on, on_is}
+use Rattle.zi_feed.specs.IdLaws.{none_some}
+use Rattle.zi_text.proofs.ListLaws.{some_of}
 
 -- it is so, or it isn't
 abbrev Told : Type 0 → Type 0
@@ -106,7 +108,7 @@ met_told u s d =
 are_met_told : (u : List Interface) (s : Choice) (ds : List Dep) → Told (AreMet u s ds)
 are_met_told u s ds = all_told (λ d. IsMet u s d) ds (met_told u s)
 
-pick_inside : (s : Choice) (i c : ℕ) → pick s i ≡ Some c → i < length s
+pub pick_inside : (s : Choice) (i c : ℕ) → pick s i ≡ Some c → i < length s
 pick_inside [] i c e = absurd (none_some e)
 pick_inside (p ∷ s) zero c e = omega arith
 pick_inside (p ∷ s) (suc i) c e = let l = pick_inside s i c e in omega (arith, l)

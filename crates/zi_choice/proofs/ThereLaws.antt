@@ -13,7 +13,8 @@ use Rattle.zi_choice.specs.Walk.{Use, Walk, Visits, Needs, NeedsEach, Follows, l
 use Rattle.zi_choice.specs.Left.{left, below, uses_in, commands_in, all_uses, used_in, to_come}
 use Rattle.zi_choice.specs.Laws.{WalkIsThere}
 use Rattle.zi_choice.proofs.GrowLaws.{any_left, any_right, place_there}
-use Rattle.zi_choice.proofs.WalkLaws.{true_false, none_some}
+use Rattle.zi_choice.proofs.WalkLaws.{true_false}
+use Rattle.zi_feed.specs.IdLaws.{none_some}
 
 -- an item is one of a list
 abbrev pub In : {A : Type 0} → A → List A → Type 0

@@ -4,7 +4,8 @@ use Rattle.std.proofs.Common.{◌≡◌, ℕ, zero, suc, ◌==◌, Bool, true, f
 use Rattle.std.specs.Prelude.{bytes_eq, slice_get, IsSome}
 use Rattle.std.proofs.lemmas.Option.{slice_get_within, slice_get-get_or, get_or_from_slice_get}
 use Rattle.std.specs.Cmp.Lexicographic.{bytes_decides}
-use Rattle.std.proofs.lemmas.Bool.{and_parts}
+use Rattle.std.proofs.lemmas.Bool.{and_parts, cases_Bool}
+use Rattle.std.proofs.lemmas.Map.Keys.{any_passes_from_place}
 use Rattle.zi_parts.specs.declared.types.Dep.{Dep}
 use Rattle.zi_parts.specs.declared.types.Command.{Command}
 use Rattle.zi_universe.specs.declared.types.Requirement.{Requirement}
@@ -12,11 +13,14 @@ use Rattle.zi_universe.specs.declared.types.Interface.{Interface}
 use Rattle.zi_choice.specs.Choice.{Choice, pick, chosen, command_at, deps_of, needs_of}
 use Rattle.zi_choice.specs.Walk.{Place, Use, Walk, Walks, Visits, Needs, NeedsEach, Follows, listed, comes, lacks, again, uses, no_more, one_more, ends, passes, goes, is_listed, is_used, with_place, with_use, leads_to, wanted, nothing}
 use Rattle.zi_choice.specs.Valid.{IsChosenOn}
-use Rattle.zi_choice.proofs.WalkLaws.{true_false, not_both, one_value, none_some}
+use Rattle.zi_choice.proofs.WalkLaws.{true_false, not_both, one_value}
 use Rattle.zi_choice.proofs.GrowLaws.{any_left, any_of, visit_lists}
 use Rattle.zi_choice.proofs.ThereLaws.{In, use_there}
 use Rattle.zi_choice.proofs.ApartLaws.{same_chosen, same_command}
-use Rattle.zi_choice.proofs.Base.{bool_case, nat_same, any_at, any_found, is_some_of}
+use Rattle.zi_choice.proofs.Base.{any_found}
+use Rattle.zi_xml.proofs.CharLemmas.{same_self}
+use Rattle.zi_feed.specs.IdLaws.{none_some}
+use Rattle.zi_text.proofs.ListLaws.{some_is as is_some_of}
 
 -- What a walk may come to: an interface, and a command of it.
 pub data Item : Type 0 where
@@ -146,7 +150,7 @@ mutual
   close_visit : {u : List Interface} {s : Choice} {i : ℕ} {a b : Walk} → Visits u s i a b → Closed u s a b
   close_visit (listed e) y z f t l h = true_false t f
   close_visit {u} {s} (comes {i = i} {a = a} e g) y z f t l h =
-      elim (bool_case (has (with_place s i a) y)) [
+      elim (cases_Bool (has (with_place s i a) y)) [
         | inr new ↦ close_follow g y z new t l h
         | inl old ↦ elim (place_new s i a y old) [ inl p ↦ true_false p f | inr q ↦ cover_follow z g (subst (λ x. Leads u (after u s x) z) q l) h ]
       ]
@@ -155,7 +159,7 @@ mutual
   close_need (lacks e) y z f t l h = true_false t f
   close_need (again e) y z f t l h = true_false t f
   close_need {u} {s} (uses {i = i} {name = name} {a = a} m e n g) y z f t l h =
-      elim (bool_case (has (with_use i name a) y)) [
+      elim (cases_Bool (has (with_use i name a) y)) [
         | inr new ↦ close_follow g y z new t l h
         | inl old ↦ elim (use_new i name a y old) [
           | inl p ↦ true_false p f
@@ -166,15 +170,15 @@ mutual
   close_each : {u : List Interface} {s : Choice} {i : ℕ} {names : List (List ℕ)} {a b : Walk} → NeedsEach u s i names a b → Closed u s a b
   close_each no_more y z f t l h = true_false t f
   close_each (one_more {b = b} n e) y z f t l h =
-      elim (bool_case (has b y)) [ inr new ↦ close_each e y z new t l h | inl old ↦ keep_each z e (close_need n y z f old l h) ]
+      elim (cases_Bool (has b y)) [ inr new ↦ close_each e y z new t l h | inl old ↦ keep_each z e (close_need n y z f old l h) ]
 
   close_follow : {u : List Interface} {s : Choice} {ds : List Dep} {a b : Walk} → Follows u s ds a b → Closed u s a b
   close_follow ends y z f t l h = true_false t f
   close_follow (passes e g) y z f t l h = close_follow g y z f t l h
   close_follow (goes {b = b} {c = c} i e v n g) y z f t l h =
-      elim (bool_case (has c y)) [
+      elim (cases_Bool (has c y)) [
         | inr new ↦ close_follow g y z new t l h
-        | inl old ↦ keep_follow z g (elim (bool_case (has b y)) [ inr fresh ↦ close_each n y z fresh old l h | inl seen ↦ keep_each z n (close_visit v y z f seen l h) ])
+        | inl old ↦ keep_follow z g (elim (cases_Bool (has b y)) [ inr fresh ↦ close_each n y z fresh old l h | inl seen ↦ keep_each z n (close_visit v y z f seen l h) ])
       ]
 
 none_met : (y : Item) → has nothing y ≡ false
@@ -183,7 +187,7 @@ none_met (Need i name) = refl
 
 pub closed : (u : List Interface) (req : Requirement) (s : Choice) (w : Walk) → Walks u req s w → (y z : Item) → has w y ≡ true → Leads u (after u s y) z → IsThere u s z → has w z ≡ true
 closed u req s w k y z t l h =
-    elim (bool_case (has k.from_root y)) [ inr new ↦ close_each k.needs y z new t l h | inl old ↦ keep_each z k.needs (close_visit k.visits y z (none_met y) old l h) ]
+    elim (cases_Bool (has k.from_root y)) [ inr new ↦ close_each k.needs y z new t l h | inl old ↦ keep_each z k.needs (close_visit k.visits y z (none_met y) old l h) ]
 
 pub root_listed : (u : List Interface) (req : Requirement) (s : Choice) (w : Walk) → Walks u req s w → is_listed w 0 ≡ true
 root_listed u req s w k = keep_each (Visit 0) k.needs (visit_lists k.visits)
@@ -268,7 +272,7 @@ module _ (u : List Interface) (s t : Choice) (w : Walk) (like : AlikeOn s t w) w
 abbrev pub Faithful : Choice → Walk → Type 0
 Faithful s w = (i : ℕ) (p : Option ℕ) (n : ℕ) → slice_get w.places n ≡ Some (record { interface = i; pick = p }) → pick s i ≡ p
 
-push_case : {A : Type 0} (xs : List A) (y x : A) (n : ℕ) → slice_get (xs ++ y ∷ []) n ≡ Some x → (slice_get xs n ≡ Some x) ⊎ (y ≡ x)
+pub push_case : {A : Type 0} (xs : List A) (y x : A) (n : ℕ) → slice_get (xs ++ y ∷ []) n ≡ Some x → (slice_get xs n ≡ Some x) ⊎ (y ≡ x)
 push_case [] y x zero e = inr (some_is e)
   where
     some_is : {A : Type 0} {a b : A} → Some a ≡ Some b → a ≡ b
@@ -304,4 +308,4 @@ pub on_is : (u : List Interface) (req : Requirement) (s : Choice) (a : Walk) →
 on_is u req s a k i on =
     let x : Place = record { interface = i; pick = Some on.0 } in
     let at : slice_get a.places on.1.0 ≡ Some x = slice_get-get_or a.places on.1.0 x on.1.1 ∙ ap (λ y. Some y) on.1.2 in
-    (is_some_of (pick s i) on.0 (faithful u req s a k i (Some on.0) on.1.0 at), any_at (λ (x : Place). x.interface == i) a.places on.1.0 x at (nat_same i))
+    (is_some_of (pick s i) on.0 (faithful u req s a k i (Some on.0) on.1.0 at), any_passes_from_place (λ (x : Place). x.interface == i) a.places on.1.0 x at (same_self i))

@@ -1,26 +1,22 @@
 -- A choice has one walk at most.
 use Rattle.std.proofs.Common.{◌≡◌, ℕ, Bool, true, false, List, refl, sym, subst, ◌∙◌, Option, Some, None}
 use Rattle.std.proofs.lemmas.Bool.{false≢true}
+use Rattle.std.proofs.lemmas.Option.{same_Some}
 use Rattle.zi_parts.specs.declared.types.Dep.{Dep}
 use Rattle.zi_universe.specs.declared.types.Interface.{Interface}
 use Rattle.zi_choice.specs.Choice.{Choice, needs_of}
 use Rattle.zi_choice.specs.Walk.{Walk, Visits, Needs, NeedsEach, Follows, listed, comes, lacks, again, uses, no_more, one_more, ends, passes, goes, with_use, wanted}
 use Rattle.zi_choice.specs.Laws.{WalkIsOne}
+use Rattle.zi_feed.specs.IdLaws.{none_some}
 
 pub true_false : {G : Type 0} {b : Bool} → b ≡ true → b ≡ false → G
 true_false e f = absurd (false≢true (sym f ∙ e))
-
-pub some_same : {A : Type 0} {x y : A} → Some x ≡ Some y → x ≡ y
-some_same e = cc
-
-pub none_some : {A : Type 0} {x : A} → None ≡ Some x → ⊥
-none_some e = cc
 
 pub not_both : {A : Type 0} {G : Type 0} {o : Option A} {x : A} → o ≡ None → o ≡ Some x → G
 not_both e f = absurd (none_some (sym e ∙ f))
 
 pub one_value : {A : Type 0} {o : Option A} {x y : A} → o ≡ Some x → o ≡ Some y → y ≡ x
-one_value e f = some_same (sym f ∙ e)
+one_value e f = same_Some _ _ (sym f ∙ e)
 
 mutual
   pub one_visit : {u : List Interface} {s : Choice} {i : ℕ} {a b c : Walk} → Visits u s i a b → Visits u s i a c → b ≡ c

@@ -5,7 +5,7 @@ use Rattle.std.specs.List.{list_all}
 use Rattle.std.specs.Str.{chars, is_utf8}
 use Rattle.std.proofs.lemmas.Bool.Decides.{nat_tests}
 use Rattle.std.proofs.lemmas.Str.{is_utf8-from_IsUtf8}
-use Rattle.std.proofs.lemmas.Bool.{and_from}
+use Rattle.std.proofs.lemmas.Bool.{and_from, and_parts}
 use Rattle.zi_xml.specs.Chars.{is_char}
 use Rattle.zi_docout.specs.Amiss.{is_carried, first_amiss}
 use Rattle.zi_policy.specs.declared.types.Policy.{Policy}
@@ -29,14 +29,6 @@ use Rattle.zi_choosing.specs.SelectParts.{CanBeWritten}
 
 -- The address of a root can be carried by XML.
 
-left : (a b : Bool) → (a && b) ≡ true → a ≡ true
-left true b h = refl
-left false b h = absurd (cc h)
-
-right : (a b : Bool) → (a && b) ≡ true → b ≡ true
-right true b h = h
-right false b h = absurd (cc h)
-
 right_char : (c : ℕ) → is_right c ≡ true → is_char c ≡ true
 unfolding is_right is_char
 right_char c h = grind (arith, nat_tests)
@@ -44,11 +36,11 @@ right_char c h = grind (arith, nat_tests)
 right_chars : (cs : List ℕ) → list_all is_right cs ≡ true → list_all is_char cs ≡ true
 right_chars [] h = refl
 right_chars (c ∷ cs) h =
-    and_from (is_char c) (list_all is_char cs) (right_char c (left (is_right c) (list_all is_right cs) h)) (right_chars cs (right (is_right c) (list_all is_right cs) h))
+    and_from (is_char c) (list_all is_char cs) (right_char c (and_parts (is_right c) (list_all is_right cs) h).0) (right_chars cs (and_parts (is_right c) (list_all is_right cs) h).1)
 
 carried : (t : List ℕ) → is_address t ≡ true → IsUtf8 t → is_carried t ≡ true
 unfolding is_address is_carried
-carried t h utf8 = and_from (is_utf8 t) (list_all is_char (chars t)) (is_utf8-from_IsUtf8 t utf8) (right_chars (chars t) (right _ (list_all is_right (chars t)) h))
+carried t h utf8 = and_from (is_utf8 t) (list_all is_char (chars t)) (is_utf8-from_IsUtf8 t utf8) (right_chars (chars t) (and_parts _ (list_all is_right (chars t)) h).1)
 
 pub root_carried : (text root : List ℕ) → text ≡ root → is_address root ≡ true → IsUtf8 root → is_carried text ≡ true
 root_carried text root e h utf8 = subst (λ t. is_carried t ≡ true) (sym e) (carried root h utf8)

@@ -9,18 +9,12 @@ use Rattle.zi_universe.specs.Whole.{IsWhole}
 use Rattle.zi_choice.specs.Tables.{first_of, IsAdded}
 use Rattle.zi_choice.specs.Vars.{total, before, own_candidates}
 use Rattle.zi_choice.proofs.SumLaws.{before_below, total_few, length_taken}
-use Rattle.zi_choice.proofs.TaskLaws.{bytes_turn, taken_more, slice_some}
+use Rattle.zi_choice.proofs.TaskLaws.{slice_some}
 use Rattle.zi_sels.specs.declared.types.Selection.{Selection}
 use Rattle.zi_choosing.specs.NamedParts.{AreTheirPlaces}
-
-position_last : {A : Type 0} (test : A → Bool) (n : ℕ) (xs : List A) (x : A) → position_from test n (xs ++ x ∷ []) ≡ first_of (position_from test n xs) (cond (test x) (Some (n + length xs)) None)
-position_last test n [] x = let z : n ≡ n + 0 = omega arith in ap (λ k. cond (test x) (Some k) None) z
-position_last test n (y ∷ xs) x = at (test y) (position_last test (n + 1) xs x)
-  where
-    at : (b : Bool) → position_from test (n + 1) (xs ++ x ∷ []) ≡ first_of (position_from test (n + 1) xs) (cond (test x) (Some ((n + 1) + length xs)) None)
-        → cond b (Some n) (position_from test (n + 1) (xs ++ x ∷ [])) ≡ first_of (cond b (Some n) (position_from test (n + 1) xs)) (cond (test x) (Some (n + suc (length xs))) None)
-    at true h = refl
-    at false h = let z : (n + 1) + length xs ≡ n + suc (length xs) = omega arith in h ∙ ap (λ k. first_of (position_from test (n + 1) xs) (cond (test x) (Some k) None)) z
+use Rattle.zi_feed.proofs.LatestLaws.{text_swap}
+use Rattle.zi_names.proofs.Expanded.{front_more}
+use Rattle.zi_choice.proofs.TableLaws.{position_last}
 
 -- the selections that are gone through, and one more
 pub places_more : (xs : List Selection) (i : ℕ) (x : Selection) (es fs : List (List ℕ × ℕ)) → i < length xs → x ≡ get_or xs i x → AreTheirPlaces (take i xs) es → IsAdded es x.interface i fs → AreTheirPlaces (take (i + 1) xs) fs
@@ -30,10 +24,10 @@ places_more xs i x es fs l e are added q =
     let z : 0 + length (take i xs) ≡ i = omega (arith, len) in
     added q
     ∙ ap (λ o. first_of o (cond (bytes_eq q x.interface) (Some i) None)) (are q)
-    ∙ ap (λ b. first_of (position_from test 0 (take i xs)) (cond b (Some i) None)) (bytes_turn q x.interface)
+    ∙ ap (λ b. first_of (position_from test 0 (take i xs)) (cond b (Some i) None)) (text_swap q x.interface)
     ∙ ap (λ k. first_of (position_from test 0 (take i xs)) (cond (test x) (Some k) None)) (sym z)
     ∙ sym (position_last test 0 (take i xs) x)
-    ∙ ap (position_from test 0) (sym (taken_more xs i x l e))
+    ∙ ap (position_from test 0) (sym (front_more xs i x l e))
 
 -- a search begun one further
 shifted : {A : Type 0} (test : A → Bool) (n : ℕ) (xs : List A) → position_from test (n + 1) xs ≡ option_map suc (position_from test n xs)

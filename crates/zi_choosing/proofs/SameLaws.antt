@@ -8,6 +8,7 @@ use Rattle.std.proofs.lemmas.Bool.{false≢true}
 use Rattle.std.proofs.lemmas.Bool.Decides.{Decides-and, Decides-like}
 use Rattle.std.specs.Cmp.Lexicographic.{bytes_decides}
 use Rattle.std.proofs.lemmas.Slice.Eq.{slice_eq-Decides}
+use Rattle.std.proofs.lemmas.Option.{same_Some}
 use Rattle.zi_version.specs.declared.alternative.Alternative.{Alternative}
 use Rattle.zi_version.specs.declared.alternative.Alternative.TheVariants.{Equal, Other, Within}
 use Rattle.zi_version.specs.declared.alternative.Range.{Range}
@@ -49,14 +50,11 @@ Tells {A} same = (x y : A) → Decides (same x y) (x ≡ y)
 lists : {A : Type 0} (same : A → A → Bool) → Tells same → Tells (pointwise same)
 lists same tells xs ys = slice_eq-Decides tells xs ys (pointwise same xs ys) refl
 
-some_one : {A : Type 0} {x y : A} → Some x ≡ Some y → x ≡ y
-some_one e = cc
-
 options : {A : Type 0} (same : A → A → Bool) → Tells same → Tells (option_eq same)
 options same tells None None = (λ t. refl, λ e. refl)
 options same tells None (Some y) = (λ t. absurd (false≢true t), λ e. absurd cc)
 options same tells (Some x) None = (λ t. absurd (false≢true t), λ e. absurd cc)
-options same tells (Some x) (Some y) = (λ t. ap Some ((tells x y).0 t), λ e. (tells x y).1 (some_one e))
+options same tells (Some x) (Some y) = (λ t. ap Some ((tells x y).0 t), λ e. (tells x y).1 (same_Some _ _ e))
 
 texts : Tells (pointwise ◌==◌)
 texts = bytes_decides

@@ -25,7 +25,7 @@ passed_same : (cs : List ℕ) (l : Level) → Same l (passed cs l)
 passed_same [] l = same_self l
 passed_same (c ∷ cs) l = let x = passed_same cs (tick c l) in record { before = x.before; letters = x.letters }
 
-passed_found : (cs : List ℕ) (l : Level) → (passed cs l).found ≡ l.found
+pub passed_found : (cs : List ℕ) (l : Level) → (passed cs l).found ≡ l.found
 passed_found [] l = refl
 passed_found (c ∷ cs) l = passed_found cs (tick c l)
 

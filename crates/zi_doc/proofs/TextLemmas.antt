@@ -7,19 +7,11 @@ use Rattle.std.specs.Prelude.{encode_utf8, encode_utf8_all}
 use Rattle.zi_xml.specs.Chars.{same_letters, small}
 use Rattle.zi_xml.specs.Machine.{common}
 use Rattle.std.proofs.Math.Utf8.{encode}
+use Rattle.std.proofs.lemmas.Bool.{and_parts}
+use Rattle.zi_xml.proofs.Fronts.{same_length}
 
 pub encodes_push : (xs : List ℕ) (x : ℕ) → encode_utf8_all (xs ++ x ∷ []) ≡ encode_utf8_all xs ++ encode_utf8 x
 encodes_push xs x = encodes-append xs (x ∷ []) ∙ ap (λ v. encode_utf8_all xs ++ v) (append-nil (encode_utf8 x))
-
-second_true : (a b : Bool) → (a && b) ≡ true → b ≡ true
-second_true true b k = k
-second_true false b k = cc
-
-pub same_length : (xs ys : List ℕ) → same_letters xs ys ≡ true → length xs ≡ length ys
-same_length [] [] h = refl
-same_length [] (y ∷ ys) h = cc
-same_length (x ∷ xs) [] h = cc
-same_length (x ∷ xs) (y ∷ ys) h = ap suc (same_length xs ys (second_true (small x == small y) (same_letters xs ys) h))
 
 pub other_length : (xs ys : List ℕ) → (length xs ≡ length ys → ⊥) → false ≡ same_letters xs ys
 other_length xs ys h = cases (same_letters xs ys) refl

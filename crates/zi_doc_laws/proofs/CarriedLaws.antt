@@ -1,16 +1,16 @@
 -- Texts and values are of characters that XML can carry.
-use Rattle.std.proofs.Common.{◌≡◌, ℕ, Bool, true, false, ◌&&◌, ◌==◌, not, List, [], ◌∷◌, ◌++◌, map, Option, Some, None, refl, sym, ap, ◌∙◌}
+use Rattle.std.proofs.Common.{◌≡◌, ℕ, Bool, true, false, ◌&&◌, ◌==◌, not, List, [], ◌∷◌, ◌++◌, map, Option, Some, None, refl, sym, ap, ◌∙◌, append-nil}
 use Rattle.std.specs.Prelude.{filter, encode_utf8, encode_utf8_all, codes, if◌then◌else◌}
 use Rattle.std.specs.Str.{bytes_eq}
 use Rattle.std.proofs.Math.Utf8.{encode}
 use Rattle.std.proofs.lemmas.Str.{encodes-append}
+use Rattle.std.proofs.lemmas.Bool.{and_parts}
 use Rattle.zi_names.specs.declared.attributes.Raw.{Raw}
 use Rattle.zi_names.specs.declared.attributes.Binding.{Binding}
 use Rattle.zi_names.specs.Names.{is_declaration, resolved as attribute, attributes_of}
 use Rattle.zi_xml.specs.Chars.{is_char, is_white, is_plain, is_valued, entity}
 use Rattle.zi_xml.specs.Syntax.{Bit, letter, entity_of, decimal, hexadecimal, Written, AllAre, IsBit, AreBits, AreWritten, is_said, is_unclosed}
 use Rattle.zi_xml.specs.Meaning.{line_end, value_end, carried, target, meant, is_return, in_value, value_of, raw_of}
-use Rattle.zi_xml.proofs.CharLemmas.{append_none}
 use Rattle.zi_doc_laws.specs.Trees.{IsCarried, HasCarriedValues}
 
 pub none_carried : IsCarried []
@@ -28,7 +28,7 @@ both_carried s t x y = record {
 }
 
 one_carried : (c : ℕ) → is_char c ≡ true → IsCarried (encode_utf8 c)
-one_carried c h = record { chars = c ∷ []; bytes = sym (append_none (encode_utf8 c)); right = (h, tt) }
+one_carried c h = record { chars = c ∷ []; bytes = sym (append-nil (encode_utf8 c)); right = (h, tt) }
 
 space_carried : IsCarried (32 ∷ [])
 unfolding encode is_char
@@ -91,21 +91,17 @@ hexadecimal_carried ds = meant_carried (target (hexadecimal ds)) (number_char _)
 
 -- A character that stands for itself.
 
-and_first : (a b : Bool) → a && b ≡ true → a ≡ true
-and_first true b h = refl
-and_first false b h = cc
-
 pub plain_char : (c : ℕ) → is_plain c ≡ true → is_char c ≡ true
 unfolding is_plain
-plain_char c h = and_first (is_char c) _ (and_first (is_char c && not (c == 60)) _ h)
+plain_char c h = (and_parts (is_char c) _ (and_parts (is_char c && not (c == 60)) _ h).0).0
 
 pub said_char : (n c : ℕ) → is_said n c ≡ true → is_char c ≡ true
-said_char n c h = plain_char c (and_first (is_plain c) (is_unclosed n c) h)
+said_char n c h = plain_char c (and_parts (is_plain c) (is_unclosed n c) h).0
 
 -- Values.
 
 bit_carried : (q : ℕ) (returned : Bool) (b : Bit) → IsBit (is_valued q) b → IsCarried (in_value returned b)
-bit_carried q returned (letter c) h = value_end_carried returned c (plain_char c (and_first (is_plain c) (not (c == q)) h))
+bit_carried q returned (letter c) h = value_end_carried returned c (plain_char c (and_parts (is_plain c) (not (c == q)) h).0)
 bit_carried q returned (entity_of n) h = entity_carried n
 bit_carried q returned (decimal ds) h = decimal_carried ds
 bit_carried q returned (hexadecimal ds) h = hexadecimal_carried ds

@@ -1,6 +1,6 @@
 -- Nodes of which everything holds that a tree keeps, one behind another.
 use Rattle.std.specs.Prelude.{max}
-use Rattle.std.proofs.Common.{◌≡◌, ℕ, suc, ◌+◌, ◌-◌, ◌≤◌, ◌<◌, false, List, [], ◌∷◌, ◌++◌, refl, sym, ap, ◌∙◌, subst, append_assoc, arith}
+use Rattle.std.proofs.Common.{◌≡◌, ℕ, suc, ◌+◌, ◌-◌, ◌≤◌, ◌<◌, false, List, [], ◌∷◌, ◌++◌, refl, sym, ap, ◌∙◌, subst, append_assoc, arith, append-nil}
 use Rattle.std.proofs.Math.Nat.{max-le}
 use Rattle.zi_elements.specs.declared.element.Attr.{Attr}
 use Rattle.zi_elements.specs.declared.element.Element.{Element, fold_out-Element}
@@ -9,7 +9,6 @@ use Rattle.zi_elements.specs.declared.element.Node.TheOpen.{Node-F}
 use Rattle.zi_elements.specs.declared.element.Node.TheVariants as kinds
 use Rattle.zi_elements.specs.Forest.{Forest, none, words, child, joined, node_step, element_step, node_view, nodes_view, depth}
 use Rattle.zi_xml.specs.Meaning.{Level, Frame, flush, settled, element_of, adopt}
-use Rattle.zi_xml.proofs.CharLemmas.{append_none}
 use Rattle.zi_elements.specs.Places.{places, IsBelow, AreRising}
 use Rattle.zi_doc_laws.specs.Trees.{has_text_first, HasWholeTexts, HasTag, HasTags, IsCarried, HasCarriedValues, HasCarriedTexts}
 use Rattle.zi_doc_laws.proofs.CarriedLaws.{none_carried}
@@ -22,12 +21,12 @@ joined_none none = refl
 joined_none (words t f) = ap (words t) (joined_none f)
 joined_none (child s n a k p f) = ap (child s n a k p) (joined_none f)
 
-joined_assoc : (f g h : Forest) → joined (joined f g) h ≡ joined f (joined g h)
+pub joined_assoc : (f g h : Forest) → joined (joined f g) h ≡ joined f (joined g h)
 joined_assoc none g h = refl
 joined_assoc (words t f) g h = ap (words t) (joined_assoc f g h)
 joined_assoc (child s n a k p f) g h = ap (child s n a k p) (joined_assoc f g h)
 
-nodes_append : (xs ys : List Node) → nodes_view (xs ++ ys) ≡ joined (nodes_view xs) (nodes_view ys)
+pub nodes_append : (xs ys : List Node) → nodes_view (xs ++ ys) ≡ joined (nodes_view xs) (nodes_view ys)
 nodes_append [] ys = refl
 nodes_append (x ∷ xs) ys = ap (joined (node_view x)) (nodes_append xs ys) ∙ sym (joined_assoc (node_view x) (nodes_view xs) (nodes_view ys))
 
@@ -83,14 +82,14 @@ places_before (c ∷ cs) g = refl
 
 inside_places : (l : Level) → places (joined (nodes_view l.before) (text_before l.letters none)) ≡ places (nodes_view l.before)
 inside_places l =
-    places_joined (nodes_view l.before) (text_before l.letters none) ∙ (ap (λ v. places (nodes_view l.before) ++ v) (places_before l.letters none) ∙ append_none (places (nodes_view l.before)))
+    places_joined (nodes_view l.before) (text_before l.letters none) ∙ (ap (λ v. places (nodes_view l.before) ++ v) (places_before l.letters none) ∙ append-nil (places (nodes_view l.before)))
 
 adopt_places : (f : Frame) (l : Level) (qs : List ℕ) → places (nodes_view (adopt f l).before) ++ qs ≡ places (nodes_view f.outer.before) ++ f.outer.at ∷ (places (nodes_view l.before) ++ qs)
 adopt_places f l qs =
     let o : List ℕ = places (nodes_view f.outer.before) in
     let c : Forest = framed_child f l none in
     let inside : places c ≡ f.outer.at ∷ places (nodes_view l.before) =
-    ap (λ v. f.outer.at ∷ v) (append_none (places (joined (nodes_view l.before) (text_before l.letters none))) ∙ inside_places l) in
+    ap (λ v. f.outer.at ∷ v) (append-nil (places (joined (nodes_view l.before) (text_before l.letters none))) ∙ inside_places l) in
     let all : places (nodes_view (adopt f l).before) ≡ o ++ f.outer.at ∷ places (nodes_view l.before) =
     ap places (adopt_view f l) ∙ (places_joined (nodes_view f.outer.before) (text_before f.outer.letters c) ∙ ap (λ v. o ++ v) (places_before f.outer.letters c ∙ inside)) in
     ap (λ v. v ++ qs) all ∙ append_assoc o (f.outer.at ∷ places (nodes_view l.before)) qs

@@ -1,6 +1,6 @@
 pub mod CarriedLaws
 mod PastLaws
-mod FineLaws
+pub mod FineLaws
 mod TagLaws
 mod KeepLaws
 mod TreeLaws

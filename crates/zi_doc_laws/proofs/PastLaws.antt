@@ -1,5 +1,5 @@
 -- Past a piece of a document: the place has gone on by its bytes, what was known stays known, and faults stay.
-use Rattle.std.proofs.Common.{◌≡◌, ℕ, suc, ◌+◌, ◌≤◌, nat_le, Bool, true, false, List, [], ◌∷◌, ◌++◌, length, Option, Some, None, refl, sym, ap, ◌∙◌, subst, append_assoc, arith}
+use Rattle.std.proofs.Common.{◌≡◌, ℕ, suc, ◌+◌, ◌≤◌, nat_le, Bool, true, false, List, [], ◌∷◌, ◌++◌, length, Option, Some, None, refl, sym, ap, ◌∙◌, subst, append_assoc, arith, append-nil}
 use Rattle.std.specs.Prelude.{codes, encode_utf8, encode_utf8_all, not}
 use Rattle.std.proofs.Math.Utf8.{encode}
 use Rattle.std.proofs.lemmas.Str.{encodes-append}
@@ -8,7 +8,6 @@ use Rattle.zi_names.specs.declared.attributes.Binding.{Binding}
 use Rattle.zi_xml.specs.Chars.{width, is_char, same_letters}
 use Rattle.zi_xml.specs.Syntax.{Bit, letter, entity_of, decimal, hexadecimal, bit_text, bits_text, Written, written_text, all_text, Content, stop, bit, section, comment, instruction, void, pair, text, section_text, comment_text, instruction_text, end_tag, tag_rest, AllAre, IsName, IsBit, IsContentAfter, brackets_after, is_said, Key, version_key, encoding_key, standalone_key, Setting, setting_front, setting_text, optional_text, Declaration, declared_text}
 use Rattle.zi_xml.specs.Meaning.{Level, Fault, Kind, encoding_kind, entity_kind, prefix_kind, repeated_kind, depth_kind, tick, passed, blame_if, add, heard, heard_all, line_end, target, meant, is_lacking, resolved, bit_told, bit_passed, bits_passed, written_passed, all_passed, Tag, tag_of, framed, judged, fresh, adopt, named_on, tag_passed, told, set, setting_told, optional_told, declared_told}
-use Rattle.zi_xml.proofs.CharLemmas.{append_none}
 use Rattle.zi_doc_laws.specs.Trees.{IsCarried}
 use Rattle.zi_doc_laws.proofs.CarriedLaws.{both_carried, line_end_carried, entity_carried, decimal_carried, hexadecimal_carried, said_char}
 
@@ -30,7 +29,7 @@ size_append a b = ap length (encodes-append a b) ∙ length-append (encode_utf8_
 
 size_one : (c : ℕ) → size (c ∷ []) ≡ width c
 unfolding size
-size_one c = ap length (append_none (encode_utf8 c))
+size_one c = ap length (append-nil (encode_utf8 c))
 
 -- `<` is one byte
 pub size_less : (cs : List ℕ) → 1 ≤ size (60 ∷ cs)

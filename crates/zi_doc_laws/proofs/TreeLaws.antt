@@ -1,12 +1,11 @@
 -- What a document says is a tree of which all holds that a tree keeps.
-use Rattle.std.proofs.Common.{◌≡◌, ℕ, true, false, List, [], ◌++◌, sym, ap, ◌∙◌, subst, arith}
+use Rattle.std.proofs.Common.{◌≡◌, ℕ, true, false, List, [], ◌++◌, sym, ap, ◌∙◌, subst, arith, append-nil}
 use Rattle.std.specs.Prelude.{codes, encode_utf8_all}
 use Rattle.zi_elements.specs.declared.element.Element.{Element}
 use Rattle.zi_elements.specs.Forest.{Forest, none, joined, nodes_view, whole}
 use Rattle.zi_names.specs.Names.{first_scope}
 use Rattle.zi_xml.specs.Syntax.{stop, void, pair, Root, alone, whole as of_content, doctype, root_text, IsRoot, Document, IsDocument, document_text, mark_text, declared_text, miscs_text}
 use Rattle.zi_xml.specs.Meaning.{Level, doctype_kind, passed, start, declared_told, root_told, document_told}
-use Rattle.zi_xml.proofs.CharLemmas.{append_none}
 use Rattle.zi_xml.specs.Documents.{SaysChars, Spells}
 use Rattle.zi_elements.specs.Places.{places, AreRising}
 use Rattle.zi_doc_laws.proofs.CarriedLaws.{none_carried}
@@ -67,5 +66,5 @@ spelled w t h =
     let Q : List ℕ → Type 0 = λ v. RisesFrom 0 v in
     record {
       fine = subst P (joined_none (nodes_view (document_told d).before) ∙ root) fine;
-      order = rising 0 (places (whole t)) (subst Q (append_none (places (nodes_view (document_told d).before)) ∙ ap places root) rises);
+      order = rising 0 (places (whole t)) (subst Q (append-nil (places (nodes_view (document_told d).before)) ∙ ap places root) rises);
     }

@@ -1,6 +1,6 @@
 -- How characters are written, what is read of that, and what it means.
 use Rattle.std.specs.Prelude.{codes, encode_utf8, encode_utf8_all, flat_map, if◌then◌else◌}
-use Rattle.std.proofs.Common.{◌≡◌, ℕ, ◌<◌, ◌≤◌, Bool, true, false, not, ◌&&◌, ◌==◌, cond, ltb, List, [], ◌∷◌, ◌++◌, map, refl, sym, ap, ◌∙◌, subst, arith, append_assoc}
+use Rattle.std.proofs.Common.{◌≡◌, ℕ, ◌<◌, ◌≤◌, Bool, true, false, not, ◌&&◌, ◌==◌, cond, ltb, List, [], ◌∷◌, ◌++◌, map, refl, sym, ap, ◌∙◌, subst, arith, append_assoc, append-nil}
 use Rattle.std.specs.List.{list_all}
 use Rattle.std.proofs.Math.Utf8.{encode, scalar, scalars, low_scalar}
 use Rattle.std.proofs.lemmas.Str.{encodes-append}
@@ -122,7 +122,7 @@ singles : (e : ℕ → List ℕ) (bs : List ℕ) → Singles e bs → flat_map e
 singles e [] h = refl
 singles e (b ∷ bs) h = ap (λ v. v ++ flat_map e bs) h.0 ∙ ap (λ v. b ∷ v) (singles e bs h.1)
 
-pick : (P : List ℕ → Type 0) (b : Bool) (x y : List ℕ) → (b ≡ true → P x) → (b ≡ false → P y) → P (cond b x y)
+pub pick : (P : List ℕ → Type 0) (b : Bool) (x y : List ℕ) → (b ≡ true → P x) → (b ≡ false → P y) → P (cond b x y)
 pick P true x y f g = f refl
 pick P false x y f g = g refl
 
@@ -155,14 +155,10 @@ high_other b h = record { amp = unlike b 38 (omega arith); less = unlike b 60 (o
 high_other_yet : (b : ℕ) → 128 ≤ b → OtherYet b
 high_other_yet b h = record { quote = unlike b 34 (omega arith); tab = unlike b 9 (omega arith); line = unlike b 10 (omega arith) }
 
-pub append_none : (xs : List ℕ) → xs ++ [] ≡ xs
-append_none [] = refl
-append_none (x ∷ xs) = ap (λ v. x ∷ v) (append_none xs)
-
 -- a character that stands for itself
 itself : (e : ℕ → List ℕ) (c : ℕ) → scalar c ≡ true → e c ≡ c ∷ [] → ((b : ℕ) → 128 ≤ b → e b ≡ b ∷ []) → Spell (c ∷ []) (flat_map e (encode_utf8 c))
 itself e c u low high = record {
-  text = append_none (encode c) ∙ sym (singles e (encode c) (encode_singles e c low high));
+  text = append-nil (encode c) ∙ sym (singles e (encode c) (encode_singles e c low high));
   right = and_from (scalar c) true u refl;
 }
 
@@ -307,7 +303,7 @@ word_bit_told c =
 
 pub said_told : (d : ℕ) (scope : List Binding) (cs : List ℕ) (k : Content) (l : Level) → l.returned ≡ false
     → (m : Level) × (told d scope (said cs k) l ≡ told d scope k m) × Hears l (encode_utf8_all cs) m
-said_told d scope [] k l h = (l, refl, record { before = refl; letters = sym (append_none l.letters); returned = h; found = refl })
+said_told d scope [] k l h = (l, refl, record { before = refl; letters = sym (append-nil l.letters); returned = h; found = refl })
 said_told d scope (c ∷ cs) k l h =
     let x = word_bit_told c l h in
     let y = said_told d scope cs k (bit_told (word_bit c) l) x.returned in (

@@ -13,9 +13,7 @@ use Rattle.zi_names.specs.Names.{is_empty, has_twice}
 use Rattle.zi_xml.specs.Chars.{is_char}
 use Rattle.zi_elements.specs.Namespace.{injector}
 use Rattle.zi_docout.specs.Amiss.{is_plain_name, is_carried, is_amiss_attr, is_amiss_text, same_name, texts, count, Standing, is_amiss, standing}
-
-pub same_bytes : (a b : List ℕ) → bytes_eq a b ≡ true → a ≡ b
-same_bytes a b h = (bytes_eq-Decides a b).0 h
+use Rattle.zi_xml.proofs.Backward.{same_list}
 
 -- an element that can be written
 pub record Fine (e : Standing) : Type 0 where
@@ -36,7 +34,7 @@ fine e h =
     let s = or_parts _ _ n.0 in
     record {
       near = s.0;
-      space = same_bytes e.space injector (not-false _ s.1);
+      space = same_list e.space injector (not-false _ s.1);
       name = not-false _ n.1;
       attrs = a.1;
       once = o.1;

@@ -7,20 +7,7 @@ use Rattle.zi_elements.specs.declared.element.Node.TheVariants as nodes
 use Rattle.zi_elements.specs.Forest.{Forest, none, words, child, joined, node_step, element_step, node_view, nodes_view}
 use Rattle.zi_docout.specs.Canonical.{lines_text, rest_text, indent, tag_text}
 use Rattle.zi_docout.specs.Amiss.{texts, count, Standing, standing}
-
-pub joined_none : (f : Forest) → joined f none ≡ f
-joined_none none = refl
-joined_none (words t f) = ap (words t) (joined_none f)
-joined_none (child s n a k p f) = ap (child s n a k p) (joined_none f)
-
-pub joined_assoc : (f g h : Forest) → joined (joined f g) h ≡ joined f (joined g h)
-joined_assoc none g h = refl
-joined_assoc (words t f) g h = ap (words t) (joined_assoc f g h)
-joined_assoc (child s n a k p f) g h = ap (child s n a k p) (joined_assoc f g h)
-
-pub nodes_append : (xs ys : List Node) → nodes_view (xs ++ ys) ≡ joined (nodes_view xs) (nodes_view ys)
-nodes_append [] ys = refl
-nodes_append (x ∷ xs) ys = ap (joined (node_view x)) (nodes_append xs ys) ∙ sym (joined_assoc (node_view x) (nodes_view xs) (nodes_view ys))
+use Rattle.zi_doc_laws.proofs.FineLaws.{joined_none, joined_assoc}
 
 pub node_alone : (x : Node) → nodes_view (x ∷ []) ≡ node_view x
 node_alone x = joined_none (node_view x)

@@ -22,9 +22,10 @@ use Rattle.zi_xml.specs.Meaning.{raw_of, value_of}
 use Rattle.zi_elements.specs.Namespace.{injector}
 use Rattle.zi_docout.specs.Canonical.{declaring}
 use Rattle.zi_docout.specs.Amiss.{is_name_byte, is_plain_name, is_amiss_attr, same_name}
-use Rattle.zi_docout.proofs.FineLemmas.{same_bytes, FineAttr, fine_attr, Carried}
+use Rattle.zi_docout.proofs.FineLemmas.{FineAttr, fine_attr, Carried}
 use Rattle.zi_docout.proofs.BitLemmas.{value_bit, value_bits_mean}
 use Rattle.zi_docout.proofs.ParsedLemmas.{written, name_spelled}
+use Rattle.zi_xml.proofs.Backward.{same_list}
 
 no_colon_byte : (c : ℕ) → is_name_byte c ≡ true → is_colon c ≡ false
 unfolding is_digit
@@ -65,7 +66,7 @@ front_colon k n h = (or_parts _ _ (sym (list_any-append is_colon (take k n) (dro
 no_declaration_front : (n : List ℕ) → has_colon n ≡ false → starts_with nat_eq n (codes "xmlns:") ≡ false
 no_declaration_front n h =
     false_from_ne_true _ (λ e.
-    let same = same_bytes (codes "xmlns:") (take 6 n) e in
+    let same = same_list (codes "xmlns:") (take 6 n) e in
     let z : true ≡ false = ap has_colon same ∙ front_colon 6 n h in cc)
 
 -- an attribute as the tag has it
@@ -178,7 +179,7 @@ unfolding address_of
 root_here = refl
 
 other_way : (a b : List ℕ) → bytes_eq a b ≡ false → bytes_eq b a ≡ false
-other_way a b h = false_from_ne_true _ (λ e. let z : false ≡ true = sym h ∙ (bytes_eq-Decides a b).1 (sym (same_bytes b a e)) in cc)
+other_way a b h = false_from_ne_true _ (λ e. let z : false ≡ true = sym h ∙ (bytes_eq-Decides a b).1 (sym (same_list b a e)) in cc)
 
 not_xmlns : (xs : List Attr) → list_any is_amiss_attr xs ≡ false → list_any (names.same_name (raw declaring)) (map raw xs) ≡ false
 not_xmlns [] h = refl

@@ -5,8 +5,9 @@ use Rattle.std.proofs.lemmas.List.Folds.{list_any-append}
 use Rattle.zi_elements.specs.declared.element.Node.{Node}
 use Rattle.zi_elements.specs.Forest.{Forest, joined, node_view, nodes_view}
 use Rattle.zi_docout.specs.Amiss.{is_amiss_text, texts}
-use Rattle.zi_docout.proofs.ForestLemmas.{nodes_append, texts_joined}
+use Rattle.zi_docout.proofs.ForestLemmas.{texts_joined}
 use Rattle.std.proofs.Math.Bool.{or-false}
+use Rattle.zi_doc_laws.proofs.FineLaws.{nodes_append}
 
 abbrev pub HasAmiss : ℕ → Forest → Bool
 HasAmiss n f = list_any (is_amiss_text n) (texts f)

@@ -22,10 +22,12 @@ use Rattle.zi_elements.specs.Namespace.{injector}
 use Rattle.zi_docout.specs.Amiss.{is_plain_name, same_name, is_amiss_attr, is_amiss_text, texts, count, standing, is_amiss}
 use Rattle.zi_docout.specs.Same.{has_child, bare, unplaced}
 use Rattle.zi_docout.proofs.FineLemmas.{FineText, fine_text, parts}
-use Rattle.zi_docout.proofs.ForestLemmas.{joined_none, joined_assoc, nodes_append, node_alone, child_view, words_view}
+use Rattle.zi_docout.proofs.ForestLemmas.{node_alone, child_view, words_view}
 use Rattle.zi_docout.proofs.BitLemmas.{said_told, Hears, heard_letter, value_bits_clean}
 use Rattle.zi_docout.proofs.ParsedLemmas.{spaces, written, shaped, parsed, FineTexts, first_text, name_spelled}
 use Rattle.zi_docout.proofs.NamesLemmas.{raw, raws, Meant, inner_meant}
+use Rattle.zi_doc.proofs.Roots.{passed_found}
+use Rattle.zi_doc_laws.proofs.FineLaws.{joined_none, joined_assoc, nodes_append}
 
 -- Trees without layout.
 
@@ -40,7 +42,7 @@ bare_joined b (words t f) g =
     each false u v w e = ap (words t) e
 bare_joined b (child s n xs f p k) g = ap (child s n xs (bare (has_child f) f) 0) (bare_joined b k g)
 
-child_bare : (b : Bool) (f : Forest) → has_child (bare b f) ≡ has_child f
+pub child_bare : (b : Bool) (f : Forest) → has_child (bare b f) ≡ has_child f
 child_bare b none = refl
 child_bare b (words t f) = each (b && list_all is_white t) (bare b f) (child_bare b f)
   where
@@ -141,10 +143,6 @@ adopted frame n xs inner l m f h q k =
     }
 
 -- Tags.
-
-pub passed_found : (cs : List ℕ) (l : Level) → (passed cs l).found ≡ l.found
-passed_found [] l = refl
-passed_found (c ∷ cs) l = passed_found cs (tick c l)
 
 -- the children, the text and whether a CR was last stay but for the last
 pub passed_before : (cs : List ℕ) (l : Level) → (passed cs l).before ≡ l.before

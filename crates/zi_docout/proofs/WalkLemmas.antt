@@ -15,7 +15,8 @@ use Rattle.zi_docout.specs.Amiss.{Standing, standing, standing_of, is_amiss, alo
 use Rattle.zi_docout.specs.Answers.{told, walk, IsFirst, Writes}
 use Rattle.zi_docout.proofs.ParsedLemmas.{FineTexts, first_text}
 use Rattle.zi_docout.proofs.ToldLemmas.{lone_text}
-use Rattle.zi_docout.proofs.ForestLemmas.{nodes_append, node_alone, standing_joined, lines_joined, child_view, words_view}
+use Rattle.zi_docout.proofs.ForestLemmas.{node_alone, standing_joined, lines_joined, child_view, words_view}
+use Rattle.zi_doc_laws.proofs.FineLaws.{nodes_append}
 
 -- two spaces more
 pub indent_more : (d : ℕ) → indent (d + 1) ≡ indent d ++ 32 ∷ 32 ∷ []

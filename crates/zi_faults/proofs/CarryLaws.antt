@@ -7,6 +7,7 @@ use Rattle.std.proofs.Math.Seq.{drop-cons}
 use Rattle.std.proofs.lemmas.List.{drop_all}
 use Rattle.std.proofs.lemmas.Grind.{flat_map-append}
 use Rattle.std.proofs.lemmas.List.Folds.{flat_map-map}
+use Rattle.std.proofs.lemmas.Map.Made.{option_or-none}
 use Rattle.zi_elements.specs.declared.element.Node.{Node}
 use Rattle.zi_elements.specs.Forest.{Forest, none, words, child, Elem, attribute, joined, node_view, nodes_view}
 use Rattle.zi_reading.specs.Ways.{Ways}
@@ -43,13 +44,9 @@ carried step out ways s parent (child sp n attrs f p k) =
     (ap (λ v. out s e ++ v) (joins (given step out s) _ _ (map (under e) (sites ways n f)) _ inner later))
 
 -- Attributes: the carried one is replaced where an element has it.
-or_assoc : {A : Type 0} (a b c : Option A) → option_or a (option_or b c) ≡ option_or (option_or a b) c
+pub or_assoc : {A : Type 0} (a b c : Option A) → option_or a (option_or b c) ≡ option_or (option_or a b) c
 or_assoc None b c = refl
 or_assoc (Some x) b c = refl
-
-or_none : {A : Type 0} (a : Option A) → option_or a None ≡ a
-or_none None = refl
-or_none (Some x) = refl
 
 -- one attribute, replaced where an element has it
 abbrev pub replaced : List ℕ → Option (List ℕ) → Elem → Option (List ℕ)
@@ -61,7 +58,7 @@ fold_replaced name o (e ∷ es) =
     fold_replaced name (option_or (attribute name e) o) es ∙ or_assoc (inherited name es) (attribute name e) o
 
 pub inherited_append : (name : List ℕ) (xs ys : List Elem) → inherited name (xs ++ ys) ≡ option_or (inherited name ys) (inherited name xs)
-inherited_append name [] ys = sym (or_none (inherited name ys))
+inherited_append name [] ys = sym (option_or-none (inherited name ys))
 inherited_append name (x ∷ xs) ys =
     ap (λ v. option_or v (attribute name x)) (inherited_append name xs ys) ∙ sym (or_assoc (inherited name ys) (inherited name xs) (attribute name x))
 
@@ -105,8 +102,8 @@ fold_taken s (e ∷ es) =
     (or_assoc (inherited (codes "local-path") es) (attribute (codes "local-path") e) s.local_path)
 
 nothing_before : (t : Said) → after unsaid t ≡ t
-nothing_before t = eight (after unsaid t) t (or_none t.version) (or_none t.modifier) (or_none t.released) (or_none t.stability)
-    (or_none t.arch) (or_none t.langs) (or_none t.main) (or_none t.local_path)
+nothing_before t = eight (after unsaid t) t (option_or-none t.version) (option_or-none t.modifier) (option_or-none t.released) (option_or-none t.stability)
+    (option_or-none t.arch) (option_or-none t.langs) (option_or-none t.main) (option_or-none t.local_path)
 
 said_append : (xs : List Elem) (e : Elem) → said (xs ++ e ∷ []) ≡ taken (said xs) e
 said_append xs e = eight (said (xs ++ e ∷ [])) (taken (said xs) e)

@@ -5,6 +5,7 @@ use Rattle.std.specs.List.{list_any}
 use Rattle.std.proofs.Math.Seq.{drop-cons}
 use Rattle.std.proofs.lemmas.List.{drop_all, map-append}
 use Rattle.std.proofs.lemmas.Slice.Eq.{bytes_eq-Decides}
+use Rattle.std.specs.Cmp.{both_ways}
 use Rattle.zi_elements.specs.declared.element.Element.{Element}
 use Rattle.zi_elements.specs.Forest.{Elem, element_view, has, value, attribute}
 use Rattle.zi_faults.specs.declared.fault.Fault.{Fault}
@@ -17,6 +18,7 @@ use Rattle.zi_reading.specs.Reading.{named}
 use Rattle.zi_reading.specs.Views.{views}
 use Rattle.zi_faults.specs.Faults.{fault_at, least, lesser_of, share, repeats_in}
 use Rattle.zi_faults.proofs.LeastLaws.{lesser_assoc, lesser_none, least_append}
+use Rattle.zi_text.proofs.ListLaws.{if_true, if_false}
 
 -- all behind the first repeat it, where any two are alike
 all_repeat : (e : Elem) (before xs : List Elem) → repeated_after (λ a b. true) (e ∷ before) xs ≡ xs
@@ -31,7 +33,7 @@ left false xs = repeated (λ a b. true) xs
 pub faults_of : FeedKind → List Elem → List Fault
 faults_of kind xs = map (λ r. fault_at r kind) xs
 
-views_next : (es : List (Bor Element)) (i : ℕ) (x : Bor Element) → i < length es → x ≡ get_or es i x → views (drop i es) ≡ element_view x.now ∷ views (drop (i + 1) es)
+pub views_next : (es : List (Bor Element)) (i : ℕ) (x : Bor Element) → i < length es → x ≡ get_or es i x → views (drop i es) ≡ element_view x.now ∷ views (drop (i + 1) es)
 views_next es i x h is =
     let n : suc i ≡ i + 1 = omega arith in
     ap views (drop-cons es i x h ∙ (ap (λ y. y ∷ drop (suc i) es) (sym is) ∙ ap (λ j. x ∷ drop j es) n))
@@ -87,16 +89,9 @@ after_first kind es i x b later found new total h is p q made kept =
 abbrev pub is_known : List ℕ → List Elem → List ℕ → Bool
 is_known name earlier q = list_any (λ e. has name e && same (value name e) q) earlier
 
-both_ways : (a b : Bool) → (a ≡ true → b ≡ true) → (b ≡ true → a ≡ true) → a ≡ b
-both_ways true b p q = sym (p refl)
-both_ways false true p q = q refl
-both_ways false false p q = refl
-
 same_flip : (x y : List ℕ) → same x y ≡ same y x
 unfolding same
-same_flip x y = both_ways (bytes_eq x y) (bytes_eq y x)
-    (λ h. (bytes_eq-Decides y x).1 (sym ((bytes_eq-Decides x y).0 h)))
-    (λ h. (bytes_eq-Decides x y).1 (sym ((bytes_eq-Decides y x).0 h)))
+same_flip x y = both_ways (bytes_eq x y) (bytes_eq y x) (λ h. (bytes_eq-Decides y x).1 (sym ((bytes_eq-Decides x y).0 h))) (λ h. (bytes_eq-Decides x y).1 (sym ((bytes_eq-Decides y x).0 h)))
 
 shares_known : (name text : List ℕ) (earlier : List Elem) → list_any (λ e. has name e && same text (value name e)) earlier ≡ is_known name earlier text
 shares_known name text [] = refl
@@ -116,12 +111,6 @@ shared_by name text x earlier h =
 unshared : (name : List ℕ) (x : Elem) (earlier : List Elem) → None ≡ attribute name x → list_any (share name x) earlier ≡ false
 unshared name x earlier h =
     ap (λ o. list_any (λ e. is_some o && has name e && same (unwrap_or o []) (value name e)) earlier) (sym h) ∙ never earlier
-
-if_true : {A : Type 0} (b : Bool) (x y : A) → b ≡ true → (if b then x else y) ≡ x
-if_true b x y h = ap (λ v. if v then x else y) h
-
-if_false : {A : Type 0} (b : Bool) (x y : A) → b ≡ false → (if b then x else y) ≡ y
-if_false b x y h = ap (λ v. if v then x else y) h
 
 -- what is left, behind these
 abbrev pub left_behind : FeedKind → List ℕ → List Elem → List Elem → Option Fault
@@ -210,14 +199,6 @@ comes_old before after kind name text es i x found new total h is some grown the
 pub set_told : (a b had : Bool) → a ≡ cond b true had → a ≡ (b || had)
 set_told a true had h = h
 set_told a false had h = h
-
-pub not_false : (b : Bool) → false ≡ not b → b ≡ true
-not_false true h = refl
-not_false false h = cc
-
-pub not_true : (b : Bool) → true ≡ not b → b ≡ false
-not_true true h = cc
-not_true false h = refl
 
 -- the repeats in an element are those of its runners and those of its commands
 pub both_repeats : (ways : Ways) (e : Elem) (rs cs : List Elem) (second shared : Option Fault)

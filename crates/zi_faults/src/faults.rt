@@ -1,5 +1,5 @@
 //! The faults at one element, a function for each kind.
-ghost use Rattle.std.specs.Prelude.{◌≡◌, ◌&&◌, IfOk, codes, map, true, option_copied, is_some};
+ghost use Rattle.std.specs.Prelude.{◌≡◌, ◌&&◌, ◌||◌, IfOk, codes, map, true, option_copied, is_some};
 ghost use Rattle.zi_elements.specs.Forest.{element_view, attribute, lacks, value};
 ghost use Rattle.zi_policy.specs.Platform.{arch_of};
 ghost use Rattle.zi_text.specs.Numeral.{numeral};
@@ -26,10 +26,10 @@ use zi_elements::Element;
 use zi_parts::{attribute_by, digest_by, importance_of, mode_of};
 use zi_policy::Arch;
 use zi_reading::{
-    Ways, attribute, has, is, is_dest, is_expression, is_one_of, is_path, is_unclear, is_version,
-    lent, meaning, numeral, parts, stability_of, those, value,
+    Kind, Part, Ways, attribute, elements_of, has, is_dest, is_expression, is_path, is_unclear,
+    is_version, lent, meaning, parts, stability_of, value,
 };
-use zi_text::Memory;
+use zi_text::{Memory, numeral};
 
 /// There is a text, and it is no version.
 pub fn is_wrong_version(alloc: Global, text: Option<&str>) -> Result<bool, Memory>
@@ -82,29 +82,28 @@ fn is_amiss_size(text: Option<&str>) -> bool
 }
 
 // It is an `implementation`.
-fn is_impl(e: &Element) -> bool
+fn is_impl(e: &Part) -> bool
     ensures { result ≡ is_impl (element_view e.now) }
 {
-    is(e, "implementation")
+    e.is(Kind::Implementation)
 }
 
 // It names another interface.
-fn names_interface(e: &Element) -> bool
+fn names_interface(e: &Part) -> bool
     ensures { result ≡ names_interface (element_view e.now) }
 {
-    let names = ["requires", "restricts", "runner"];
-    is_one_of(names.as_slice(), e.name.as_str())
+    e.is_one_of([Kind::Requires, Kind::Restricts, Kind::Runner].as_slice())
 }
 
 // An implementation without an id.
-fn has_no_id(e: &Element) -> bool
+fn has_no_id(e: &Part) -> bool
     ensures { result ≡ (is_impl (element_view e.now) && is_none (value (codes "id") (element_view e.now))) }
 {
-    is_impl(e) && value(e, "id").is_empty()
+    is_impl(e) && value(e.element(), "id").is_empty()
 }
 
 // A version that is none.
-fn has_bad_version(alloc: Global, ways: Ways, said: &Carried, e: &Element) -> Result<bool, Memory>
+fn has_bad_version(alloc: Global, ways: Ways, said: &Carried, e: &Part) -> Result<bool, Memory>
     requires { said.now.wrong.version ≡ is_amiss is_version (version_text (said_by said.now)) }
     ensures { IfOk result (λ b. b ≡ has_fault (ways_of ways.entry) (said_by said.now) kind.BadVersion (element_view e.now)) }
 {
@@ -112,34 +111,34 @@ fn has_bad_version(alloc: Global, ways: Ways, said: &Carried, e: &Element) -> Re
         return Ok(true);
     }
     Ok(
-        is(e, "version")
-            && (is_wrong_version(alloc, attribute(e, "not-before"))?
-                || is_wrong_version(alloc, attribute(e, "before"))?),
+        e.is(Kind::Version)
+            && (is_wrong_version(alloc, attribute(e.element(), "not-before"))?
+                || is_wrong_version(alloc, attribute(e.element(), "before"))?),
     )
 }
 
 // A restriction of versions that is no expression.
-fn has_bad_range(alloc: Global, ways: Ways, said: &Carried, e: &Element) -> Result<bool, Memory>
+fn has_bad_range(alloc: Global, ways: Ways, said: &Carried, e: &Part) -> Result<bool, Memory>
     ensures { IfOk result (λ b. b ≡ has_fault (ways_of ways.entry) (said_by said.now) kind.BadRange (element_view e.now)) }
 {
     if !ways.is_whole() || !names_interface(e) {
         return Ok(false);
     }
-    match attribute(e, "version") {
+    match attribute(e.element(), "version") {
         Some(text) => Ok(!is_expression(alloc, text)?),
         None => Ok(false),
     }
 }
 
 // A platform that is none.
-fn has_bad_arch(alloc: Global, ways: Ways, said: &Carried, e: &Element) -> Result<bool, Memory>
+fn has_bad_arch(alloc: Global, ways: Ways, said: &Carried, e: &Part) -> Result<bool, Memory>
     requires { said.now.wrong.arch ≡ is_wrong (λ t. is_some (arch_of t)) (said_by said.now).arch }
     ensures { IfOk result (λ b. b ≡ has_fault (ways_of ways.entry) (said_by said.now) kind.BadArch (element_view e.now)) }
 {
     if is_impl(e) && said.wrong.arch {
         return Ok(true);
     }
-    Ok(is(e, "feed") && is_wrong_arch(alloc, attribute(e, "arch"))?)
+    Ok(e.is(Kind::Feed) && is_wrong_arch(alloc, attribute(e.element(), "arch"))?)
 }
 
 // The attribute of an algorithm isn't the digits of a digest name.
@@ -153,14 +152,14 @@ fn has_bad_digits_by(alloc: Global, algorithm: Algorithm, e: &Element) -> Result
 }
 
 // One of the attributes of a `manifest-digest` isn't the digits of a digest name.
-fn has_bad_digest(alloc: Global, ways: Ways, said: &Carried, e: &Element) -> Result<bool, Memory>
+fn has_bad_digest(alloc: Global, ways: Ways, said: &Carried, e: &Part) -> Result<bool, Memory>
     ensures { IfOk result (λ b. b ≡ has_fault (ways_of ways.entry) (said_by said.now) kind.BadDigest (element_view e.now)) }
 {
     Ok(
-        is(e, "manifest-digest")
-            && (has_bad_digits_by(alloc, Algorithm::Sha256new, e)?
-                || has_bad_digits_by(alloc, Algorithm::Sha256, e)?
-                || has_bad_digits_by(alloc, Algorithm::Sha1new, e)?),
+        e.is(Kind::ManifestDigest)
+            && (has_bad_digits_by(alloc, Algorithm::Sha256new, e.element())?
+                || has_bad_digits_by(alloc, Algorithm::Sha256, e.element())?
+                || has_bad_digits_by(alloc, Algorithm::Sha1new, e.element())?),
     )
 }
 
@@ -208,87 +207,87 @@ fn has_bad_importance(e: &Element) -> bool
 }
 
 // An `environment` that isn't of the form.
-fn has_bad_environment(e: &Element) -> bool
+fn has_bad_environment(e: &Part) -> bool
     ensures { result ≡ (is (codes "environment") (element_view e.now) && is_bad_environment (element_view e.now)) }
 {
-    is(e, "environment") && is_bad_environment(e)
+    e.is(Kind::Environment) && is_bad_environment(e.element())
 }
 
 // A `command` without a name.
-fn has_no_name(e: &Element) -> bool
+fn has_no_name(e: &Part) -> bool
     ensures { result ≡ (is (codes "command") (element_view e.now) && lacks (codes "name") (element_view e.now)) }
 {
-    is(e, "command") && !has(e, "name")
+    e.is(Kind::Command) && !has(e.element(), "name")
 }
 
 // A `for-each` that isn't of the form.
-fn has_bad_for_each(e: &Element) -> bool
+fn has_bad_for_each(e: &Part) -> bool
     ensures { result ≡ (is (codes "for-each") (element_view e.now) && is_bad_for_each (element_view e.now)) }
 {
-    is(e, "for-each") && is_bad_for_each(e)
+    e.is(Kind::ForEach) && is_bad_for_each(e.element())
 }
 
 // A `requires` whose importance is none.
-fn is_unweighed(e: &Element) -> bool
+fn is_unweighed(e: &Part) -> bool
     ensures { result ≡ (is (codes "requires") (element_view e.now) && is_wrong (λ t. is_some (importance_of t)) (attribute (codes "importance") (element_view e.now))) }
 {
-    is(e, "requires") && has_bad_importance(e)
+    e.is(Kind::Requires) && has_bad_importance(e.element())
 }
 
 // A binding, command, loop of arguments or importance that isn't of the form.
-fn is_bad_part(e: &Element) -> bool
+fn is_bad_part(e: &Part) -> bool
     ensures { result ≡ is_bad_part (element_view e.now) }
 {
     has_bad_environment(e) || has_no_name(e) || has_bad_for_each(e) || is_unweighed(e)
 }
 
 // A `file` that isn't of the form.
-fn has_bad_file(alloc: Global, e: &Element) -> Result<bool, Memory>
+fn has_bad_file(alloc: Global, e: &Part) -> Result<bool, Memory>
     ensures { IfOk result (λ b. b ≡ (is (codes "file") (element_view e.now) && is_bad_file (element_view e.now))) }
 {
-    if !is(e, "file") {
+    if !e.is(Kind::File) {
         return Ok(false);
     }
     Ok(
-        !has(e, "href")
-            || is_amiss_size(attribute(e, "size"))
-            || is_amiss_dest(alloc, attribute(e, "dest"))?,
+        !has(e.element(), "href")
+            || is_amiss_size(attribute(e.element(), "size"))
+            || is_amiss_dest(alloc, attribute(e.element(), "dest"))?,
     )
 }
 
 // A `rename` that isn't of the form.
-fn has_bad_rename(alloc: Global, e: &Element) -> Result<bool, Memory>
+fn has_bad_rename(alloc: Global, e: &Part) -> Result<bool, Memory>
     ensures { IfOk result (λ b. b ≡ (is (codes "rename") (element_view e.now) && is_bad_rename (element_view e.now))) }
 {
-    if !is(e, "rename") {
+    if !e.is(Kind::Rename) {
         return Ok(false);
     }
-    Ok(is_amiss_path(alloc, attribute(e, "source"))? || is_amiss_dest(alloc, attribute(e, "dest"))?)
+    Ok(is_amiss_path(alloc, attribute(e.element(), "source"))? || is_amiss_dest(alloc, attribute(e.element(), "dest"))?)
 }
 
 // A `remove` that isn't of the form.
-fn has_bad_remove(alloc: Global, e: &Element) -> Result<bool, Memory>
+fn has_bad_remove(alloc: Global, e: &Part) -> Result<bool, Memory>
     ensures { IfOk result (λ b. b ≡ (is (codes "remove") (element_view e.now) && is_amiss is_path (attribute (codes "path") (element_view e.now)))) }
 {
-    Ok(is(e, "remove") && is_amiss_path(alloc, attribute(e, "path"))?)
+    Ok(e.is(Kind::Remove) && is_amiss_path(alloc, attribute(e.element(), "path"))?)
 }
 
 // A step that isn't of the form.
-fn has_bad_step(alloc: Global, ways: Ways, said: &Carried, e: &Element) -> Result<bool, Memory>
+fn has_bad_step(alloc: Global, ways: Ways, said: &Carried, e: &Part) -> Result<bool, Memory>
     ensures { IfOk result (λ b. b ≡ has_fault (ways_of ways.entry) (said_by said.now) kind.BadStep (element_view e.now)) }
 {
     Ok(has_bad_file(alloc, e)? || has_bad_rename(alloc, e)? || has_bad_remove(alloc, e)?)
 }
 
 // An interface or a feed isn't named.
-fn has_no_interface(e: &Element) -> bool
+fn has_no_interface(e: &Part) -> bool
     ensures { result ≡ has_no_interface (element_view e.now) }
 {
-    (names_interface(e) && !has(e, "interface")) || (is(e, "feed") && !has(e, "src"))
+    (names_interface(e) && !has(e.element(), "interface")) || (e.is(Kind::Feed) && !has(e.element(), "src"))
 }
 
 // A stability that a feed may not say.
-fn has_bad_stability(said: &Carried, e: &Element) -> bool
+fn has_bad_stability(said: &Carried, e: &Part) -> bool
     ensures { result ≡ (is_impl (element_view e.now) && is_wrong (λ t. is_some (stability_of t)) (said_by said.now).stability) }
 {
     if !is_impl(e) {
@@ -321,26 +320,54 @@ fn has_bad_local(alloc: Global, ways: Ways, said: &Carried, e: &Element) -> Resu
     }
 }
 
+// Whether, where it counts, an attribute says an address that means nothing.
+fn counts_badly(
+    alloc: Global,
+    ways: Ways,
+    counts: bool,
+    name: &str,
+    e: &Element,
+) -> Result<bool, Memory>
+    ensures { IfOk result (λ b. b ≡ (counts && has_bad_address (ways_of ways.entry) name.now (element_view e.now))) }
+{
+    if !counts {
+        return Ok(false);
+    }
+    has_bad_address(alloc, ways, name, e)
+}
+
+// An implementation whose local path leads nowhere, in a feed that is local.
+fn lies_nowhere(alloc: Global, ways: Ways, said: &Carried, part: &Part) -> Result<bool, Memory>
+    requires { said.now.wrong.local ≡ is_wrong_local (ways_of ways) (said_by said.now).local_path }
+    ensures { IfOk result (λ b. b ≡ (is_impl (element_view part.now) && has_bad_local (ways_of ways.entry) (said_by said.now) (element_view part.now))) }
+{
+    if !is_impl(part) {
+        return Ok(false);
+    }
+    has_bad_local(alloc, ways, said, part.element())
+}
+
 // An address or a local path that means nothing.
 fn is_badly_addressed(
     alloc: Global,
     ways: Ways,
     said: &Carried,
-    e: &Element,
+    part: &Part,
 ) -> Result<bool, Memory>
     requires { said.now.wrong.local ≡ is_wrong_local (ways_of ways) (said_by said.now).local_path }
-    ensures { IfOk result (λ b. b ≡ has_fault (ways_of ways.entry) (said_by said.now) kind.BadAddress (element_view e.now)) }
+    ensures { IfOk result (λ b. b ≡ has_fault (ways_of ways.entry) (said_by said.now) kind.BadAddress (element_view part.now)) }
 {
-    if names_interface(e) && has_bad_address(alloc, ways, "interface", e)? {
+    let e = part.element();
+    if counts_badly(alloc, ways, names_interface(part), "interface", e)? {
         return Ok(true);
     }
-    if is(e, "feed") && has_bad_address(alloc, ways, "src", e)? {
+    if counts_badly(alloc, ways, part.is(Kind::Feed), "src", e)? {
         return Ok(true);
     }
-    if is(e, "file") && has_bad_address(alloc, ways, "href", e)? {
+    if counts_badly(alloc, ways, part.is(Kind::File), "href", e)? {
         return Ok(true);
     }
-    Ok(is_impl(e) && has_bad_local(alloc, ways, said, e)?)
+    lies_nowhere(alloc, ways, said, part)
 }
 
 // The least of the kinds from 8 on that stands at an element.
@@ -348,7 +375,7 @@ fn late_kind(
     alloc: Global,
     ways: Ways,
     said: &Carried,
-    e: &Element,
+    e: &Part,
 ) -> Result<Option<FeedKind>, Memory>
     requires { said.now.wrong.local ≡ is_wrong_local (ways_of ways) (said_by said.now).local_path }
     ensures { IfOk result (λ k. k ≡ first (kinds_among late_kinds (ways_of ways.entry) (said_by said.now) (element_view e.now))) }
@@ -374,7 +401,7 @@ pub fn kind_at(
     alloc: Global,
     ways: Ways,
     said: &Carried,
-    e: &Element,
+    e: &Part,
 ) -> Result<Option<FeedKind>, Memory>
     requires { IsChecked (ways_of ways) said.now }
     ensures { IfOk result (λ k. k ≡ first (kinds_at (ways_of ways.entry) (said_by said.now) (element_view e.now))) }
@@ -421,8 +448,8 @@ fn is_first(f: Fault, g: Fault) -> bool
     f.place < g.place || (f.place == g.place && number(f.kind) <= number(g.kind))
 }
 
-// The number of a kind.
-fn number(kind: FeedKind) -> u8
+/// The number of a kind, in whose order faults at one place go.
+pub fn number(kind: FeedKind) -> u8
     ensures { result ≡ number kind }
 {
     match kind {
@@ -490,12 +517,12 @@ pub fn least_shared(
 
 // The least fault of repeats in an element.
 #[tactic(auto, unfolding(crate::specs::Faults::repeats_in))]
-fn repeat_in(alloc: Global, ways: Ways, e: &Element) -> Result<Option<Fault>, Memory>
+fn repeat_in(alloc: Global, ways: Ways, e: &Part) -> Result<Option<Fault>, Memory>
     ensures { IfOk result (λ f. f ≡ least (map (λ r. fault_at r kind.BadPart) (repeats_in (ways_of ways.entry) (element_view e.now)))) }
 {
     let parts = parts(alloc, ways, e)?;
-    let runners = those(alloc, ["runner"].as_slice(), parts.as_slice())?;
-    let commands = those(alloc, ["command"].as_slice(), parts.as_slice())?;
+    let runners = elements_of(alloc, [Kind::Runner].as_slice(), parts.as_slice())?;
+    let commands = elements_of(alloc, [Kind::Command].as_slice(), parts.as_slice())?;
     let second = least_but_first(runners.as_slice(), FeedKind::BadPart);
     let shared = least_shared(alloc, "name", commands.as_slice(), FeedKind::BadPart)?;
     Ok(lesser_of(second, shared))
@@ -508,17 +535,18 @@ pub fn fault_with(
     alloc: Global,
     ways: Ways,
     said: &Carried,
-    e: &Element,
+    part: &Part,
 ) -> Result<Option<Fault>, Memory>
     requires { IsChecked (ways_of ways) said.now }
-    ensures { IfOk result (λ f. f ≡ least (faults_with (ways_of ways.entry) (said_by said.now) (element_view e.now))) }
+    ensures { IfOk result (λ f. f ≡ least (faults_with (ways_of ways.entry) (said_by said.now) (element_view part.now))) }
 {
+    let e = part.element();
     if is_unclear(alloc, e)? {
         return Ok(Some(fault_at(e, FeedKind::BadRange)));
     }
-    let own = match kind_at(alloc, ways, said, e)? {
+    let own = match kind_at(alloc, ways, said, part)? {
         Some(kind) => Some(fault_at(e, kind)),
         None => None,
     };
-    Ok(lesser_of(own, repeat_in(alloc, ways, e)?))
+    Ok(lesser_of(own, repeat_in(alloc, ways, part)?))
 }

@@ -23,7 +23,7 @@ use Rattle.zi_parts.specs.Values.{deps_of, commands_of, bindings_of}
 use Rattle.zi_feed.specs.Impls.{are_alike, is_run, with_main, main_command, impl_with, impl_from}
 use Rattle.zi_feed.specs.Active.{active_deps, active_command, active_part, kept_own}
 use Rattle.zi_feed.specs.Inward.{own_of, added_nothing, added_with, IsAdded, impl_at}
-use Rattle.zi_reading.proofs.TableLaws.{same_text}
+use Rattle.zi_reading.proofs.TextLaws.{same_text}
 use Rattle.zi_feed.proofs.KeptLaws.{latest_again, latest_twice, any_latest, latest_map, filter_each, map_each, option_map_through}
 
 -- commands of one name are both `run`, or neither

@@ -35,7 +35,7 @@ abbrev pub least_left : Ways → List Seen → ℕ → Option Fault
 least_left ways ss i = least (flat_map (faults_seen ways) (map seen_view (drop i ss)))
 
 pub fault_next : (ways : Ways) (ss : List Seen) (i : ℕ) (x : Seen) (found fault new total : Option Fault) → i < length ss → x ≡ get_or ss i x
-    → fault ≡ least (faults_with ways (said_by x.said) (element_view x.element.now)) → new ≡ lesser_of found fault
+    → fault ≡ least (faults_with ways (said_by x.said) (element_view x.element)) → new ≡ lesser_of found fault
     → lesser_of found (least_left ways ss i) ≡ total → lesser_of new (least_left ways ss (i + 1)) ≡ total
 fault_next ways ss i x found fault new total h is at made kept =
     let rest : Option Fault = least_left ways ss (i + 1) in

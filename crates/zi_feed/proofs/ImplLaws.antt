@@ -2,7 +2,7 @@
 use Rattle.std.proofs.Common.{◌≡◌, ℕ, Bool, true, false, ◌&&◌, ◌||◌, ◌<◌, ◌≤◌, ◌+◌, List, [], ◌∷◌, ◌++◌, map, drop, length, get_or, Option, Some, None, codes, refl, sym, ap, ◌∙◌, append-nil}
 use Rattle.std.specs.Prelude.{if◌then◌else◌, not}
 use Rattle.std.specs.List.{flat_map, filter_map, cons_option, fold, list_any}
-use Rattle.std.proofs.lemmas.Bool.{false≢true}
+use Rattle.std.proofs.lemmas.Bool.{false≢true, false_from_ne_true, and_right, and_left, and_parts, or_parts}
 use Rattle.std.proofs.lemmas.List.{map-append}
 use Rattle.zi_elements.specs.declared.element.Node.{Node}
 use Rattle.zi_elements.specs.Forest.{Forest, none, words, child, Elem, elements, node_view, nodes_view}
@@ -16,12 +16,13 @@ use Rattle.zi_reading.specs.Ways.{Ways, InFeed}
 use Rattle.zi_reading.specs.Reading.{stands, is_closed, is_unclear, is_unbuilt, is_other_step, is_ours, is, read_in}
 use Rattle.zi_faults.specs.Sites.{Site, sites, path}
 use Rattle.zi_faults.specs.Said.{Said, said, taken, unsaid}
+use Rattle.zi_faults.specs.Carrying.{sites_at, sites_in}
 use Rattle.zi_feed.specs.Impls.{impl_of}
 use Rattle.zi_feed.specs.Active.{active_part, kept_feed}
 use Rattle.zi_faults.specs.Faults.{is_impl, counts, implementations}
 use Rattle.zi_feed.specs.Feeds.{feed_of}
 use Rattle.zi_feed.specs.Inward.{State, entered, impls_at, impl_at, added_nothing, added_with, carried_impls, carried_impls_in}
-use Rattle.zi_reading.proofs.TableLaws.{same_text}
+use Rattle.zi_reading.proofs.TextLaws.{same_text}
 use Rattle.zi_faults.proofs.CarryLaws.{carried, given, said_path, carry_next, carry_end}
 use Rattle.zi_feed.proofs.KeptLaws.{filter_map_each}
 use Rattle.zi_feed.proofs.AddedLaws.{kept_impl, kept_at, at_path}
@@ -85,23 +86,12 @@ stands_ours : (ways : Ways) (parent : List ℕ) (e : Elem) → stands ways paren
 unfolding stands
 stands_ours ways parent e h = (both_hold _ _ _ _ h).0
 
-by_case : (b : Bool) → (b ≡ true → ⊥) → b ≡ false
-by_case true h = absurd (h refl)
-by_case false h = refl
-
 other_name : (row : List (List ℕ)) (name word : List ℕ) → is_among row name ≡ true → is_among row word ≡ false → same name word ≡ false
-other_name row name word h k = by_case (same name word) (λ s. false≢true (sym k ∙ (sym (ap (is_among row) (same_text name word s)) ∙ h)))
-
-and_false : (a b : Bool) → b ≡ false → (a && b) ≡ false
-and_false true b h = h
-and_false false b h = refl
-
-false_and : (a b : Bool) → a ≡ false → (a && b) ≡ false
-false_and a b h = ap (λ v. v && b) h
+other_name row name word h k = false_from_ne_true (same name word) (λ s. false≢true (sym k ∙ (sym (ap (is_among row) (same_text name word s)) ∙ h)))
 
 -- an element of another name doesn't count
 counts_not : (e : Elem) → same e.name (codes "implementation") ≡ false → counts e ≡ false
-counts_not e h = false_and (is_impl e) (not (is_unclear e)) (and_false (is_ours e) (same e.name (codes "implementation")) h)
+counts_not e h = and_left (is_impl e) (not (is_unclear e)) (and_right (is_ours e) (same e.name (codes "implementation")) h)
 
 nothing_at : (ways : Ways) (policy : Option Policy) (s : State) (e : Elem) → counts e ≡ false → impls_at ways policy s e ≡ []
 nothing_at ways policy s e h = ap (λ b. if b then optional (impl_at ways (taken s.0 e) (added_with s.1 (kept_at ways policy e)) e) else []) h
@@ -140,12 +130,7 @@ at_element ways policy s parent e = none_behind (stands ways parent e) (is_close
 pub gathers_none : (ways : Ways) (policy : Option Policy) (s : State) (parent : List ℕ) (e : Elem) → stands ways parent e ≡ false → carried_impls_in ways policy s parent e ≡ []
 gathers_none ways policy s parent e h = at_element ways policy s parent e ∙ rw h refl
 
-or_parts : (a b : Bool) → (a || b) ≡ false → (a ≡ false) × (b ≡ false)
-or_parts false false h = (refl, refl)
-or_parts true b h = absurd (false≢true (sym h))
-or_parts false true h = absurd (false≢true (sym h))
-
-not_named : (ours b : Bool) → ours ≡ true → (ours && b) ≡ false → b ≡ false
+pub not_named : (ours b : Bool) → ours ≡ true → (ours && b) ≡ false → b ≡ false
 not_named true b h k = k
 not_named false b h k = absurd (false≢true h)
 
@@ -154,7 +139,7 @@ pub gathers_other : (ways : Ways) (policy : Option Policy) (s : State) (parent :
 unfolding carried_impls
 gathers_other ways policy s parent e g i =
     empty_step (stands ways parent e) (is_closed e) _ _ [] refl
-    (λ h. nothing_at ways policy s e (false_and (is_impl e) (not (is_unclear e)) i))
+    (λ h. nothing_at ways policy s e (and_left (is_impl e) (not (is_unclear e)) i))
     (λ h. no_impls ways policy (entered ways policy s e) e.name e.inside (other_name (read_in parent) e.name (codes "interface") (stands_named ways parent e h) (no_root parent))
     (not_named (is_ours e) (same e.name (codes "group")) (stands_ours ways parent e h) g))
 
@@ -169,19 +154,15 @@ weaken true r b h = refl
 weaken false true b h = refl
 weaken false false b h = h
 
-second : (a b : Bool) → (a && b) ≡ true → b ≡ true
-second true b h = h
-second false b h = absurd (false≢true h)
-
 two_names : same (codes "implementation") (codes "recipe") ≡ false
 unfolding same
 two_names = refl
 
 -- a recipe is no implementation
 recipe_is_none : (e : Elem) → is (codes "recipe") e ≡ true → is_impl e ≡ false
-recipe_is_none e h = by_case (is_impl e) (λ k. false≢true
-    (sym two_names ∙ (ap (λ n. same n (codes "recipe")) (sym (same_text e.name (codes "implementation") (second (is_ours e) (same e.name (codes "implementation")) k)))
-    ∙ second (is_ours e) (same e.name (codes "recipe")) h)))
+recipe_is_none e h = false_from_ne_true (is_impl e) (λ k. false≢true
+    (sym two_names ∙ (ap (λ n. same n (codes "recipe")) (sym (same_text e.name (codes "implementation") (and_parts (is_ours e) (same e.name (codes "implementation")) k).1))
+    ∙ (and_parts (is_ours e) (same e.name (codes "recipe")) h).1)))
 
 -- a closed element doesn't count
 closed_counts_not : (e : Elem) → is_closed e ≡ true → counts e ≡ false
@@ -203,7 +184,7 @@ unfolding same
 two_groups = refl
 
 group_is_none : (e : Elem) → is (codes "group") e ≡ true → counts e ≡ false
-group_is_none e h = counts_not e (ap (λ n. same n (codes "implementation")) (same_text e.name (codes "group") (second (is_ours e) (same e.name (codes "group")) h)) ∙ two_groups)
+group_is_none e h = counts_not e (ap (λ n. same n (codes "implementation")) (same_text e.name (codes "group") (and_parts (is_ours e) (same e.name (codes "group")) h).1) ∙ two_groups)
 
 -- a group
 pub gathers_group : (ways : Ways) (policy : Option Policy) (s : State) (parent : List ℕ) (e : Elem) → stands ways parent e ≡ true → is_closed e ≡ false → is (codes "group") e ≡ true
@@ -212,7 +193,7 @@ gathers_group ways policy s parent e p q g =
     at_element ways policy s parent e ∙ rw p (rw q (ap (λ v. v ++ carried_impls ways policy (entered ways policy s e) e.name e.inside) (nothing_at ways policy s e (group_is_none e g))))
 
 impl_apart : (word : List ℕ) (e : Elem) → same (codes "implementation") word ≡ false → is_impl e ≡ true → same e.name word ≡ false
-impl_apart word e h k = ap (λ n. same n word) (same_text e.name (codes "implementation") (second (is_ours e) (same e.name (codes "implementation")) k)) ∙ h
+impl_apart word e h k = ap (λ n. same n word) (same_text e.name (codes "implementation") (and_parts (is_ours e) (same e.name (codes "implementation")) k).1) ∙ h
 
 not_root : same (codes "implementation") (codes "interface") ≡ false
 unfolding same
@@ -221,10 +202,6 @@ not_root = refl
 not_group : same (codes "implementation") (codes "group") ≡ false
 unfolding same
 not_group = refl
-
-or_first : (a b : Bool) → (a || b) ≡ false → a ≡ false
-or_first true b h = h
-or_first false b h = refl
 
 both_true : (a b : Bool) → a ≡ true → b ≡ false → (a && not b) ≡ true
 both_true a b p q = rw p (rw q refl)
@@ -236,7 +213,7 @@ gathers_impl ways policy s parent e p q i =
     let it : List Impl = optional (impl_at ways (taken s.0 e) (added_with s.1 (kept_at ways policy e)) e) in
     at_element ways policy s parent e
     ∙ rw p (rw q (ap (λ v. impls_at ways policy s e ++ v) (no_impls ways policy (entered ways policy s e) e.name e.inside (impl_apart (codes "interface") e not_root i) (impl_apart (codes "group") e not_group i))
-    ∙ (append-nil (impls_at ways policy s e) ∙ ap (λ b. if b then it else []) (both_true (is_impl e) (is_unclear e) i (or_first (is_unclear e) (is_unbuilt e) q)))))
+    ∙ (append-nil (impls_at ways policy s e) ∙ ap (λ b. if b then it else []) (both_true (is_impl e) (is_unclear e) i (or_parts (is_unclear e) (is_unbuilt e) q).0))))
 
 -- The loop over what an element holds.
 pub impls_next : (ways : Ways) (policy : Option Policy) (s : State) (p q : List ℕ) (ns : List Node) (i : ℕ) (x : Node) (found new total : List Impl)
@@ -311,6 +288,31 @@ kept_all root uri (Some p) = filter_map_each (active_part p) (impl_of (InFeed ur
 -- What the code adds.
 pub nothing_added : (xs found : List Impl) → xs ≡ [] → found ≡ found ++ xs
 nothing_added xs found h = sym (append-nil found) ∙ ap (λ v. found ++ v) (sym h)
+
+-- One in which implementations are looked for: a group or an implementation that isn't closed.
+by_opening : {X : Type 0} (g i c : Bool) → ((g || i) && not c) ≡ false → (c ≡ true → X) → (g ≡ false → i ≡ false → X) → X
+by_opening g i true h closed other = closed refl
+by_opening true i false h closed other = absurd (false≢true (sym h))
+by_opening false true false h closed other = absurd (false≢true (sym h))
+by_opening false false false h closed other = other refl refl
+
+pub gathers_seen : (ways : Ways) (policy : Option Policy) (s : State) (parent : List ℕ) (e : Elem) → ((is (codes "group") e || is_impl e) && not (is_closed e)) ≡ false
+    → carried_impls_in ways policy s parent e ≡ []
+gathers_seen ways policy s parent e h =
+    by_opening (is (codes "group") e) (is_impl e) (is_closed e) h (gathers_closed ways policy s parent e) (gathers_other ways policy s parent e)
+
+-- what is read of an element that stands
+pub read_sites : (ways : Ways) (s : Said) (parent : List ℕ) (e : Elem) → stands ways parent e ≡ true → sites_in ways s parent e ≡ sites_at ways s e
+read_sites ways s parent e h = rw h refl
+
+pub is_open : (g i c : Bool) → ((g || i) && not c) ≡ true → c ≡ false
+is_open g i false h = refl
+is_open g i true h = absurd (false≢true (sym (and_right (g || i) false refl) ∙ h))
+
+pub is_second : (g i c : Bool) → ((g || i) && not c) ≡ true → g ≡ false → i ≡ true
+is_second true i c h e = absurd (false≢true (sym e))
+is_second false true c h e = refl
+is_second false false c h e = absurd (false≢true h)
 
 pub group_added : (ways : Ways) (policy : Option Policy) (s : State) (parent : List ℕ) (e : Elem) (found new : List Impl) (inner : Said) (added : Added)
     → stands ways parent e ≡ true → is_closed e ≡ false → is (codes "group") e ≡ true

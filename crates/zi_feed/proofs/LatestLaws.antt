@@ -29,11 +29,11 @@ rest_back cs i n x e h is =
 pub kept_more : (ks : List (Bor Command)) (x : Bor Command) → reverse (map (λ r. r.now) (ks ++ x ∷ [])) ≡ x.now ∷ reverse (map (λ r. r.now) ks)
 kept_more ks x = ap reverse (map-append (λ r. r.now) ks (x ∷ [])) ∙ reverse-append (map (λ r. r.now) ks) (x.now ∷ [])
 
-text_swap : (x y : List ℕ) → bytes_eq x y ≡ bytes_eq y x
+pub text_swap : (x y : List ℕ) → bytes_eq x y ≡ bytes_eq y x
 text_swap x y =
     same_from_decides (bytes_eq x y) (bytes_eq y x) (bytes_eq-Decides x y) (λ e. sym ((bytes_eq-Decides y x).0 e), λ e. (bytes_eq-Decides y x).1 (sym e))
 
-cond_or : (a b : Bool) → cond a true b ≡ (a || b)
+pub cond_or : (a b : Bool) → cond a true b ≡ (a || b)
 cond_or true b = refl
 cond_or false b = refl
 
@@ -75,11 +75,3 @@ latest_old x xs kept h k = k ∙ sym (latest_by true x xs h)
 -- no later one has its name
 pub latest_new : (x : Command) (xs kept : List Command) → is_named_in xs x.name ≡ false → kept ≡ latest are_alike xs → x ∷ kept ≡ latest are_alike (x ∷ xs)
 latest_new x xs kept h k = ap (λ v. x ∷ v) k ∙ sym (latest_by false x xs h)
-
-pub not_false : (b : Bool) → false ≡ not b → b ≡ true
-not_false true h = refl
-not_false false h = cc
-
-pub not_true : (b : Bool) → true ≡ not b → b ≡ false
-not_true true h = cc
-not_true false h = refl

@@ -2,6 +2,8 @@
 use Rattle.std.proofs.Common.{◌≡◌, ℕ, suc, zero, ◌<◌, ◌⊎◌, inl, inr, Bool, true, false, not, ◌&&◌, List, [], ◌∷◌, ◌++◌, map, drop, Option, Some, None, refl, sym, ap, ◌∙◌, arith}
 use Rattle.std.specs.Prelude.{if◌then◌else◌, option_map, option_and_then, is_some}
 use Rattle.std.specs.List.{filter, filter_map, flat_map, slice_get, cons_option}
+use Rattle.std.proofs.lemmas.Option.{same_Some}
+use Rattle.std.proofs.lemmas.Bool.{or_parts}
 use Rattle.zi_version.specs.Range.{a_version}
 use Rattle.zi_elements.specs.Forest.{Forest, none, words, child, Elem}
 use Rattle.zi_reading.specs.Words.{is_amiss}
@@ -13,7 +15,7 @@ use Rattle.zi_faults.specs.Said.{said, version_text}
 use Rattle.zi_feed.specs.Impls.{impl_of, impl_from}
 use Rattle.zi_faults.specs.Faults.{is_impl, has_fault, fault_at, kinds_at, faults_with, faults_at, counts, implementations, same_ids, root_faults, repeats_in, all_kinds}
 use Rattle.zi_feed.specs.Feeds.{feed_fault, feed_of, feed_sites, all_faults}
-use Rattle.zi_feed.specs.IdLaws.{by_bool, true_false, cons_nil, none_some, some_same, or_neither, both_empty, map_nil, second_fails, unclear_false, no_faults}
+use Rattle.zi_feed.specs.IdLaws.{by_bool, true_false, cons_nil, none_some, both_empty, map_nil, second_fails, unclear_false, no_faults}
 use Rattle.zi_elements.specs.Places.{places, IsBelow, AreRising}
 use Rattle.zi_feed.specs.Places.{impl_places, site_places, StandApart, ImplsAreInOrder}
 use Rattle.zi_parts.specs.declared.types.Impl.{Impl}
@@ -45,7 +47,7 @@ has_version ways t c right =
     let kinds : kinds_at ways (said (path t)) e ≡ [] = map_nil (fault_at e) (kinds_at ways (said (path t)) e) (both_empty _ _ found).0 in
     let later : filter (λ k. has_fault ways (said (path t)) k e) (drop 1 all_kinds) ≡ [] = tail_fails (λ k. has_fault ways (said (path t)) k e) NotInterface (drop 1 all_kinds) kinds in
     let fails : has_fault ways (said (path t)) BadVersion e ≡ false = second_fails (λ k. has_fault ways (said (path t)) k e) NoId BadVersion (drop 3 all_kinds) later in
-    let own : (is_impl e && is_amiss is_version (version_text (said (path t)))) ≡ false = (or_neither _ _ fails).0 in
+    let own : (is_impl e && is_amiss is_version (version_text (said (path t)))) ≡ false = (or_parts _ _ fails).0 in
     let impl : is_impl e ≡ true = p.0 in
     has_value (version_text (said (path t))) (rw impl at own)
 
@@ -131,14 +133,14 @@ counted_among (t ∷ ts) = one (counts t.element) (counted_among ts)
 -- Rising places are distinct.
 not_below : (p : ℕ) (cs : List Impl) (k : ℕ) (d : Impl) → IsBelow p (impl_places cs) → slice_get cs k ≡ Some d → p ≡ d.place → ⊥
 not_below p [] k d b at_k e = none_some at_k
-not_below p (x ∷ cs) zero d b at_k e = let f : x ≡ d = some_same at_k in let g : p < d.place = rw (sym f) b.0 in omega arith
+not_below p (x ∷ cs) zero d b at_k e = let f : x ≡ d = same_Some _ _ at_k in let g : p < d.place = rw (sym f) b.0 in omega arith
 not_below p (x ∷ cs) (suc k) d b at_k e = not_below p cs k d b.1 at_k e
 
 rising_apart : (cs : List Impl) → AreRising (impl_places cs) → StandApart cs
 rising_apart [] r i k c d at_i at_k e = absurd (none_some at_i)
 rising_apart (x ∷ cs) r zero zero c d at_i at_k e = refl
-rising_apart (x ∷ cs) r zero (suc k) c d at_i at_k e = absurd (not_below x.place cs k d r.0 at_k (ap (λ (j : Impl). j.place) (some_same at_i) ∙ e))
-rising_apart (x ∷ cs) r (suc i) zero c d at_i at_k e = absurd (not_below x.place cs i c r.0 at_i (ap (λ (j : Impl). j.place) (some_same at_k) ∙ sym e))
+rising_apart (x ∷ cs) r zero (suc k) c d at_i at_k e = absurd (not_below x.place cs k d r.0 at_k (ap (λ (j : Impl). j.place) (same_Some _ _ at_i) ∙ e))
+rising_apart (x ∷ cs) r (suc i) zero c d at_i at_k e = absurd (not_below x.place cs i c r.0 at_i (ap (λ (j : Impl). j.place) (same_Some _ _ at_k) ∙ sym e))
 rising_apart (x ∷ cs) r (suc i) (suc k) c d at_i at_k e = ap suc (rising_apart cs r.1 i k c d at_i at_k e)
 
 -- The law.

@@ -19,18 +19,11 @@ use Rattle.zi_faults.specs.Said.{Said, version_text, unsaid}
 use Rattle.zi_feed.specs.Impls.{impl_with, impl_from}
 use Rattle.zi_feed.specs.Inward.{made_of, added_nothing, impl_at}
 use Rattle.zi_feed.specs.Shares.{Grows, TablesGrow, Adds, Gathers, deps_at, AreLevels, NumbersFit, HasNumbers, AreShared}
+use Rattle.zi_text.proofs.ListLaws.{at_front, at_last}
 
 -- Places in lists that grow.
-pub at_front : {X : Type 0} (xs ys : List X) (k : ℕ) (x : X) → slice_get xs k ≡ Some x → slice_get (xs ++ ys) k ≡ Some x
-at_front [] ys k x e = cc
-at_front (y ∷ xs) ys zero x e = e
-at_front (y ∷ xs) ys (suc k) x e = at_front xs ys k x e
 
-at_last : {X : Type 0} (xs : List X) (x : X) → slice_get (xs ++ x ∷ []) (length xs) ≡ Some x
-at_last [] x = refl
-at_last (y ∷ xs) x = at_last xs x
-
-at_cases : {X : Type 0} (xs : List X) (x : X) (k : ℕ) (y : X) → slice_get (xs ++ x ∷ []) k ≡ Some y → (slice_get xs k ≡ Some y) ⊎ ((k ≡ length xs) × (y ≡ x))
+pub at_cases : {X : Type 0} (xs : List X) (x : X) (k : ℕ) (y : X) → slice_get (xs ++ x ∷ []) k ≡ Some y → (slice_get xs k ≡ Some y) ⊎ ((k ≡ length xs) × (y ≡ x))
 at_cases [] x zero y e = inr (refl, (cc))
 at_cases [] x (suc k) y e = cc
 at_cases (z ∷ xs) x zero y e = inl e

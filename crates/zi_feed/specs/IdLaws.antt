@@ -4,6 +4,8 @@ use Rattle.std.specs.Prelude.{map, drop, codes, if◌then◌else◌, option_map,
 use Rattle.std.specs.List.{list_any, filter, filter_map, flat_map, slice_get, cons_option}
 use Rattle.std.specs.Str.{bytes_eq}
 use Rattle.std.specs.Cmp.Lexicographic.{bytes_decides}
+use Rattle.std.proofs.lemmas.Option.{same_Some}
+use Rattle.std.proofs.lemmas.Bool.{and_parts, or_parts}
 use Rattle.zi_elements.specs.Forest.{Elem, attribute, has, value}
 use Rattle.zi_address.specs.Texts.{same, is_none}
 use Rattle.zi_reading.specs.Words.{repeated_after}
@@ -27,9 +29,6 @@ pub by_bool : {G : Type 0} (b : Bool) → (b ≡ true → G) → (b ≡ false �
 by_bool true t f = t refl
 by_bool false t f = f refl
 
-pub some_same : {A : Type 0} {x y : A} → Some x ≡ Some y → x ≡ y
-some_same e = cc
-
 pub none_some : {A : Type 0} {x : A} → None ≡ Some x → ⊥
 none_some e = cc
 
@@ -38,14 +37,6 @@ cons_nil e = cc
 
 pub true_false : true ≡ false → ⊥
 true_false e = cc
-
-and_both : (a b : Bool) → (a && b) ≡ true → (a ≡ true) × (b ≡ true)
-and_both true b e = (refl, e)
-and_both false b e = absurd (true_false (sym e))
-
-pub or_neither : (a b : Bool) → (a || b) ≡ false → (a ≡ false) × (b ≡ false)
-or_neither true b e = absurd (true_false e)
-or_neither false b e = (refl, e)
 
 pub both_empty : {A : Type 0} (xs ys : List A) → xs ++ ys ≡ [] → (xs ≡ []) × (ys ≡ [])
 both_empty [] ys e = (refl, e)
@@ -60,7 +51,7 @@ lesser_is f (Some g) e = chosen (is_first f g) e
     chosen true e = none_some (sym e)
     chosen false e = none_some (sym e)
 
-least_none : (fs : List Fault) → least fs ≡ None → fs ≡ []
+pub least_none : (fs : List Fault) → least fs ≡ None → fs ≡ []
 least_none [] e = refl
 least_none (f ∷ fs) e = absurd (lesser_is f (least fs) e)
 
@@ -75,7 +66,7 @@ no_faults root uri e = chosen (is (codes "interface") root) e
 -- An implementation has the id of its element.
 mapped : (f : List ℕ → Impl) (id : List ℕ) → ((v : List ℕ) → (f v).id ≡ id) → (o : Option (List ℕ)) (i : Impl) → option_map f o ≡ Some i → i.id ≡ id
 mapped f id h None i e = absurd (none_some e)
-mapped f id h (Some v) i e = sym (ap (λ (j : Impl). j.id) (some_same e)) ∙ h v
+mapped f id h (Some v) i e = sym (ap (λ (j : Impl). j.id) (same_Some _ _ e)) ∙ h v
 
 id_of : (ways : Ways) (t : Site) (i : Impl) → impl_of ways t ≡ Some i → i.id ≡ value (codes "id") t.element
 unfolding impl_of impl_from
@@ -83,7 +74,7 @@ id_of ways t i e = mapped _ (value (codes "id") t.element) (λ v. refl) _ i e
 
 -- What counts and has no fault has an id.
 pub unclear_false : (e : Elem) → counts e ≡ true → (is_impl e ≡ true) × (is_unclear e ≡ false)
-unclear_false e c = let p : (is_impl e ≡ true) × (not (is_unclear e) ≡ true) = and_both (is_impl e) (not (is_unclear e)) c in (p.0, negated (is_unclear e) p.1)
+unclear_false e c = let p : (is_impl e ≡ true) × (not (is_unclear e) ≡ true) = and_parts (is_impl e) (not (is_unclear e)) c in (p.0, negated (is_unclear e) p.1)
   where
     negated : (b : Bool) → not b ≡ true → b ≡ false
     negated true e = absurd (true_false (sym e))
@@ -129,8 +120,8 @@ IsIn e (x ∷ xs) = (e ≡ x) ⊎ IsIn e xs
 
 none_like : (test : Elem → Bool) (xs : List Elem) (e : Elem) → list_any test xs ≡ false → IsIn e xs → test e ≡ false
 none_like test [] e none h = absurd h
-none_like test (x ∷ xs) e none (inl same_e) = ap test same_e ∙ (or_neither (test x) (list_any test xs) none).0
-none_like test (x ∷ xs) e none (inr h) = none_like test xs e (or_neither (test x) (list_any test xs) none).1 h
+none_like test (x ∷ xs) e none (inl same_e) = ap test same_e ∙ (or_parts (test x) (list_any test xs) none).0
+none_like test (x ∷ xs) e none (inr h) = none_like test xs e (or_parts (test x) (list_any test xs) none).1 h
 
 differ : (e f : Elem) → share (codes "id") e f ≡ false → has (codes "id") e ≡ true → has (codes "id") f ≡ true → value (codes "id") e ≢ value (codes "id") f
 unfolding same
@@ -150,8 +141,8 @@ AreApart (i ∷ is) = IsFresh is i.id × AreApart is
 pub distinct : (is : List Impl) → AreApart is → AreDistinct is
 distinct [] apart i k c d at_i at_k e = absurd (none_some at_i)
 distinct (x ∷ xs) apart zero zero c d at_i at_k e = refl
-distinct (x ∷ xs) apart zero (suc k) c d at_i at_k e = absurd (apart.0 k d at_k (sym e ∙ ap (λ (j : Impl). j.id) (sym (some_same at_i))))
-distinct (x ∷ xs) apart (suc i) zero c d at_i at_k e = absurd (apart.0 i c at_i (e ∙ ap (λ (j : Impl). j.id) (sym (some_same at_k))))
+distinct (x ∷ xs) apart zero (suc k) c d at_i at_k e = absurd (apart.0 k d at_k (sym e ∙ ap (λ (j : Impl). j.id) (sym (same_Some _ _ at_i))))
+distinct (x ∷ xs) apart (suc i) zero c d at_i at_k e = absurd (apart.0 i c at_i (e ∙ ap (λ (j : Impl). j.id) (sym (same_Some _ _ at_k))))
 distinct (x ∷ xs) apart (suc i) (suc k) c d at_i at_k e = ap suc (distinct xs apart.1 i k c d at_i at_k e)
 
 -- What is said of the implementations of the elements from here on, these being before them.
@@ -177,7 +168,7 @@ one_more ways earlier t ts (Some i) is_o own new from =
     at_place : (e : Elem) → IsIn e earlier → has (codes "id") e ≡ true → (k : ℕ) (d : Impl) → slice_get (i ∷ impls_in ways ts) k ≡ Some d → d.id ≢ value (codes "id") e
     at_place e inside he zero d at_k alike =
         differ t.element e (none_like (share (codes "id") t.element) earlier e new inside) own he
-        (sym (id_of ways t i is_o) ∙ ap (λ (j : Impl). j.id) (some_same at_k) ∙ alike)
+        (sym (id_of ways t i is_o) ∙ ap (λ (j : Impl). j.id) (same_Some _ _ at_k) ∙ alike)
     at_place e inside he (suc k) d at_k alike = from.fresh e (inr inside) he k d at_k alike
 
 all_from : (ways : Ways) (earlier : List Elem) (ts : List Site) → flat_map (faults_at ways) ts ≡ [] → repeated_after (share (codes "id")) earlier (counted ts) ≡ []

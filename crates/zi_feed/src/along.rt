@@ -12,11 +12,10 @@ ghost use Rattle.zi_feed.specs.Inward.{own_of, added_nothing, added_with, IsAdde
 
 use std::alloc::Global;
 use std::collections::BTreeSet;
-use zi_elements::Element;
 use zi_inherited::{Inherited, Shared};
 use zi_parts::{Binding, Command, Dep, bindings_of, commands_of, deps_of};
 use zi_policy::{Policy, active};
-use zi_reading::{Ways, is_text, parts};
+use zi_reading::{Part, Ways, is_text, parts};
 use zi_text::{List, Memory, Text};
 
 /// What a group or an implementation adds to what it takes from the groups around it.
@@ -104,7 +103,7 @@ fn kept_own(alloc: Global, policy: Option<&Policy>, own: Own) -> Result<Own, Mem
 }
 
 // What an element adds.
-fn all_of(alloc: Global, ways: Ways, e: &Element) -> Result<Own, Memory>
+fn all_of(alloc: Global, ways: Ways, e: &Part) -> Result<Own, Memory>
     ensures { IfOk result (λ o. o ≡ own_of (ways_of ways.entry) (element_view e.now)) }
 {
     let parts = parts(alloc, ways, e)?;
@@ -123,7 +122,7 @@ pub fn own_of(
     alloc: Global,
     ways: Ways,
     policy: Option<&Policy>,
-    e: &Element,
+    e: &Part,
 ) -> Result<Own, Memory>
     ensures { IfOk result (λ o. o ≡ kept_own (option_copied policy.entry) (own_of (ways_of ways.entry) (element_view e.now))) }
 {

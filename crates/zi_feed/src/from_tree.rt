@@ -11,15 +11,17 @@ ghost use Rattle.zi_faults.specs.declared.fault.FeedFault.TheVariants.{Bad};
 
 use crate::feed::Feed;
 use crate::finding;
-use crate::shares::ReadFeed;
+use crate::shares::{Gathered, ReadFeed};
+use crate::walking::found_in;
 use std::alloc::Global;
 use zi_digest::DigestName;
 use zi_elements::{Document, Element};
 use zi_faults::{Fault, FeedFault};
-use zi_parts::{Binding, Command, Dep};
+use zi_inherited::Shared;
+use zi_parts::{Binding, Command, Dep, Import};
 use zi_policy::Policy;
-use zi_reading::{Ways, is, is_binding, is_left_out, is_ours};
-use zi_text::{List, Memory};
+use zi_reading::{BINDINGS, Part, Ways, is, is_left_out};
+use zi_text::{List, Memory, Text};
 
 // The answer of a fault.
 fn bad(fault: Fault) -> FeedFault
@@ -29,6 +31,29 @@ fn bad(fault: Fault) -> FeedFault
         kind: fault.kind,
         place: fault.place,
     }
+}
+
+// A feed with what its implementations share.
+fn shared_feed(
+    alloc: Global,
+    uri: &str,
+    imports: List<Import>,
+    gathered: Gathered,
+) -> Result<ReadFeed, Memory>
+    ensures feed { IfOk result (λ r. r.feed ≡ record { uri = uri.now; imports = imports; impls = gathered.impls }) }
+    ensures shares { IfOk result (λ r. r.shares ≡ gathered.shares) }
+{
+    let Gathered { impls, shares } = gathered;
+    let shares = Shared::new(alloc, shares)?;
+    let uri = Text::from_str(alloc, uri)?;
+    Ok(ReadFeed {
+        feed: Feed {
+            uri,
+            imports,
+            impls,
+        },
+        shares,
+    })
 }
 
 // The feed that a document's root says, with what is active of it under a policy; all of it where there is none. Beside it stands
@@ -42,11 +67,13 @@ fn from_root(
     ensures reads { Reads (feed_fault (element_view root.now) uri.now) (kept_feed (option_copied policy.entry) (feed_of (element_view root.now) uri.now)) (feed_in result) }
     ensures shares { IfOk result (λ r. AreShared r.shares r.feed.impls) }
 {
-    let seen = finding::seen_in(alloc, Ways::InFeed(uri), root)?;
-    if let Some(fault) = finding::feed_fault(alloc, root, uri, seen.as_slice())? {
+    let root = Part::new(root);
+    let found = found_in(alloc, &root, uri, policy)?;
+    if let Some(fault) = finding::feed_fault(alloc, &root, uri, found.seen.as_slice())? {
         return Err(bad(fault));
     }
-    Ok(finding::feed_of(alloc, root, uri, seen.as_slice(), policy)?)
+    let imports = finding::imports_of(alloc, &root, uri, found.seen.as_slice())?;
+    Ok(shared_feed(alloc, uri, imports, found.gathered)?)
 }
 
 impl Feed {
@@ -90,7 +117,8 @@ pub fn counts_as(alloc: Global, e: &Element, name: &str) -> Result<bool, Memory>
 pub fn counts_as_binding(alloc: Global, e: &Element) -> Result<bool, Memory>
     ensures { IfOk result (λ b. b ≡ counts_as_binding (element_view e.now)) }
 {
-    Ok(is_ours(e) && is_binding(e.name.as_str()) && !is_left_out(alloc, e)?)
+    let part = Part::new(e);
+    Ok(part.is_ours() && part.is_one_of(BINDINGS.as_slice()) && !is_left_out(alloc, e)?)
 }
 
 /// The binding that an element of a selections document means, or the fault of it and all in it. It is one of the bindings
@@ -99,10 +127,11 @@ pub fn binding_of(alloc: Global, e: &Element) -> Result<Binding, FeedFault>
     requires { counts_as_binding (element_view e.now) ≡ true }
     ensures { Reads (part_fault (element_view e.now)) (binding_of (element_view e.now)) result }
 {
-    if let Some(fault) = finding::part_fault(alloc, e)? {
+    let part = Part::new(e);
+    if let Some(fault) = finding::part_fault(alloc, &part)? {
         return Err(bad(fault));
     }
-    Ok(zi_parts::binding_of(alloc, e)?)
+    Ok(zi_parts::binding_of(alloc, &part)?)
 }
 
 /// The digests that a `manifest-digest` says, in the order of use, or its fault. Its condition `if-0install-version`
@@ -111,10 +140,11 @@ pub fn digests_of(alloc: Global, e: &Element) -> Result<List<DigestName>, FeedFa
     requires { counts_as (codes "manifest-digest") (element_view e.now) ≡ true }
     ensures { Reads (part_fault (element_view e.now)) (said_digests (element_view e.now)) result }
 {
-    if let Some(fault) = finding::part_fault(alloc, e)? {
+    let part = Part::new(e);
+    if let Some(fault) = finding::part_fault(alloc, &part)? {
         return Err(bad(fault));
     }
-    Ok(zi_parts::said_digests(alloc, e)?)
+    Ok(zi_parts::said_digests(alloc, &part)?)
 }
 
 /// The dependency that a `requires` of a selections document means, its address as it is written and without restrictions,
@@ -123,10 +153,11 @@ pub fn dep_of(alloc: Global, e: &Element) -> Result<Dep, FeedFault>
     requires { counts_as (codes "requires") (element_view e.now) ≡ true }
     ensures { Reads (part_fault (element_view e.now)) (dep_of AsWritten (element_view e.now)) result }
 {
-    if let Some(fault) = finding::part_fault(alloc, e)? {
+    let part = Part::new(e);
+    if let Some(fault) = finding::part_fault(alloc, &part)? {
         return Err(bad(fault));
     }
-    Ok(zi_parts::dep_of(alloc, Ways::AsWritten, e)?)
+    Ok(zi_parts::dep_of(alloc, Ways::AsWritten, &part)?)
 }
 
 /// The command that a `command` of a selections document means, addresses as they are written and without restrictions, or
@@ -135,8 +166,9 @@ pub fn command_of(alloc: Global, e: &Element) -> Result<Command, FeedFault>
     requires { counts_as (codes "command") (element_view e.now) ≡ true }
     ensures { Reads (part_fault (element_view e.now)) (command_of AsWritten (element_view e.now)) result }
 {
-    if let Some(fault) = finding::part_fault(alloc, e)? {
+    let part = Part::new(e);
+    if let Some(fault) = finding::part_fault(alloc, &part)? {
         return Err(bad(fault));
     }
-    Ok(zi_parts::command_of(alloc, Ways::AsWritten, e)?)
+    Ok(zi_parts::command_of(alloc, Ways::AsWritten, &part)?)
 }

@@ -27,7 +27,7 @@ use zi_parts::{
     Impl, Import, Method, address_in, copied, copied_arch, digests_of, methods_of, value_text,
 };
 use zi_policy::Stability;
-use zi_reading::{Ways, attribute, lent, parts, stability_of};
+use zi_reading::{Part, Ways, attribute, lent, parts, stability_of};
 use zi_text::{List, Memory, Text};
 use zi_version::Version;
 
@@ -71,15 +71,16 @@ struct Sources {
 }
 
 // How an element says that it is fetched.
-fn sources_of(alloc: Global, ways: Ways, e: &Element) -> Result<Sources, Memory>
+fn sources_of(alloc: Global, ways: Ways, part: &Part) -> Result<Sources, Memory>
     ensures { IfOk result
         (λ f. f
         ≡ record {
-          digests = digests_of (ways_of ways.entry) (element_view e.now);
-          methods = filter_map (method_of (ways_of ways.entry)) (parts_in (ways_of ways.entry) (element_view e.now));
+          digests = digests_of (ways_of ways.entry) (element_view part.now);
+          methods = filter_map (method_of (ways_of ways.entry)) (parts_in (ways_of ways.entry) (element_view part.now));
         }) }
 {
-    let parts = parts(alloc, ways, e)?;
+    let parts = parts(alloc, ways, part)?;
+    let e = part.element();
     Ok(Sources {
         digests: digests_of(alloc, ways, e, parts.as_slice())?,
         methods: methods_of(alloc, ways, parts.as_slice())?,
@@ -91,7 +92,7 @@ fn impl_with(
     alloc: Global,
     ways: Ways,
     around: &Around,
-    e: &Element,
+    part: &Part,
     version: Version,
 ) -> Result<Impl, Memory>
     requires added { IsAdded around.now.added }
@@ -101,9 +102,10 @@ fn impl_with(
     ensures { IfOk result
         (λ i. i
         ≡ impl_with (ways_of ways.entry) (said_by around.now.said) around.now.added.deps around.now.added.commands around.now.added.bindings
-        (element_view e.now) version) }
+        (element_view part.now) version) }
 {
-    let Sources { digests, methods } = sources_of(alloc, ways, e)?;
+    let e = part.element();
+    let Sources { digests, methods } = sources_of(alloc, ways, part)?;
     let methods = Shared::new(alloc, methods)?;
     Ok(Impl {
         id: value_text(alloc, e, "id")?,
@@ -129,7 +131,7 @@ pub fn impl_at(
     alloc: Global,
     ways: Ways,
     around: &Around,
-    e: &Element,
+    e: &Part,
 ) -> Result<Option<Impl>, Memory>
     requires added { IsAdded around.now.added }
     requires version { around.now.made.version ≡ option_and_then a_version (version_text (said_by around.now.said)) }

@@ -7,9 +7,9 @@
 //! (`zi_faults/specs/Faults.antt`); the whole is in Feeds.antt, and what of it is active under a policy in Active.antt. Nothing is
 //! carried inward in these definitions.
 //!
-//! `finding` has the two passes, the fault of the whole and then its value, for which it keeps what stands along a path
-//! (`around`): what is said, what each group adds (`along`), and what is made of what is said, once for the element that says it
-//! (`made`). `impls` has implementations and imports, `shares` what implementations share, by numbers (specs/Shares.antt), `from_tree`
+//! `walking` has the one walk over a feed. It lists the elements that are read, of which `finding` has the fault of the whole and the
+//! imports, and makes the implementations, for which it keeps what stands along a path (`around`): what is said, what each group adds
+//! (`along`), and what is made of what is said, once for the element that says it (`made`). `impls` has implementations and imports, `shares` what implementations share, by numbers (specs/Shares.antt), `from_tree`
 //! the public calls, with the readers of single elements. They carry by the lemma of `zi_faults` (ImplLaws). `laws` has a law of
 //! where implementations stand (specs/Places.antt).
 #![tactic(auto)]
@@ -23,6 +23,7 @@ mod impls;
 mod laws;
 mod made;
 mod shares;
+mod walking;
 
 pub use feed::Feed;
 pub use from_tree::{binding_of, command_of, counts_as, counts_as_binding, dep_of, digests_of};

@@ -22,7 +22,7 @@ use Rattle.zi_sels.specs.Written.{document}
 use Rattle.zi_adding.specs.Trying.{Tried, IsDone, Adds, CostsAll}
 use Rattle.zi_adding.specs.Gains.{Uses, IsKept, Gains, GainsOnly}
 use Rattle.zi_adding.proofs.AddingLemmas.{adds_nothing}
-use Rattle.zi_adding.proofs.HistoryLaws.{AreDone, costs_from, uses_gain, names_only_read, reads_use}
+use Rattle.zi_adding.proofs.HistoryLaws.{AreDone, costs_from, uses_gain, names_only_read, reads_use, some_kept}
 use Rattle.zi_outcome.specs.declared.outcome.Outcome.{Outcome}
 use Rattle.zi_outcome.specs.Writing.{Prints}
 use Rattle.zi_world.specs.StoreRead.{AreStored}
@@ -132,10 +132,6 @@ any_of p (x ∷ xs) h = by (p x) refl h (any_of p xs)
     by true e h go = (x, (0, omega arith, refl), e)
     by false e h go = let r = go h in (r.0, (suc r.1.0, omega (arith, r.1.1), r.1.2), r.2)
 
-kept_some : (o p : Option (Top Dir)) → IsSome o → ((e : Top Dir) → o ≡ Some e → p ≡ Some e) → IsSome p
-kept_some (Some e) p h k = subst (λ x. IsSome x) (sym (k e refl)) refl
-kept_some None p h k = absurd cc
-
 module _ (c : Chosen) (tried : List Tried) (s t : Shelved Dir) (done : AreDone tried) (names : NamesStored (Ok c.stored) s) (g : Gains tried s t) where
   name_there : (n : Name) → listed n (joined (names_in c) (tried_names tried)) ≡ true → IsSome (t.tops n)
   name_there n h = by (joined_from n (names_in c) (tried_names tried) h)
@@ -144,7 +140,7 @@ module _ (c : Chosen) (tried : List Tried) (s t : Shelved Dir) (done : AreDone t
       by (inl h) =
           let r = among spelling c.stored n (sym (listed-without_repeats n (map spelling c.stored)) ∙ h) in
           let was : IsSome (s.tops (spelling r.0)) = ((names.1 r.0).0 r.1).1 in
-          subst (λ m. IsSome (t.tops m)) r.2 (kept_some (s.tops (spelling r.0)) (t.tops (spelling r.0)) was (g.kept (spelling r.0)))
+          subst (λ m. IsSome (t.tops m)) r.2 (some_kept (s.tops (spelling r.0)) (t.tops (spelling r.0)) was (g.kept (spelling r.0)))
       by (inr h) =
           let r = among (λ (a : Tried). spelling a.name) tried n h in
           subst (λ m. IsSome (t.tops m)) r.2

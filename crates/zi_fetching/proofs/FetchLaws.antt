@@ -28,6 +28,7 @@ use Rattle.zi_choosing.specs.declared.chosen.Chosen.{Chosen}
 use Rattle.zi_fetching.specs.Known.{Names, is_known, is_there}
 use Rattle.zi_fetching.specs.Outcomes.{unmade, unadded}
 use Rattle.zi_fetching.specs.Fetching.{Lent, From, from_chosen, method_of, HasWay, HasNoWay, IsFetchable, IsFetched, tried_names, names_in, FetchesInTurn, FetchesAll, FetchesTree, FetchesOne, FetchesItem}
+use Rattle.zi_check.proofs.MeetLaws.{none_is}
 
 -- One tree.
 
@@ -76,14 +77,10 @@ pub item_tried : (on : From) (stored then : Names) (x : Selection) (method : Met
 item_tried on stored then x method name (Ok u) before after wanting way e t = item_fetched on stored then x method name before after wanting way e t
 item_tried on stored then x method name (Err outcome) before after wanting way e t = item_unfetched on stored then x method name outcome before after wanting way t
 
-none_some : {X : Type 0} (o : Option X) → o ≡ None → IsSome o → ⊥
-none_some None e h = absurd cc
-none_some (Some x) e h = absurd cc
-
 -- what can be fetched and isn't there has a way
 pub has_way : (on : From) (stored : Names) (x : Selection) → IsFetchable on stored x → is_there stored x ≡ false → HasNoWay on x → ⊥
-has_way on stored x f wanting (inl none) = none_some (method_of on x.interface) none (f.way wanting)
-has_way on stored x f wanting (inr none) = none_some (first x.digests) none (f.named wanting)
+has_way on stored x f wanting (inl none) = none_is (method_of on x.interface) none (f.way wanting)
+has_way on stored x f wanting (inr none) = none_is (first x.digests) none (f.named wanting)
 
 -- All of them.
 

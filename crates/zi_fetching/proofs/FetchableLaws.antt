@@ -24,7 +24,7 @@ use Rattle.zi_universe.specs.Naming.{Uri, Uris, AreApart}
 use Rattle.zi_universe.specs.Candidates.{Store, has_items, is_stored, standing_of, candidate_of, within_limits, is_admitted, admitted_by, admitted}
 use Rattle.zi_universe.specs.Whole.{uris_of, IsWhole}
 use Rattle.zi_universe.specs.Loading.{names_of as stored_names, Reading, IsInterface}
-use Rattle.zi_universe.proofs.NamingLemmas.{listed-without_repeats}
+use Rattle.zi_universe.proofs.NamingLemmas.{listed-without_repeats, bytes_eq-refl}
 use Rattle.zi_choice.specs.Choice.{Choice, chosen, number, pick, candidate_at}
 use Rattle.zi_choice.specs.Walk.{Walk}
 use Rattle.zi_sels.specs.declared.types.Selection.{Selection}
@@ -33,6 +33,7 @@ use Rattle.zi_choosing.specs.declared.chosen.Chosen.{Chosen}
 use Rattle.zi_choosing.specs.Finding.{IsChosen}
 use Rattle.zi_fetching.specs.Known.{is_known}
 use Rattle.zi_fetching.specs.Fetching.{from_chosen, method_of, IsFetchable, names_in}
+use Rattle.zi_choice.proofs.Base.{all_at as get_all}
 
 -- A candidate that is or_parts local nor stored has a digest and a method.
 pub record IsObtainable (stored : Store) (c : Candidate) : Type 0 where
@@ -113,18 +114,7 @@ at_place at req p st (g ∷ gs) (y ∷ ys) zero i z e =
     some_same x y e = cc
 at_place at req p st (g ∷ gs) (y ∷ ys) (suc k) i z e = at_place at req p st gs ys k i z.1 e
 
--- what stands at a place of a list
-get_all : {X : Type 0} (P : X → Type 0) (xs : List X) (c : ℕ) (x : X) → All P xs → slice_get xs c ≡ Some x → P x
-get_all P [] c x a e = absurd cc
-get_all P (y ∷ ys) zero x a e = subst P (same y x e) (a 0 y (omega arith))
-  where
-    same : {X : Type 0} (x y : X) → ◌≡◌ {A = Option X} (Some x) (Some y) → x ≡ y
-    same x y e = cc
-get_all P (y ∷ ys) (suc c) x a e = get_all P ys c x (λ k d lt. a (suc k) d (omega (arith, lt))) e
-
 -- The number of an address.
-bytes_same : (x : Uri) → bytes_eq x x ≡ true
-bytes_same x = (bytes_eq-Decides x x).1 refl
 
 bytes_other : (x y : Uri) → x ≢ y → bytes_eq x y ≡ false
 bytes_other x y ne =
@@ -144,7 +134,7 @@ place_found : (xs : Uris) (n k : ℕ) (y : Uri) → AreApart xs → slice_get xs
 place_found [] n k y a e = absurd cc
 place_found (x ∷ xs) n zero y a e =
     let s : x ≡ y = cc in
-    let t : bytes_eq y x ≡ true = subst (λ z. bytes_eq y z ≡ true) (sym s) (bytes_same y) in
+    let t : bytes_eq y x ≡ true = subst (λ z. bytes_eq y z ≡ true) (sym s) (bytes_eq-refl y) in
     let m : n ≡ n + 0 = omega arith in
     rw t (ap (λ z. Some z) m)
 place_found (x ∷ xs) n (suc k) y a e =

@@ -33,6 +33,7 @@ use Rattle.zi_launching.specs.Folders.{folder}
 use Rattle.zi_launching.specs.Verifying.{Condemns, FailsToVerify}
 use Rattle.zi_launching.specs.Launching.{Task, PreparesNot, LaunchesOver, Starts}
 use Rattle.zi_launching.specs.Run.{IsNoLack, LacksNothing}
+use Rattle.zi_choice.proofs.Base.{if_some_at}
 
 -- a fault that isn't of something that is missing
 abbrev NoneLacks : PlanFault → Type 0
@@ -63,10 +64,6 @@ found_so P test (y ∷ xs) x h e = by (test y) e (found_so P test xs x (All-tail
     by : (b : Bool) → cond b (Some y) (find test xs) ≡ Some x → (find test xs ≡ Some x → P x) → P x
     by true e go = subst P (same_Some y x e) (All-head P y xs h)
     by false e go = go e
-
-if_some : {X : Type 0} (P : X → Type 0) (o : Option X) (x : X) → o ≡ Some x → IfSome o P → P x
-if_some P None x e h = absurd (cc e)
-if_some P (Some y) x e h = subst P (same_Some y x e) h
 
 behind_err : (link : Link) (answer : Result (List Link) PlanFault) (reason : PlanFault) → behind link answer ≡ Err reason → answer ≡ Err reason
 behind_err link (Ok links) reason e = absurd (cc e)
@@ -171,7 +168,7 @@ module _ (items : List Selection) (folders : List (Option (List ℕ))) (placed :
         let found = selection_found asked.interface items folders l.place placed l.found in
         let all = found_so (λ (x : Selection). All (CanBeRun items) x.commands) (λ x. bytes_eq x.interface asked.interface) items l.place.selection runs found in
         let one = found_so (CanBeRun items) (λ k. bytes_eq k.name asked.command) l.place.selection.commands link.command all l.named in
-        is_there (asked_by runner) (if_some (RunnerIsThere items) link.command.runner runner e one)
+        is_there (asked_by runner) (if_some_at (RunnerIsThere items) link.command.runner runner e one)
 
     leads_lack : {met : List Asked} {asked : Asked} {chain : Result (List Link) PlanFault} → Leads ps met asked chain → IsThere asked → (reason : PlanFault) → chain ≡ Err reason → NoneLacks reason
     leads_lack {met} {asked} (stops {reason = r} e) there reason same = subst NoneLacks (err_same r reason same) (link_lacks met asked r there e)

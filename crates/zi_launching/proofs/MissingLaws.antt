@@ -28,6 +28,7 @@ use Rattle.zi_launching.specs.Folders.{stored_of, tree_of, trees_of, stored_fold
 use Rattle.zi_launching.specs.Verifying.{Condemns, FailsToVerify}
 use Rattle.zi_launching.specs.Launching.{Task, PreparesNot, LaunchesOver, Starts}
 use Rattle.zi_launching.specs.Run.{NoneMissing}
+use Rattle.zi_check.proofs.MeetLaws.{none_is}
 
 -- What is there has a folder.
 find_some : (p : DigestName → Bool) (ds : List DigestName) → list_any p ds ≡ true → IsSome (find p ds)
@@ -104,10 +105,6 @@ as_stored x d = record {
   bindings = x.bindings;
 }
 
-not_some : {X : Type 0} (o : Option X) → o ≡ None → IsSome o → ⊥
-not_some (Some x) n h = absurd cc
-not_some None n h = absurd cc
-
 or_none : (b : Bool) → b ≡ true → (b || false) ≡ true
 or_none true h = refl
 or_none false h = absurd cc
@@ -120,7 +117,7 @@ module _ (c : Chosen) (old new : Feeding) (stored : Names) (tried : List Tried) 
       (r.0, r.1, by r.0.shelf (stands c tried s.shelf r.0.shelf done (names s honest e) r.2 (as_stored x d) (or_none _ (subst (λ n. is_known n d ≡ true) f.names known))))
     where
       by : (t : Shelved Dir) → StandsIn t (as_stored x d) → IsSome (t.tops (spelling d))
-      by t (inl h) = absurd (not_some (as_stored x d).local refl h)
+      by t (inl h) = absurd (none_is (as_stored x d).local refl h)
       by t (inr (e, is, h)) = subst (λ n. IsSome (t.tops (spelling n))) (sym (only_one d e is)) h
 
   stands_not_missing : (items : List Selection) (place : ℕ) (d : DigestName) → slice_get (trees_of stored items) place ≡ Some d → (s : Told) → before.honest → before.told ≡ Some s → (t : Told) → after.told ≡ Some t
@@ -129,7 +126,7 @@ module _ (c : Chosen) (old new : Feeding) (stored : Names) (tried : List Tried) 
       let x = kept_from (tree_of stored) items place d here in
       let r = known_there x.0 d (tree_known stored x.0 d x.1) s honest e in
       let same : r.0 ≡ t = cc in
-      not_some (t.shelf.tops (spelling d)) none (subst (λ (m : Told). IsSome (m.shelf.tops (spelling d))) same r.2)
+      none_is (t.shelf.tops (spelling d)) none (subst (λ (m : Told). IsSome (m.shelf.tops (spelling d))) same r.2)
 
   module _ (items : List Selection) (outcome : Outcome) (name : List ℕ) (is : outcome ≡ MissingTree name) (s : Told) (honest : before.honest) (told : before.told ≡ Some s) where
     by_verdict : (place : ℕ) (d : DigestName) → slice_get (trees_of stored items) place ≡ Some d → (v : Verdict) → Condemns d v outcome

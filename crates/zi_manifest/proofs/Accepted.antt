@@ -10,21 +10,14 @@ use Rattle.zi_tree.specs.Order.{is_plain, has_byte}
 use Rattle.std.specs.Str.{is_utf8}
 use Rattle.std.specs.Prelude.{codes, nat_eq}
 use Rattle.std.proofs.lemmas.Bool.{and_parts, and_from, not_from_false}
-use Rattle.zi_tree.proofs.Pieces.{or_parts}
 use Rattle.zi_tree.proofs.Order.{lt_apart}
 use Rattle.zi_manifest.specs.Sketch.{Sketch, Empty, OfFile, OfLink, OfFolder, joined, text_of, leaf_text, folder_text}
 use Rattle.zi_manifest.specs.Listing.{IsEntryName, IsListing, is_ahead, lines_of, leaf_lines, folder_lines}
 use Rattle.zi_manifest.specs.Reading.{all_before, is_free, is_above, fresh, add, back, enter, step, run, Placed, leaf_entries, folder_entries, all_entries, entries, texts, lines, AreEntries, leaf_names, entry_text, with_path, name_of}
 use Rattle.zi_manifest.specs.declared.entries.Entry.TheVariants.{File, Link, Folder}
 use Rattle.zi_manifest.specs.declared.open.Open.{Open}
-
-pub if_true : {X : Type 0} (b : Bool) (x y : X) → b ≡ true → (if b then x else y) ≡ x
-if_true true x y h = refl
-if_true false x y h = absurd (cc h)
-
-pub if_false : {X : Type 0} (b : Bool) (x y : X) → b ≡ false → (if b then x else y) ≡ y
-if_false false x y h = refl
-if_false true x y h = absurd (cc h)
+use Rattle.zi_tree.proofs.Found.{apart_flip}
+use Rattle.zi_text.proofs.ListLaws.{if_true, if_false}
 
 abbrev pub lt : List ℕ → List ℕ → Bool
 lt m n = is_lt (slice_cmp nat_cmp m n)
@@ -106,17 +99,10 @@ none_before : (ms ns : List (List ℕ)) (n : List ℕ) → all_before ms n ≡ t
 none_before [] ns n h k = k
 none_before (m ∷ ms) ns n h k = let p = and_parts (lt m n) (all_before ms n) h in rw (lt_apart m n p.0) (none_before ms ns n p.1 k)
 
-bytes_eq_sym : (m n : List ℕ) → bytes_eq n m ≡ false → bytes_eq m n ≡ false
-bytes_eq_sym m n h = by_test (bytes_eq m n) refl
-  where
-    by_test : (b : Bool) → bytes_eq m n ≡ b → bytes_eq m n ≡ false
-    by_test false e = e
-    by_test true e = absurd (cc (sym (ap (λ k. bytes_eq n k) ((bytes_eq-Decides m n).0 e)) ∙ h, (bytes_eq-Decides n n).1 refl))
-
 none_behind : (n : List ℕ) (s : Sketch) → is_ahead n s ≡ true → list_any (λ m. bytes_eq m n) (leaf_names s) ≡ false
 none_behind n Empty h = refl
-none_behind n (OfFile m k e t size rest) h = let p = and_parts (lt n m) (is_ahead n rest) h in rw (bytes_eq_sym m n (lt_apart n m p.0)) (none_behind n rest p.1)
-none_behind n (OfLink m k size rest) h = let p = and_parts (lt n m) (is_ahead n rest) h in rw (bytes_eq_sym m n (lt_apart n m p.0)) (none_behind n rest p.1)
+none_behind n (OfFile m k e t size rest) h = let p = and_parts (lt n m) (is_ahead n rest) h in rw (apart_flip m n (lt_apart n m p.0)) (none_behind n rest p.1)
+none_behind n (OfLink m k size rest) h = let p = and_parts (lt n m) (is_ahead n rest) h in rw (apart_flip m n (lt_apart n m p.0)) (none_behind n rest p.1)
 none_behind n (OfFolder m i rest) h = none_behind n rest (and_parts (lt n m) (is_ahead n rest) h).1
 
 apart : (a : Algorithm) (ms : List (List ℕ)) (s : Sketch) → IsListing a s → AllAhead ms s → Apart (ms ++ leaf_names s) s
@@ -151,7 +137,7 @@ back_deep (b ∷ inner) c cs d = if_false (bytes_eq b.path c.path) (Some (b, inn
     other true e = absurd (let same = ap length ((bytes_eq-Decides b.path c.path).0 e) in omega (arith, same, d.0))
 
 some_name : (n : List ℕ) → IsEntryName n → 0 < length n
-some_name [] g = absurd (cc ((and_parts (is_utf8 []) (is_plain []) g.0).1))
+some_name [] g = absurd (cc (and_parts (is_utf8 []) (is_plain []) g.0).1)
 some_name (c ∷ cs) g = omega arith
 
 pub joined_longer : (p n : List ℕ) → IsEntryName n → length p < length (joined p n)
@@ -279,11 +265,11 @@ pub has_append : (b : ℕ) (xs ys : List ℕ) → has_byte b xs ≡ false → ha
 has_append b [] ys h k = k
 has_append b (x ∷ xs) ys h k = let p = or_parts (nat_eq x b) (has_byte b xs) h in rw p.0 (has_append b xs ys p.1 k)
 
-byte_joined : (p n : List ℕ) → has_byte 10 p ≡ false → has_byte 10 n ≡ false → has_byte 10 (joined p n) ≡ false
+pub byte_joined : (p n : List ℕ) → has_byte 10 p ≡ false → has_byte 10 n ≡ false → has_byte 10 (joined p n) ≡ false
 byte_joined [] n h k = k
 byte_joined (c ∷ cs) n h k = has_append 10 (c ∷ cs) (47 ∷ n) h k
 
-no_newline : (n : List ℕ) → IsEntryName n → has_byte 10 n ≡ false
+pub no_newline : (n : List ℕ) → IsEntryName n → has_byte 10 n ≡ false
 no_newline n g = (or_parts (has_byte 10 n) (bytes_eq n (codes ".manifest")) g.1).0
 
 folders_are : (a : Algorithm) (p : List ℕ) (s : Sketch) → has_byte 10 p ≡ false → IsListing a s → AreEntries a (folder_entries p s)

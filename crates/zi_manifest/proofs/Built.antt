@@ -8,7 +8,6 @@ use Rattle.std.proofs.lemmas.Slice.Eq.{bytes_eq-Decides}
 use Rattle.std.proofs.lemmas.Bool.{and_parts, and_from, not-true}
 use Rattle.zi_digest.specs.declared.Algorithm.{Algorithm}
 use Rattle.zi_tree.proofs.Order.{lt_trans, lt_flip, lt_less}
-use Rattle.zi_tree.proofs.Pieces.{or_parts}
 use Rattle.zi_manifest.specs.Sketch.{Sketch, Empty, OfFile, OfLink, OfFolder, joined}
 use Rattle.zi_manifest.specs.Listing.{IsEntryName, IsListing, is_ahead}
 use Rattle.zi_manifest.specs.Reading.{IsEntry, all_before, is_free, is_above, rises, all_rise, fresh, back, enter, step, home, Placed, leaf_entries, folder_entries, all_entries, leaf_names, folder_names, Shape, Outer, Round, Built}

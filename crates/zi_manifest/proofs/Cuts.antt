@@ -8,7 +8,6 @@ use Rattle.std.proofs.lemmas.Bool.Decides.{nat_tests}
 use Rattle.std.proofs.lemmas.Bool.{and_parts}
 use Rattle.zi_digest.specs.declared.Algorithm.{Algorithm}
 use Rattle.zi_tree.specs.Order.{has_byte}
-use Rattle.zi_tree.proofs.Pieces.{or_parts}
 use Rattle.zi_manifest.specs.Listing.{IsHash, IsSigned64, is_lower_digit}
 use Rattle.zi_manifest.proofs.Accepted.{has_append}
 

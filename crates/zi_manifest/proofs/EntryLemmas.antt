@@ -13,13 +13,11 @@ use Rattle.zi_manifest.specs.declared.entries.Entry.{Entry}
 use Rattle.zi_manifest.specs.declared.entries.Entry.TheVariants.{File, Link, Folder}
 use Rattle.zi_manifest.proofs.Cuts.{decimal_has, signed_has, hash_has, cut_once, cut_last_once}
 use Rattle.zi_manifest.proofs.OneEntries.{no_slash, joined_once, one_entry}
+use Rattle.zi_text.proofs.ListLaws.{heads}
 
 -- a line without its LF
 uncut : (v w : List ℕ) → v ++ 10 ∷ [] ≡ w ++ 10 ∷ [] → v ≡ w
 uncut v w e = (cut_last_once 10 v w [] [] refl refl e).0
-
-heads : (x y : ℕ) (v w : List ℕ) → x ∷ v ≡ y ∷ w → x ≡ y
-heads x y v w e = cc e
 
 -- the words of a link
 abbrev LinkWords : Algorithm → List ℕ → Type 0

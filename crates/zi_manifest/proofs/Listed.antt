@@ -136,7 +136,7 @@ listing a p (AFolder n i rest) t l f w =
     ((q.0, g.0), listing a (joined p n) i s.0 j.0 k.0 w.0, ahead a n rest r.0, listing a p rest r.1 l k.1 w.1)
 
 -- the tree as read is one
-before_read : (n : List ℕ) (d : Dir) → is_before n d ≡ true → is_before n (as_read d) ≡ true
+pub before_read : (n : List ℕ) (d : Dir) → is_before n d ≡ true → is_before n (as_read d) ≡ true
 before_read n Nothing h = refl
 before_read n (AFile m b e t rest) h =
     let p = and_parts (is_lt (slice_cmp nat_cmp n m)) (is_before n rest) h in
@@ -158,7 +158,7 @@ entry_read n rest t k =
 rest_of : (n : List ℕ) (rest : Dir) → (is_name n && (is_before n rest && is_tree rest)) ≡ true → is_tree rest ≡ true
 rest_of n rest t = (and_parts (is_before n rest) (is_tree rest) (and_parts (is_name n) (is_before n rest && is_tree rest) t).1).1
 
-tree_read : (d : Dir) → is_tree d ≡ true → is_tree (as_read d) ≡ true
+pub tree_read : (d : Dir) → is_tree d ≡ true → is_tree (as_read d) ≡ true
 tree_read Nothing t = refl
 tree_read (AFile n b e m rest) t =
     elim (bytes_eq n own_name) as (λ o. is_tree (if o then as_read rest else AFile n b e m (as_read rest)) ≡ true) [

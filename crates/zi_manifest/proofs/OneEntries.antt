@@ -16,7 +16,8 @@ use Rattle.zi_manifest.specs.declared.entries.Entry.{Entry}
 use Rattle.zi_manifest.specs.declared.entries.Entry.TheVariants.{File, Link, Folder}
 use Rattle.zi_manifest.proofs.Cuts.{decimal_has, signed_has, hash_has, cut_once, cut_last_once, has_middle}
 use Rattle.zi_manifest.proofs.LinesRead.{OneEntry}
-use Rattle.zi_manifest.proofs.OneLines.{clear_name, clear_path}
+use Rattle.zi_manifest.proofs.Accepted.{no_newline, byte_joined}
+use Rattle.zi_text.proofs.ListLaws.{heads}
 
 mag_fits : (z : ℤ) → IsSigned64 z → mag z < 2 ^ 63
 mag_fits (pos n) h = h
@@ -42,7 +43,7 @@ joined_once (c ∷ cs) (d ∷ ds) n m h k e = cut_last_once 47 (c ∷ cs) (d ∷
 sized : (a : Algorithm) (s z : ℕ) (n m : List ℕ) → s < 2 ^ 64 → z < 2 ^ 64 → IsEntryName n → IsEntryName m → decimal s ++ 32 ∷ (n ++ 10 ∷ []) ≡ decimal z ++ 32 ∷ (m ++ 10 ∷ []) → (s ≡ z) × (n ≡ m)
 sized a s z n m ls lz gn gm e =
     let p = cut_once 32 (decimal s) (decimal z) (n ++ 10 ∷ []) (m ++ 10 ∷ []) (decimal_has 32 s (omega arith) ls) (decimal_has 32 z (omega arith) lz) e in
-    (decimal_injective s z ls lz p.0, (cut_once 10 n m [] [] (clear_name n gn) (clear_name m gm) p.1).0)
+    (decimal_injective s z ls lz p.0, (cut_once 10 n m [] [] (no_newline n gn) (no_newline m gm) p.1).0)
 
 pub one_folder : (a : Algorithm) (p q n m : List ℕ) → IsEntryName n → IsEntryName m → entry_text (Folder p n) ≡ entry_text (Folder q m) → has_byte 10 (joined p n) ≡ false → has_byte 10 (joined q m) ≡ false → Folder p n ≡ Folder q m
 one_folder a p q n m gn gm e h k =
@@ -98,9 +99,6 @@ marked (File n h false t s) = (32 ∷ worded h t s n, file_words h t s n)
 marked (Link n h s) = (32 ∷ linked h s n, link_words h s n)
 marked (Folder p n) = (32 ∷ 47 ∷ (joined p n ++ 10 ∷ []), simp append_assoc)
 
-heads : (x y : ℕ) (v w : List ℕ) → x ∷ v ≡ y ∷ w → x ≡ y
-heads x y v w e = cc e
-
 same_mark : (e f : Entry) → entry_text e ≡ entry_text f → mark e ≡ mark f
 same_mark e f q = let v = marked e in let w = marked f in heads (mark e) (mark f) v.0 w.0 (sym v.1 ∙ q ∙ w.1)
 
@@ -118,7 +116,7 @@ one_entry a (Link n h s) (Link m k z) g i e =
     let f : linked h s n ≡ linked k z m = cc (sym (link_words h s n) ∙ e ∙ link_words k z m) in
     let r = one_linked a h k s z n m g.1 i.1 g.2 i.2 g.0 i.0 f in
     cc (r.0, r.1, r.2)
-one_entry a (Folder p n) (Folder q m) g i e = one_folder a p q n m g.0 i.0 e (clear_path p n g.1 (clear_name n g.0)) (clear_path q m i.1 (clear_name m i.0))
+one_entry a (Folder p n) (Folder q m) g i e = one_folder a p q n m g.0 i.0 e (byte_joined p n g.1 (no_newline n g.0)) (byte_joined q m i.1 (no_newline m i.0))
 one_entry a (File n h false t s) (File m k true u z) g i e = absurd (let f = same_mark (File n h false t s) (File m k true u z) e in omega (arith, f))
 one_entry a (File n h true t s) (File m k false u z) g i e = absurd (let f = same_mark (File n h true t s) (File m k false u z) e in omega (arith, f))
 one_entry a (File n h true t s) (Link m k z) g i e = absurd (let f = same_mark (File n h true t s) (Link m k z) e in omega (arith, f))

@@ -12,9 +12,11 @@ use Rattle.zi_manifest.specs.declared.open.Open.{Open}
 use Rattle.std.proofs.lemmas.Bool.{cases_lt, and_parts, and_from, not_from_false, or_left, or_right, or_from}
 use Rattle.std.proofs.lemmas.Option.{same_Some}
 use Rattle.zi_text.proofs.Searched.{Rise, IsNamed, IsGap, searched}
-use Rattle.zi_tree.proofs.Order.{lt_trans, greater_flip, less_of, lt_apart}
+use Rattle.zi_tree.proofs.Order.{lt_trans, greater_flip, lt_apart}
 use Rattle.zi_manifest.specs.Reading.{all_before, rises, all_rise, is_free, is_above, fresh, back, enter, TakesFolder}
-use Rattle.zi_manifest.proofs.Accepted.{if_true, if_false, lt}
+use Rattle.zi_manifest.proofs.Accepted.{lt}
+use Rattle.zi_tree.proofs.Found.{apart_flip}
+use Rattle.zi_text.proofs.ListLaws.{is_less, if_true, if_false}
 
 -- a name that stands before each of these stands before each at a place
 before_at : (m : List ℕ) (ns : List (List ℕ)) (j : ℕ) (d : List ℕ) → list_all (λ k. lt m k) ns ≡ true → j < length ns → lt m (get_or ns j d) ≡ true
@@ -74,20 +76,13 @@ none_from : (ns : List (List ℕ)) (n : List ℕ) → ((k : ℕ) (d : List ℕ) 
 none_from [] n h = refl
 none_from (m ∷ ns) n h = or_from (bytes_eq m n) (list_any (λ m. bytes_eq m n) ns) (h 0 n (omega arith)) (none_from ns n (λ k d l. h (suc k) d (omega arith)))
 
-apart_flip : (x y : List ℕ) → bytes_eq y x ≡ false → bytes_eq x y ≡ false
-apart_flip x y h = by_test (bytes_eq x y) refl
-  where
-    by_test : (t : Bool) → bytes_eq x y ≡ t → bytes_eq x y ≡ false
-    by_test false e = e
-    by_test true e = absurd (cc (sym ((bytes_eq-Decides y x).1 (sym ((bytes_eq-Decides x y).0 e))) ∙ h))
-
 -- a binary search ends at a place where the name is one of them
 pub name_found : (ns : List (List ℕ)) → rises ns ≡ true → (n : List ℕ) (r : Result ℕ ℕ) → IsSearchInRange r (length ns) → IsBinarySearchResult (λ (m : List ℕ). slice_cmp nat_cmp m n) ns r
     → is_ok r ≡ list_any (λ m. bytes_eq m n) ns
 name_found ns ordered n r in_range answer = by_result r (searched (λ (m : List ℕ). m) ns rising n r in_range answer)
   where
     rising : Rise (λ (m : List ℕ). m) ns
-    rising i j d less within = less_of _ (names_rise ns i j d ordered less within)
+    rising i j d less within = is_less _ (names_rise ns i j d ordered less within)
 
     by_result : (r : Result ℕ ℕ) → MatchResult r (IsNamed (λ (m : List ℕ). m) ns n) (IsGap (λ (m : List ℕ). m) ns n) → is_ok r ≡ list_any (λ m. bytes_eq m n) ns
     by_result (Ok i) named = sym (any_at ns n i n named.within ((bytes_eq-Decides _ n).1 (named.same n)))

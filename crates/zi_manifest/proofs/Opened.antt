@@ -15,7 +15,7 @@ use Rattle.zi_manifest.specs.Frames.{frame_text, frame_bad, frame_steps, folder_
 use Rattle.zi_manifest.specs.declared.frames.Frame.{Frame}
 use Rattle.zi_manifest.proofs.Walks.{after_step, after_none, after_all, shown_nothing, bad_entry, text_entry, inner_bad_entry, inner_text_entry, folders_read_bad, folders_read_text, or_assoc}
 
-or_none : (o : Option (List ℕ)) → option_or o None ≡ o
+pub or_none : (o : Option (List ℕ)) → option_or o None ≡ o
 or_none None = refl
 or_none (Some x) = refl
 
@@ -28,7 +28,7 @@ pub bad_last : (fs : List Frame) (f : Frame) → frames_bad (fs ++ f ∷ []) ≡
 bad_last [] f = sym (or_none (frame_bad f))
 bad_last (g ∷ fs) f = ap (λ o. option_or o (frame_bad g)) (bad_last fs f) ∙ or_assoc (frame_bad f) (frames_bad fs) (frame_bad g)
 
-steps_last : (fs : List Frame) (f : Frame) → frames_steps (fs ++ f ∷ []) ≡ frames_steps fs + frame_steps f
+pub steps_last : (fs : List Frame) (f : Frame) → frames_steps (fs ++ f ∷ []) ≡ frames_steps fs + frame_steps f
 steps_last [] f = refl
 steps_last (g ∷ fs) f = omega (arith, steps_last fs f)
 
@@ -87,13 +87,13 @@ bad_leaves f h = rw h refl
 bad_inner : (f : Frame) → f.leaves ≡ false → frame_bad f ≡ folder_bad f.path (after f.next f.tree.now)
 bad_inner f h = rw h refl
 
-steps_leaves : (f : Frame) → f.leaves ≡ true → frame_steps f ≡ (length (items f.tree.now) - f.next) + 1 + folder_steps f.tree.now
+pub steps_leaves : (f : Frame) → f.leaves ≡ true → frame_steps f ≡ (length (items f.tree.now) - f.next) + 1 + folder_steps f.tree.now
 steps_leaves f h = rw h refl
 
-steps_inner : (f : Frame) → f.leaves ≡ false → frame_steps f ≡ folder_steps (after f.next f.tree.now)
+pub steps_inner : (f : Frame) → f.leaves ≡ false → frame_steps f ≡ folder_steps (after f.next f.tree.now)
 steps_inner f h = rw h refl
 
-after_next : (d : Dir) (i : ℕ) (n : List ℕ) (x : TreeNode) → name_in (items d) i ≡ Some n → node_of (items d) i ≡ Some x → after i d ≡ entry_of n x (after (i + 1) d)
+pub after_next : (d : Dir) (i : ℕ) (n : List ℕ) (x : TreeNode) → name_in (items d) i ≡ Some n → node_of (items d) i ≡ Some x → after i d ≡ entry_of n x (after (i + 1) d)
 after_next d i n x h k = after_step d i n x h k ∙ ap (λ j. entry_of n x (after j d)) (sym (add-one i))
 
 -- a file or link, or a subfolder passed over
@@ -147,7 +147,7 @@ node_steps (File b e t) = 1
 node_steps (Link t) = 1
 node_steps (Folder d) = 1 + (length (items d) + 1 + folder_steps d)
 
-steps_entry : (n : List ℕ) (x : TreeNode) (d : Dir) → folder_steps (entry_of n x d) ≡ node_steps x + folder_steps d
+pub steps_entry : (n : List ℕ) (x : TreeNode) (d : Dir) → folder_steps (entry_of n x d) ≡ node_steps x + folder_steps d
 unfolding node_steps
 steps_entry n (File b e t) d = refl
 steps_entry n (Link t) d = refl

@@ -12,6 +12,7 @@ use Rattle.std.proofs.lemmas.List.Elements.{filter-append}
 use Rattle.zi_names.specs.declared.attributes.Raw.{Raw}
 use Rattle.zi_names.specs.declared.attributes.Binding.{Binding}
 use Rattle.zi_names.specs.Names.{local, prefix, address_of}
+use Rattle.zi_text.proofs.ListLaws.{both_equal}
 
 -- a local name and an address
 abbrev pub Key : Type 0
@@ -23,11 +24,6 @@ key_cmp x y = ordering_then (slice_cmp nat_cmp x.0.now y.0.now) (slice_cmp nat_c
 -- the attribute has this local name and address
 abbrev pub is_named : List Binding → Key → Raw → Bool
 is_named scope q a = bytes_eq (local a.name) q.0.now && bytes_eq (address_of scope (prefix a.name)) q.1.now
-
-both_equal : (a b : Ordering) → is_eq (ordering_then a b) ≡ (is_eq a && is_eq b)
-both_equal Less b = refl
-both_equal Equal b = refl
-both_equal Greater b = refl
 
 pub key_equal : (scope : List Binding) (a : Raw) (k q : Key) → k.0.now ≡ local a.name → k.1.now ≡ address_of scope (prefix a.name) → is_eq (key_cmp k q) ≡ is_named scope q a
 key_equal scope a k q e f =
@@ -43,7 +39,7 @@ filter_at p xs i x lt e h =
     ∙ ap (λ v. filter p (take i xs) ++ v) (ap (filter p) (drop-cons xs i x lt ∙ ap (λ v. v ∷ drop (suc i) xs) (sym e))
     ∙ ap (λ v. cond v (x ∷ filter p (drop (suc i) xs)) (filter p (drop (suc i) xs))) h))
 
-front_more : {X : Type 0} (xs : List X) (i : ℕ) (x : X) → i < length xs → x ≡ get_or xs i x → take (i + 1) xs ≡ take i xs ++ x ∷ []
+pub front_more : {X : Type 0} (xs : List X) (i : ℕ) (x : X) → i < length xs → x ≡ get_or xs i x → take (i + 1) xs ≡ take i xs ++ x ∷ []
 front_more xs i x lt e = take_more xs i x lt ∙ ap (λ v. take i xs ++ v ∷ []) (sym e)
 
 pub filter_front_more : {X : Type 0} (p : X → Bool) (xs : List X) (i : ℕ) (x : X) → i < length xs → x ≡ get_or xs i x → p x ≡ true

@@ -11,15 +11,13 @@ use Rattle.std.proofs.lemmas.List.{reverse-append, length-reverse, get_or_append
 use Rattle.zi_names.specs.declared.attributes.Binding.{Binding}
 use Rattle.zi_names.specs.declared.bound.Bound.{Bound}
 use Rattle.zi_names.specs.Places.{bindings_of, place, IsIndexed}
+use Rattle.zi_text.proofs.ListLaws.{reverse_cons}
 
 pub place_in : (bs : List Bound) (p : List ℕ) (i : ℕ) → place bs p ≡ Some i → i < length bs
 place_in [] p i h = cc
 place_in (b ∷ bs) p i h =
     let more : place bs p ≡ Some i → i < length bs = place_in bs p i in
     grind arith
-
-pub reverse_cons : {X : Type 0} (x : X) (xs : List X) → reverse (x ∷ xs) ≡ reverse xs ++ x ∷ []
-reverse_cons x xs = reverse-append (x ∷ []) xs
 
 pub place_at : (bs : List Bound) (p : List ℕ) (i : ℕ) (d : Bound) → place bs p ≡ Some i
     → find (λ c. bytes_eq c.prefix p) (bindings_of bs) ≡ Some (get_or (reverse bs) i d).binding
@@ -55,10 +53,6 @@ place_alike bs p q e = ap (place bs) (bytes_same p q e)
   where
     bytes_same : (xs ys : List ℕ) → bytes_eq xs ys ≡ true → xs ≡ ys
     bytes_same xs ys e = search (rules, bytes_eq-Decides)
-
-pub bytes_itself : (xs : List ℕ) → bytes_eq xs xs ≡ true
-bytes_itself [] = refl
-bytes_itself (x ∷ xs) = let more : bytes_eq xs xs ≡ true = bytes_itself xs in grind (arith, nat_tests)
 
 -- a new binding
 pub indexed_more : (b : Bound) (bs : List Bound) (m n : BTreeMap (String Global) ℕ) → IsIndexed bs m → b.hides ≡ place bs b.binding.prefix

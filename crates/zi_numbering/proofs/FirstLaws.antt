@@ -7,11 +7,12 @@ use Rattle.zi_universe.specs.declared.types.Interface.{Interface}
 use Rattle.zi_universe.specs.Whole.{IsWhole}
 use Rattle.zi_choice.specs.Choice.{candidate_at}
 use Rattle.zi_choice.specs.Vars.{before, own_candidates, candidates_of}
-use Rattle.zi_choice.proofs.Base.{candidate_is, is_some_of}
+use Rattle.zi_choice.proofs.Base.{candidate_is}
 use Rattle.zi_choice.proofs.SumLaws.{number_fits}
 use Rattle.zi_build.specs.Writing.{starts}
 use Rattle.zi_build.proofs.NumberLaws.{starts_at}
 use Rattle.zi_build.proofs.WriteLaws.{item_at}
+use Rattle.zi_text.proofs.ListLaws.{some_is}
 
 pub none_there : (u us : List Interface) (i : ℕ) → us ≡ u → length us ≤ i → [] ≡ candidates_of u i
 none_there u us i e l = sym (none u i (subst (λ v. length v ≤ i) e l))
@@ -37,4 +38,4 @@ first_is u fs i c n e l g =
 
 pub sum_few : (u : List Interface) (i c : ℕ) → IsWhole u → c < length (candidates_of u i) → before own_candidates u i + c < 65536
 sum_few u i c whole l =
-    let k = item_at (candidates_of u i) c l in number_fits u i c whole (is_some_of (candidate_at u i c) k.0 (candidate_is u i c ∙ k.2))
+    let k = item_at (candidates_of u i) c l in number_fits u i c whole (some_is (candidate_at u i c) k.0 (candidate_is u i c ∙ k.2))

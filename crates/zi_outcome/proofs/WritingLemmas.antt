@@ -9,14 +9,11 @@ use Rattle.zi_outside.specs.declared.sink.SinkFault.TheVariants as fault
 use Rattle.zi_outcome.specs.Writing.{StopsShort, PutsAll, PrintsThen}
 use Rattle.zi_outcome.specs.declared.outcome.Outcome.{Outcome}
 use Rattle.zi_outcome.specs.declared.outcome.Outcome.TheVariants.{Memory}
+use Rattle.zi_version.proofs.ExpressionLemmas.{take-front}
 
 gained-gained : (old : Option (List ℕ)) (a b : List ℕ) → gained (gained old a) b ≡ gained old (a ++ b)
 gained-gained None a b = refl
 gained-gained (Some bytes) a b = ap (λ x. Some x) (append_assoc bytes a b)
-
-take_both : (a b : List ℕ) (n : ℕ) → take (length a + n) (a ++ b) ≡ a ++ take n b
-take_both [] b n = ap (λ k. take k b) (omega arith)
-take_both (x ∷ a) b n = let e : suc (length a) + n ≡ suc (length a + n) = omega arith in rw (e) (ap (λ ys. x ∷ ys) (take_both a b n))
 
 -- a front of the first piece is a front of both
 front_first : (old : Option (List ℕ)) (a b : List ℕ) (new : Option (List ℕ)) → GainsFront old a new → GainsFront old (a ++ b) new
@@ -25,7 +22,7 @@ front_first old a b new (n, e) = (min n (length a), e ∙ ap (gained old) (sym (
 -- the first piece is put, and then a front of the second
 front_second : (old mid : Option (List ℕ)) (a b : List ℕ) (new : Option (List ℕ)) → mid ≡ gained old a → GainsFront mid b new → GainsFront old (a ++ b) new
 front_second old mid a b new m (n, e) =
-    (length a + n, e ∙ ap (λ w. gained w (take n b)) m ∙ gained-gained old a (take n b) ∙ ap (gained old) (sym (take_both a b n)))
+    (length a + n, e ∙ ap (λ w. gained w (take n b)) m ∙ gained-gained old a (take n b) ∙ ap (gained old) (sym (take-front a b n)))
 
 -- nothing is a front
 no_front : (old new : Option (List ℕ)) (a : List ℕ) → new ≡ old → GainsFront old a new

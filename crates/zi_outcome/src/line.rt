@@ -1,13 +1,12 @@
 //! The line of an outcome, put piece by piece.
 ghost use Rattle.std.specs.Prelude.{◌≡◌, ◌<◌, ◌+◌, [], ◌∷◌, ◌++◌, codes};
 ghost use Rattle.std.specs.Fmt.{decimal};
-ghost use Rattle.zi_faults.specs.Faults.{number};
 ghost use Rattle.zi_outcome.specs.Line.{line_of, blamed, measure_of, number_of_sels, number_of_plan};
 ghost use Rattle.zi_outcome.specs.Writing.{PutsAll};
 
 use crate::Outcome;
 use crate::writing::put_piece;
-use zi_faults::FeedKind;
+use zi_faults::number;
 use zi_outside::{Sink, SinkFault};
 use zi_plan::PlanFault;
 use zi_sels::SelsFault;
@@ -112,27 +111,6 @@ fn put_sizes<E: Sink>(href: &Text, got: u64, said: u64, err: &mut E) -> Result<(
     }
 }
 
-// The number of a kind of faults of a feed.
-fn number_of(kind: FeedKind) -> u8
-    ensures { result ≡ number kind }
-{
-    match kind {
-        FeedKind::NotInterface => 1,
-        FeedKind::NoId => 2,
-        FeedKind::BadVersion => 3,
-        FeedKind::BadRange => 4,
-        FeedKind::BadArch => 5,
-        FeedKind::BadDigest => 6,
-        FeedKind::BadPart => 7,
-        FeedKind::BadStep => 8,
-        FeedKind::NoInterface => 9,
-        FeedKind::WrongUri => 10,
-        FeedKind::BadStability => 11,
-        FeedKind::BadAddress => 12,
-        FeedKind::SameId => 13,
-    }
-}
-
 // The number of a fault of a document of selections.
 fn number_of_sels(fault: &SelsFault) -> u8
     ensures { result ≡ number_of_sels fault.now }
@@ -174,7 +152,7 @@ fn put_fault<E: Sink>(fault: BadFeed, err: &mut E) -> Result<(), SinkFault>
             put_numbers(b"document ", u64::from(kind.number()), b" at ", place, err)
         }
         BadFeed::Feed { kind, place } => {
-            put_numbers(b"feed ", u64::from(number_of(kind)), b" at ", place, err)
+            put_numbers(b"feed ", u64::from(number(kind)), b" at ", place, err)
         }
     }
 }

@@ -1,11 +1,11 @@
 //! What bindings, dependencies and commands mean.
-ghost use Rattle.std.specs.Prelude.{◌≡◌, ◌++◌, IfOk, codes, map, option_copied, option_map, option_and_then, unwrap_or};
+ghost use Rattle.std.specs.Prelude.{◌≡◌, ◌++◌, IfOk, true, codes, map, option_copied, option_map, option_and_then, unwrap_or};
 ghost use Rattle.zi_elements.specs.Forest.{element_view, attribute, value, text_in};
 ghost use Rattle.zi_version.specs.Range.{a_version, range_of};
 ghost use Rattle.zi_reading.specs.Ways.{ways_of};
 ghost use Rattle.zi_reading.specs.Words.{listed, first, optional};
-ghost use Rattle.zi_reading.specs.Reading.{binding_names, parts as parts_of, those};
-ghost use Rattle.zi_reading.specs.Views.{views};
+ghost use Rattle.zi_reading.specs.Reading.{is, binding_names, parts as parts_of, those};
+ghost use Rattle.zi_reading.specs.Views.{part_views};
 ghost use Rattle.zi_parts.specs.Values.{mode_of, importance_of, address_in, extra_of, binding_of, between_in, ranges_of, limited, kind_of, dep_of, word_of, runner_of, command_of};
 ghost use Rattle.zi_parts.specs.declared.types.Mode.TheVariants.{Prepend};
 
@@ -14,8 +14,8 @@ use std::alloc::Global;
 use zi_elements::Element;
 use zi_policy::Condition;
 use zi_reading::{
-    Ways, attribute, attribute_text, first_of, is, is_text, meaning, parts, range_of, text_in,
-    those, version_of,
+    BINDINGS, Kind, Part, Ways, attribute, attribute_text, first_of, is_text, meaning, parts,
+    range_of, text_in, those, version_of,
 };
 use zi_text::{List, Memory, Text};
 use zi_version::{Range, Version};
@@ -99,15 +99,12 @@ fn mode_in(e: &Element) -> Mode
     }
 }
 
-/// The binding that an element means. Memory is the one refusal.
+// The binding that an `environment` means.
 #[tactic(auto, unfolding(crate::specs::Values::binding_of))]
-pub fn binding_of(alloc: Global, e: &Element) -> Result<Binding, Memory>
+fn environment_of(alloc: Global, e: &Element) -> Result<Binding, Memory>
+    requires { is (codes "environment") (element_view e.now) ≡ true }
     ensures { IfOk result (λ b. b ≡ binding_of (element_view e.now)) }
 {
-    if !is(e, "environment") {
-        let element = e.name.copy(alloc)?;
-        return Ok(Binding::Unbuilt { element });
-    }
     let name = value_text(alloc, e, "name")?;
     let separator = text_or(alloc, e, "separator", ":")?;
     let extra = extra_of(alloc, e)?;
@@ -121,9 +118,22 @@ pub fn binding_of(alloc: Global, e: &Element) -> Result<Binding, Memory>
     })
 }
 
+/// The binding that an element means. Memory is the one refusal.
+#[tactic(auto, unfolding(crate::specs::Values::binding_of))]
+pub fn binding_of(alloc: Global, part: &Part) -> Result<Binding, Memory>
+    ensures { IfOk result (λ b. b ≡ binding_of (element_view part.now)) }
+{
+    let e = part.element();
+    if part.is(Kind::Environment) {
+        return environment_of(alloc, e);
+    }
+    let element = e.name.copy(alloc)?;
+    Ok(Binding::Unbuilt { element })
+}
+
 // The bindings that elements mean.
-fn all_bindings(alloc: Global, elements: &[&Element]) -> Result<List<Binding>, Memory>
-    ensures { IfOk result (λ bs. bs ≡ map binding_of (views elements.now)) }
+fn all_bindings(alloc: Global, elements: &[Part]) -> Result<List<Binding>, Memory>
+    ensures { IfOk result (λ bs. bs ≡ map binding_of (part_views elements.now)) }
 {
     let mut bindings = List::new(alloc);
     for e in elements {
@@ -133,17 +143,10 @@ fn all_bindings(alloc: Global, elements: &[&Element]) -> Result<List<Binding>, M
 }
 
 /// The bindings among the parts of an element, in order. Memory is the one refusal.
-pub fn bindings_of(alloc: Global, parts: &[&Element]) -> Result<List<Binding>, Memory>
-    ensures { IfOk result (λ bs. bs ≡ map binding_of (those binding_names (views parts.now))) }
+pub fn bindings_of(alloc: Global, parts: &[Part]) -> Result<List<Binding>, Memory>
+    ensures { IfOk result (λ bs. bs ≡ map binding_of (those binding_names (part_views parts.now))) }
 {
-    let names = [
-        "environment",
-        "executable-in-var",
-        "executable-in-path",
-        "overlay",
-        "binding",
-    ];
-    let elements = those(alloc, names.as_slice(), parts)?;
+    let elements = those(alloc, BINDINGS.as_slice(), parts)?;
     all_bindings(alloc, elements.as_slice())
 }
 
@@ -182,11 +185,11 @@ fn own_ranges(alloc: Global, e: &Element) -> Result<List<Range>, Memory>
 }
 
 // Adds what `version` children say.
-fn add_ranges(alloc: Global, elements: &[&Element], ranges: &mut List<Range>) -> Result<(), Memory>
-    ensures { IfOk result (λ _. ranges.new ≡ ranges.old ++ map between_in (views elements.now)) }
+fn add_ranges(alloc: Global, elements: &[Part], ranges: &mut List<Range>) -> Result<(), Memory>
+    ensures { IfOk result (λ _. ranges.new ≡ ranges.old ++ map between_in (part_views elements.now)) }
 {
     for e in elements {
-        ranges.push(between_in(alloc, e)?)?;
+        ranges.push(between_in(alloc, e.element())?)?;
     }
     Ok(())
 }
@@ -197,16 +200,16 @@ fn ranges_of(
     alloc: Global,
     ways: Ways,
     e: &Element,
-    parts: &[&Element],
+    parts: &[Part],
 ) -> Result<List<Range>, Memory>
-    requires { views parts.now ≡ parts_of (ways_of ways) (element_view e.now) }
+    requires { part_views parts.now ≡ parts_of (ways_of ways) (element_view e.now) }
     ensures { IfOk result (λ rs. rs ≡ ranges_of (ways_of ways.entry) (element_view e.now)) }
 {
     if !ways.is_whole() {
         return Ok(List::new(alloc));
     }
     let mut ranges = own_ranges(alloc, e)?;
-    let elements = those(alloc, ["version"].as_slice(), parts)?;
+    let elements = those(alloc, [Kind::Version].as_slice(), parts)?;
     add_ranges(alloc, elements.as_slice(), &mut ranges)?;
     Ok(ranges)
 }
@@ -236,32 +239,39 @@ pub fn importance_of(text: &str) -> Option<DepKind>
 }
 
 // How a dependency is meant.
-fn kind_of(e: &Element) -> DepKind
+fn kind_of(e: &Part) -> DepKind
     ensures { result ≡ kind_of (element_view e.now) }
 {
-    if is(e, "restricts") {
+    if e.is(Kind::Restricts) {
         return DepKind::Restricts;
     }
-    match attribute(e, "importance") {
+    match attribute(e.element(), "importance") {
         Some(text) => importance_of(text).unwrap_or(DepKind::Essential),
         None => DepKind::Essential,
     }
 }
 
-/// The dependency that a `requires` or `restricts` means. Memory is the one refusal.
+// The dependency of a `requires` or `restricts` of these parts, which is meant so.
 #[tactic(auto, unfolding(crate::specs::Values::dep_of))]
-pub fn dep_of(alloc: Global, ways: Ways, e: &Element) -> Result<Dep, Memory>
+fn dep_with(
+    alloc: Global,
+    ways: Ways,
+    e: &Element,
+    kind: DepKind,
+    parts: &[Part],
+) -> Result<Dep, Memory>
+    requires kind { kind ≡ kind_of (element_view e.now) }
+    requires parts { part_views parts.now ≡ parts_of (ways_of ways) (element_view e.now) }
     ensures { IfOk result (λ d. d ≡ dep_of (ways_of ways.entry) (element_view e.now)) }
 {
-    let parts = parts(alloc, ways, e)?;
     let interface = address_in(alloc, ways, "interface", e)?;
-    let ranges = ranges_of(alloc, ways, e, parts.as_slice())?;
-    let bindings = bindings_of(alloc, parts.as_slice())?;
+    let ranges = ranges_of(alloc, ways, e, parts)?;
+    let bindings = bindings_of(alloc, parts)?;
     let os = limited(alloc, ways, "os", e)?;
     let wanted = limited(alloc, ways, "use", e)?;
     Ok(Dep {
         interface,
-        kind: kind_of(e),
+        kind,
         ranges,
         condition: Condition { os, wanted },
         commands: List::new(alloc),
@@ -269,9 +279,23 @@ pub fn dep_of(alloc: Global, ways: Ways, e: &Element) -> Result<Dep, Memory>
     })
 }
 
+/// The dependency that a `requires` or `restricts` means. Memory is the one refusal.
+pub fn dep_of(alloc: Global, ways: Ways, part: &Part) -> Result<Dep, Memory>
+    ensures { IfOk result (λ d. d ≡ dep_of (ways_of ways.entry) (element_view part.now)) }
+{
+    let parts = parts(alloc, ways, part)?;
+    dep_with(
+        alloc,
+        ways,
+        part.element(),
+        kind_of(part),
+        parts.as_slice(),
+    )
+}
+
 // The dependencies that elements mean.
-fn all_deps(alloc: Global, ways: Ways, elements: &[&Element]) -> Result<List<Dep>, Memory>
-    ensures { IfOk result (λ ds. ds ≡ map (dep_of (ways_of ways.entry)) (views elements.now)) }
+fn all_deps(alloc: Global, ways: Ways, elements: &[Part]) -> Result<List<Dep>, Memory>
+    ensures { IfOk result (λ ds. ds ≡ map (dep_of (ways_of ways.entry)) (part_views elements.now)) }
 {
     let mut deps = List::new(alloc);
     for e in elements {
@@ -281,35 +305,36 @@ fn all_deps(alloc: Global, ways: Ways, elements: &[&Element]) -> Result<List<Dep
 }
 
 /// The dependencies among the parts of an element, in order. Memory is the one refusal.
-pub fn deps_of(alloc: Global, ways: Ways, parts: &[&Element]) -> Result<List<Dep>, Memory>
-    ensures { IfOk result (λ ds. ds ≡ map (dep_of (ways_of ways.entry)) (those (listed (codes "requires restricts")) (views parts.now))) }
+pub fn deps_of(alloc: Global, ways: Ways, parts: &[Part]) -> Result<List<Dep>, Memory>
+    ensures { IfOk result (λ ds. ds ≡ map (dep_of (ways_of ways.entry)) (those (listed (codes "requires restricts")) (part_views parts.now))) }
 {
-    let elements = those(alloc, ["requires", "restricts"].as_slice(), parts)?;
+    let elements = those(alloc, [Kind::Requires, Kind::Restricts].as_slice(), parts)?;
     all_deps(alloc, ways, elements.as_slice())
 }
 
 // The texts in elements.
-fn all_texts(alloc: Global, elements: &[&Element]) -> Result<List<Text>, Memory>
-    ensures { IfOk result (λ ts. ts ≡ map (λ a. text_in a.inside) (views elements.now)) }
+fn all_texts(alloc: Global, elements: &[Part]) -> Result<List<Text>, Memory>
+    ensures { IfOk result (λ ts. ts ≡ map (λ a. text_in a.inside) (part_views elements.now)) }
 {
     let mut texts = List::new(alloc);
     for e in elements {
-        texts.push(text_in(alloc, e)?)?;
+        texts.push(text_in(alloc, e.element())?)?;
     }
     Ok(texts)
 }
 
 // The argument that an `arg` means, or the loop of a `for-each`.
 #[tactic(auto, unfolding(crate::specs::Values::word_of))]
-fn word_of(alloc: Global, ways: Ways, e: &Element) -> Result<Word, Memory>
-    ensures { IfOk result (λ w. w ≡ word_of (ways_of ways.entry) (element_view e.now)) }
+fn word_of(alloc: Global, ways: Ways, part: &Part) -> Result<Word, Memory>
+    ensures { IfOk result (λ w. w ≡ word_of (ways_of ways.entry) (element_view part.now)) }
 {
-    if is(e, "arg") {
+    let e = part.element();
+    if part.is(Kind::Arg) {
         return Ok(Word::Arg(text_in(alloc, e)?));
     }
     let item_from = value_text(alloc, e, "item-from")?;
     let separator = text_or(alloc, e, "separator", ":")?;
-    let parts = parts(alloc, ways, e)?;
+    let parts = parts(alloc, ways, part)?;
     let args = all_texts(alloc, parts.as_slice())?;
     Ok(Word::ForEach {
         item_from,
@@ -319,8 +344,8 @@ fn word_of(alloc: Global, ways: Ways, e: &Element) -> Result<Word, Memory>
 }
 
 // The arguments that elements mean.
-fn all_words(alloc: Global, ways: Ways, elements: &[&Element]) -> Result<List<Word>, Memory>
-    ensures { IfOk result (λ ws. ws ≡ map (word_of (ways_of ways.entry)) (views elements.now)) }
+fn all_words(alloc: Global, ways: Ways, elements: &[Part]) -> Result<List<Word>, Memory>
+    ensures { IfOk result (λ ws. ws ≡ map (word_of (ways_of ways.entry)) (part_views elements.now)) }
 {
     let mut words = List::new(alloc);
     for e in elements {
@@ -330,17 +355,17 @@ fn all_words(alloc: Global, ways: Ways, elements: &[&Element]) -> Result<List<Wo
 }
 
 // The arguments among the parts of an element.
-fn args_of(alloc: Global, ways: Ways, parts: &[&Element]) -> Result<List<Word>, Memory>
-    ensures { IfOk result (λ ws. ws ≡ map (word_of (ways_of ways.entry)) (those (listed (codes "arg for-each")) (views parts.now))) }
+fn args_of(alloc: Global, ways: Ways, parts: &[Part]) -> Result<List<Word>, Memory>
+    ensures { IfOk result (λ ws. ws ≡ map (word_of (ways_of ways.entry)) (those (listed (codes "arg for-each")) (part_views parts.now))) }
 {
-    let elements = those(alloc, ["arg", "for-each"].as_slice(), parts)?;
+    let elements = those(alloc, [Kind::Arg, Kind::ForEach].as_slice(), parts)?;
     all_words(alloc, ways, elements.as_slice())
 }
 
 // The dependency of a runner of these parts.
 #[tactic(auto, unfolding(crate::specs::Values::runner_of))]
-fn runner_dep(alloc: Global, ways: Ways, e: &Element, parts: &[&Element]) -> Result<Dep, Memory>
-    requires { views parts.now ≡ parts_of (ways_of ways) (element_view e.now) }
+fn runner_dep(alloc: Global, ways: Ways, e: &Element, parts: &[Part]) -> Result<Dep, Memory>
+    requires { part_views parts.now ≡ parts_of (ways_of ways) (element_view e.now) }
     ensures { IfOk result (λ d. d ≡ (runner_of (ways_of ways.entry) (element_view e.now)).dep) }
 {
     let interface = address_in(alloc, ways, "interface", e)?;
@@ -363,41 +388,42 @@ fn runner_dep(alloc: Global, ways: Ways, e: &Element, parts: &[&Element]) -> Res
 
 // The runner that an element means.
 #[tactic(auto, unfolding(crate::specs::Values::runner_of))]
-fn runner_of(alloc: Global, ways: Ways, e: &Element) -> Result<Runner, Memory>
+fn runner_of(alloc: Global, ways: Ways, e: &Part) -> Result<Runner, Memory>
     ensures { IfOk result (λ r. r ≡ runner_of (ways_of ways.entry) (element_view e.now)) }
 {
     let parts = parts(alloc, ways, e)?;
-    let dep = runner_dep(alloc, ways, e, parts.as_slice())?;
+    let dep = runner_dep(alloc, ways, e.element(), parts.as_slice())?;
     let words = args_of(alloc, ways, parts.as_slice())?;
     Ok(Runner { dep, words })
 }
 
 // The first runner among the parts of a command.
-fn runner_in(alloc: Global, ways: Ways, parts: &[&Element]) -> Result<Option<Runner>, Memory>
-    ensures { IfOk result (λ r. r ≡ option_map (runner_of (ways_of ways.entry)) (first (those (listed (codes "runner")) (views parts.now)))) }
+fn runner_in(alloc: Global, ways: Ways, parts: &[Part]) -> Result<Option<Runner>, Memory>
+    ensures { IfOk result (λ r. r ≡ option_map (runner_of (ways_of ways.entry)) (first (those (listed (codes "runner")) (part_views parts.now)))) }
 {
-    match first_of("runner", parts) {
+    match first_of(Kind::Runner, parts) {
         Some(e) => Ok(Some(runner_of(alloc, ways, e)?)),
         None => Ok(None),
     }
 }
 
 // The name of the first element among the parts of a command that isn't built.
-fn unbuilt_in(alloc: Global, parts: &[&Element]) -> Result<Option<Text>, Memory>
-    ensures { IfOk result (λ t. t ≡ option_map (λ w. w.name) (first (those (listed (codes "working-dir")) (views parts.now)))) }
+fn unbuilt_in(alloc: Global, parts: &[Part]) -> Result<Option<Text>, Memory>
+    ensures { IfOk result (λ t. t ≡ option_map (λ w. w.name) (first (those (listed (codes "working-dir")) (part_views parts.now)))) }
 {
-    match first_of("working-dir", parts) {
-        Some(e) => Ok(Some(e.name.copy(alloc)?)),
+    match first_of(Kind::WorkingDir, parts) {
+        Some(e) => Ok(Some(e.element().name.copy(alloc)?)),
         None => Ok(None),
     }
 }
 
 /// The command that an element means. Memory is the one refusal.
 #[tactic(auto, unfolding(crate::specs::Values::command_of))]
-pub fn command_of(alloc: Global, ways: Ways, e: &Element) -> Result<Command, Memory>
-    ensures { IfOk result (λ c. c ≡ command_of (ways_of ways.entry) (element_view e.now)) }
+pub fn command_of(alloc: Global, ways: Ways, part: &Part) -> Result<Command, Memory>
+    ensures { IfOk result (λ c. c ≡ command_of (ways_of ways.entry) (element_view part.now)) }
 {
-    let parts = parts(alloc, ways, e)?;
+    let parts = parts(alloc, ways, part)?;
+    let e = part.element();
     let name = value_text(alloc, e, "name")?;
     let words = args_of(alloc, ways, parts.as_slice())?;
     let deps = deps_of(alloc, ways, parts.as_slice())?;
@@ -417,8 +443,8 @@ pub fn command_of(alloc: Global, ways: Ways, e: &Element) -> Result<Command, Mem
 }
 
 // The commands that elements mean.
-fn all_commands(alloc: Global, ways: Ways, elements: &[&Element]) -> Result<List<Command>, Memory>
-    ensures { IfOk result (λ cs. cs ≡ map (command_of (ways_of ways.entry)) (views elements.now)) }
+fn all_commands(alloc: Global, ways: Ways, elements: &[Part]) -> Result<List<Command>, Memory>
+    ensures { IfOk result (λ cs. cs ≡ map (command_of (ways_of ways.entry)) (part_views elements.now)) }
 {
     let mut commands = List::new(alloc);
     for e in elements {
@@ -428,9 +454,9 @@ fn all_commands(alloc: Global, ways: Ways, elements: &[&Element]) -> Result<List
 }
 
 /// The commands among the parts of an element, in order. Memory is the one refusal.
-pub fn commands_of(alloc: Global, ways: Ways, parts: &[&Element]) -> Result<List<Command>, Memory>
-    ensures { IfOk result (λ cs. cs ≡ map (command_of (ways_of ways.entry)) (those (listed (codes "command")) (views parts.now))) }
+pub fn commands_of(alloc: Global, ways: Ways, parts: &[Part]) -> Result<List<Command>, Memory>
+    ensures { IfOk result (λ cs. cs ≡ map (command_of (ways_of ways.entry)) (those (listed (codes "command")) (part_views parts.now))) }
 {
-    let elements = those(alloc, ["command"].as_slice(), parts)?;
+    let elements = those(alloc, [Kind::Command].as_slice(), parts)?;
     all_commands(alloc, ways, elements.as_slice())
 }

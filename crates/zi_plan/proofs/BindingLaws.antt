@@ -18,6 +18,7 @@ use Rattle.zi_plan.specs.declared.placing.InFolder.{InFolder}
 use Rattle.zi_plan.specs.Launches.{Bound, in_folder, where_selected, of_dep, of_placed, all_bindings, bound_by, binding_fault}
 use Rattle.zi_plan.specs.Plans.{UnlessMemory, fault_by}
 use Rattle.zi_plan.specs.Steps.{AppliesAll, placed_seen}
+use Rattle.zi_faults.proofs.CarryLaws.{or_assoc}
 
 pub bound_in_folder : (folder : List ℕ) (bindings : List Binding) (vars : List Var) → bound_by (in_folder folder bindings) vars ≡ bound folder bindings vars
 bound_in_folder folder [] vars = refl
@@ -40,10 +41,6 @@ applied_bad folder bindings old new t h = ap (option_map fault_by) (fault_in_fol
 bound_by-append : (xs ys : List Bound) (vars : List Var) → bound_by (xs ++ ys) vars ≡ bound_by ys (bound_by xs vars)
 bound_by-append [] ys vars = refl
 bound_by-append (x ∷ xs) ys vars = bound_by-append xs ys (with_binding x.folder x.binding vars)
-
-or_assoc : {X : Type 0} (a b c : Option X) → option_or a (option_or b c) ≡ option_or (option_or a b) c
-or_assoc None b c = refl
-or_assoc (Some x) b c = refl
 
 binding_fault-append : (xs ys : List Bound) → binding_fault (xs ++ ys) ≡ option_or (binding_fault xs) (binding_fault ys)
 binding_fault-append [] ys = refl

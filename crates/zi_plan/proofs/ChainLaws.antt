@@ -14,7 +14,8 @@ use Rattle.zi_plan.specs.Chain.{Asked, Link, Leads, stops, ends, goes_on, behind
 use Rattle.zi_plan.specs.Plans.{UnlessMemory}
 use Rattle.zi_plan.specs.Steps.{has, IsMetToo, command_in, command_for, link_seen}
 use Rattle.zi_plan.proofs.BindingLaws.{unless_memory}
-use Rattle.zi_plan.proofs.TableLaws.{same_text}
+use Rattle.zi_xml.proofs.Backward.{same_list}
+use Rattle.zi_text.proofs.ListLaws.{bytes_itself}
 
 -- The command that is wanted, by its checks.
 module _ (ps : List Placed) (a : Asked) (p : Placed) (c : Command) (there : placed_for ps a.interface ≡ Some p) (named : command_for ps a ≡ Some c) where
@@ -126,11 +127,8 @@ abbrev pub unmet : (Asked → Bool) → List Placed → ℕ
 unmet met [] = 0
 unmet met (p ∷ ps) = unmet_of met p.selection.interface p.selection.commands + unmet met ps
 
-same_refl : (x : List ℕ) → bytes_eq x x ≡ true
-same_refl x = (bytes_eq-Decides x x).1 refl
-
 is_same_refl : (a : Asked) → is_same a a ≡ true
-is_same_refl a = ap (λ t. t && bytes_eq a.command a.command) (same_refl a.interface) ∙ same_refl a.command
+is_same_refl a = ap (λ t. t && bytes_eq a.command a.command) (bytes_itself a.interface) ∙ bytes_itself a.command
 
 module _ (old new : Asked → Bool) (a : Asked) (more : (b : Asked) → new b ≡ (is_same a b || old b)) (fresh : old a ≡ false) where
   less : (b : Asked) → one (new b) ≤ one (old b)
@@ -163,7 +161,7 @@ module _ (old new : Asked → Bool) (a : Asked) (more : (b : Asked) → new b �
           → (command_of cs a.command ≡ Some c → unmet_of new interface cs < unmet_of old interface cs)
           → one (new (asked interface k.name)) + unmet_of new interface cs < one (old (asked interface k.name)) + unmet_of old interface cs
       by_test true t f later =
-          let head = here (asked interface k.name) (ap (λ x. asked x k.name) i ∙ ap (asked a.interface) (same_text k.name a.command (sym t))) in
+          let head = here (asked interface k.name) (ap (λ x. asked x k.name) i ∙ ap (asked a.interface) (same_list k.name a.command (sym t))) in
           let rest = less_of interface cs in omega (arith, head, rest)
       by_test false t f later = let head = less (asked interface k.name) in let rest = later f in omega (arith, head, rest)
 
@@ -176,7 +174,7 @@ module _ (old new : Asked → Bool) (a : Asked) (more : (b : Asked) → new b �
           → unmet_of new x.selection.interface x.selection.commands + unmet new ps < unmet_of old x.selection.interface x.selection.commands + unmet old ps
       by_test true t f later =
           let is : x ≡ p = cc in
-          let head = fewer_of x.selection.interface x.selection.commands c (same_text x.selection.interface a.interface (sym t)) (ap (λ (y : Placed). command_of y.selection.commands a.command) is ∙ k) in
+          let head = fewer_of x.selection.interface x.selection.commands c (same_list x.selection.interface a.interface (sym t)) (ap (λ (y : Placed). command_of y.selection.commands a.command) is ∙ k) in
           let rest = less_all ps in omega (arith, head, rest)
       by_test false t f later = let head = less_of x.selection.interface x.selection.commands in let rest = later f in omega (arith, head, rest)
 

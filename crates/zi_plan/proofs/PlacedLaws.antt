@@ -6,6 +6,7 @@ use Rattle.zi_plan.specs.declared.placing.InFolder.{InFolder}
 use Rattle.zi_plan.specs.declared.fault.PlanFault.TheVariants as fault
 use Rattle.zi_plan.specs.Placed.{all_placed, without_folder}
 use Rattle.zi_plan.specs.Steps.{Places, placed_seen}
+use Rattle.zi_reading.proofs.NodeLaws.{drop_turn}
 
 pub record IsPlacedSoFar (items : List Selection) (folders : List (Option (List ℕ))) (i : ℕ) (placed : List InFolder) : Type 0 where
   pub all : all_placed items folders ≡ map placed_seen placed ++ all_placed (drop i items) (drop i folders)
@@ -14,16 +15,13 @@ pub record IsPlacedSoFar (items : List Selection) (folders : List (Option (List 
 pub placed_start : (items : List Selection) (folders : List (Option (List ℕ))) → IsPlacedSoFar items folders 0 []
 placed_start items folders = record { all = refl; without = refl }
 
-rest_of : {X : Type 0} (xs : List X) (i : ℕ) (x : X) → i < length xs → x ≡ get_or xs i x → drop i xs ≡ x ∷ drop (i + 1) xs
-rest_of xs i x within at = drop-cons xs i x within ∙ ap (λ y. y ∷ drop (suc i) xs) (sym at) ∙ ap (λ n. x ∷ drop n xs) (sym (add-one i))
-
 module _ (items : List Selection) (folders : List (Option (List ℕ))) (i : ℕ) (placed : List InFolder) (x : Selection) (f : Option (List ℕ)) (e : length folders ≡ length items) (within : i < length items)
     (here : x ≡ get_or items i x) (there : f ≡ get_or folders i f) (s : IsPlacedSoFar items folders i placed) where
   items_rest : drop i items ≡ x ∷ drop (i + 1) items
-  items_rest = rest_of items i x within here
+  items_rest = drop_turn items i x within here
 
   folders_rest : drop i folders ≡ f ∷ drop (i + 1) folders
-  folders_rest = rest_of folders i f (omega (arith, e, within)) there
+  folders_rest = drop_turn folders i f (omega (arith, e, within)) there
 
   all_rest : all_placed (drop i items) (drop i folders) ≡ record { selection = x; folder = unwrap_or f [] } ∷ all_placed (drop (i + 1) items) (drop (i + 1) folders)
   all_rest = ap (λ xs. all_placed xs (drop i folders)) items_rest ∙ ap (λ fs. all_placed (x ∷ drop (i + 1) items) fs) folders_rest

@@ -5,15 +5,15 @@ use Rattle.std.specs.Borrow.{Bor}
 use Rattle.std.specs.Map.{lookup}
 use Rattle.std.proofs.lemmas.Slice.Eq.{bytes_eq-Decides}
 use Rattle.std.proofs.lemmas.List.{take_more, take_all, drop_all, map-append}
+use Rattle.std.proofs.lemmas.Map.Made.{option_or-none}
 use Rattle.zi_parts.specs.declared.types.Command.{Command}
 use Rattle.zi_plan.specs.declared.placing.InFolder.{InFolder}
 use Rattle.zi_plan.specs.declared.table.Wanted.{Wanted}
 use Rattle.zi_plan.specs.Placed.{Placed, placed_for}
 use Rattle.zi_plan.specs.Chain.{Asked, command_of}
 use Rattle.zi_plan.specs.Steps.{placed_seen, selected_in, commands_in, FindsSelected, FindsCommands, those_of, command_in, command_for, AddsCommands, AddsPlaced, AddsUnless}
-
-pub same_text : (x y : List ℕ) → bytes_eq x y ≡ true → x ≡ y
-same_text x y h = (bytes_eq-Decides x y).0 h
+use Rattle.zi_xml.proofs.Backward.{same_list}
+use Rattle.zi_version.proofs.VersionBytes.{some-map}
 
 -- one command is put before others of its interface
 pub put_before : {X : Type 0} (a b : Bool) (c : X) (r o : Option X) → cond (a && b) (Some c) (option_or (cond a r None) o) ≡ option_or (cond a (cond b (Some c) r) None) o
@@ -24,14 +24,6 @@ put_before false b c r o = refl
 pub map_cond : {X Y : Type 0} (f : X → Y) (b : Bool) (x : X) (o : Option X) → option_map f (cond b (Some x) o) ≡ cond b (Some (f x)) (option_map f o)
 map_cond f true x o = refl
 map_cond f false x o = refl
-
-pub or_is_cond : (b c : Bool) → cond b true c ≡ (b || c)
-or_is_cond true c = refl
-or_is_cond false c = refl
-
-pub is_some_map : {X Y : Type 0} (f : X → Y) (o : Option X) → is_some (option_map f o) ≡ is_some o
-is_some_map f None = refl
-is_some_map f (Some x) = refl
 
 -- a text and a command as they are lent
 abbrev pub lent : List ℕ → Bor (List ℕ)
@@ -48,7 +40,7 @@ abbrev in_names : Wanted → List (Wanted × Bor Command) → Option (Bor Comman
 in_names q commands = lookup (λ (k : Wanted). bytes_eq q.interface.now k.interface.now && bytes_eq q.command.now k.command.now) commands
 
 pub has_selected : (text i : List ℕ) (selected : List (Bor (List ℕ) × InFolder)) (b : Bool) → text ≡ i → b ≡ is_some (in_texts text selected) → is_some (selected_in selected i) ≡ b
-has_selected text i selected b t e = is_some_map placed_seen (in_texts i selected) ∙ ap (λ u. is_some (in_texts u selected)) (sym t) ∙ sym e
+has_selected text i selected b t e = some-map placed_seen (in_texts i selected) ∙ ap (λ u. is_some (in_texts u selected)) (sym t) ∙ sym e
 
 pub puts_selected : (text : Bor (List ℕ)) (x : InFolder) (old new : List (Bor (List ℕ) × InFolder)) → text.now ≡ x.selection.now.interface
     → ((q : Bor (List ℕ)) → in_texts q.now new ≡ cond (bytes_eq text.now q.now) (Some x) (in_texts q.now old))
@@ -77,10 +69,6 @@ found_more (x ∷ ps) p interface = by_test (bytes_eq x.selection.interface inte
     by_test true h = refl
     by_test false h = h
 
-or_none : {X : Type 0} (o : Option X) → option_or o None ≡ o
-or_none None = refl
-or_none (Some x) = refl
-
 abbrev Selected : Type 0
 Selected = List (Bor (List ℕ) × InFolder)
 
@@ -94,9 +82,9 @@ module _ (ps : List Placed) (p q : Placed) (there : placed_for ps p.selection.in
     where
       by_test : (b : Bool) → b ≡ bytes_eq p.selection.interface interface → option_or (placed_for ps interface) (cond b (Some p) None) ≡ placed_for ps interface
       by_test true e =
-          let some : placed_for ps interface ≡ Some q = ap (placed_for ps) (sym (same_text p.selection.interface interface (sym e))) ∙ there in
+          let some : placed_for ps interface ≡ Some q = ap (placed_for ps) (sym (same_list p.selection.interface interface (sym e))) ∙ there in
           ap (λ o. option_or o (Some p)) some ∙ sym some
-      by_test false e = or_none (placed_for ps interface)
+      by_test false e = option_or-none (placed_for ps interface)
 
   pub stays_found : (selected : Selected) (commands : Commands) → FindsSelected ps selected → FindsCommands ps commands → FindsSelected (ps ++ p ∷ []) selected × FindsCommands (ps ++ p ∷ []) commands
   stays_found selected commands h k =
@@ -106,9 +94,9 @@ module _ (ps : List Placed) (p q : Placed) (there : placed_for ps p.selection.in
 module _ (ps : List Placed) (p : Placed) (absent : placed_for ps p.selection.interface ≡ None) where
   found_now : (interface : List ℕ) (b : Bool) → b ≡ bytes_eq p.selection.interface interface → placed_for (ps ++ p ∷ []) interface ≡ cond b (Some p) (placed_for ps interface)
   found_now interface true e =
-      let none : placed_for ps interface ≡ None = ap (placed_for ps) (sym (same_text p.selection.interface interface (sym e))) ∙ absent in
+      let none : placed_for ps interface ≡ None = ap (placed_for ps) (sym (same_list p.selection.interface interface (sym e))) ∙ absent in
       found_more ps p interface ∙ ap (λ b. option_or (placed_for ps interface) (cond b (Some p) None)) (sym e) ∙ ap (λ o. option_or o (Some p)) none
-  found_now interface false e = found_more ps p interface ∙ ap (λ b. option_or (placed_for ps interface) (cond b (Some p) None)) (sym e) ∙ or_none (placed_for ps interface)
+  found_now interface false e = found_more ps p interface ∙ ap (λ b. option_or (placed_for ps interface) (cond b (Some p) None)) (sym e) ∙ option_or-none (placed_for ps interface)
 
   pub now_found : (selected new_selected : Selected) (commands new_commands : Commands) → FindsSelected ps selected → FindsCommands ps commands
       → ((interface : List ℕ) → selected_in new_selected interface ≡ cond (bytes_eq p.selection.interface interface) (Some p) (selected_in selected interface))
@@ -121,8 +109,8 @@ module _ (ps : List Placed) (p : Placed) (absent : placed_for ps p.selection.int
       by_test : (asked : Asked) (b : Bool) → b ≡ bytes_eq p.selection.interface asked.interface
           → option_or (cond b (command_of p.selection.commands asked.command) None) (command_for ps asked) ≡ command_in asked (placed_for (ps ++ p ∷ []) asked.interface)
       by_test asked true e =
-          let none : placed_for ps asked.interface ≡ None = ap (placed_for ps) (sym (same_text p.selection.interface asked.interface (sym e))) ∙ absent in
-          ap (λ o. option_or (command_of p.selection.commands asked.command) (command_in asked o)) none ∙ or_none (command_of p.selection.commands asked.command)
+          let none : placed_for ps asked.interface ≡ None = ap (placed_for ps) (sym (same_list p.selection.interface asked.interface (sym e))) ∙ absent in
+          ap (λ o. option_or (command_of p.selection.commands asked.command) (command_in asked o)) none ∙ option_or-none (command_of p.selection.commands asked.command)
           ∙ ap (command_in asked) (sym (found_now asked.interface true e))
       by_test asked false e = ap (command_in asked) (sym (found_now asked.interface false e))
 

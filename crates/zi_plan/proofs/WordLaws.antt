@@ -10,6 +10,7 @@ use Rattle.zi_plan.specs.declared.chain.Linked.{Linked}
 use Rattle.zi_plan.specs.Chain.{Link}
 use Rattle.zi_plan.specs.Steps.{link_seen}
 use Rattle.zi_plan.specs.Launches.{Said, plain, spoken, spoken_all, args, runner_args, path_text, path_word, chain_words, link_words}
+use Rattle.zi_bind.proofs.EachLaws.{all_both_start}
 
 abbrev Lists : Type 0
 Lists = Result (List (List ℕ)) BindFault
@@ -19,10 +20,6 @@ all_both_assoc (Err e) b c = refl
 all_both_assoc (Ok t) (Err e) c = refl
 all_both_assoc (Ok t) (Ok u) (Err e) = refl
 all_both_assoc (Ok t) (Ok u) (Ok v) = ap Ok (sym (append_assoc t u v))
-
-all_both_start : (r : Lists) → r ≡ all_both (Ok []) r
-all_both_start (Err e) = refl
-all_both_start (Ok t) = refl
 
 each_of-append : {X : Type 0} (g : X → Lists) (xs ys : List X) → each_of g (xs ++ ys) ≡ all_both (each_of g xs) (each_of g ys)
 each_of-append g [] ys = all_both_start (each_of g ys)

@@ -15,23 +15,16 @@ use Rattle.zi_formula.specs.declared.formula.Formula.{Formula}
 use Rattle.zi_proof.specs.Known.{nothing}
 use Rattle.zi_proof.specs.Taken.{Held}
 use Rattle.std.proofs.lemmas.List.{take_more, at_drop_more}
-
-pub and_left : (a b : Bool) → a && b ≡ true → a ≡ true
-and_left true b h = refl
-and_left false b h = cc
-
-pub and_right : (a b : Bool) → a && b ≡ true → b ≡ true
-and_right true b h = h
-and_right false b h = cc
+use Rattle.std.proofs.lemmas.Bool.{and_parts}
 
 head_within : (n m : ℕ) (l : Lit) (b : Bool) → m ≡ n + 1 → leb 1 l.variable && (leb l.variable n && b) ≡ true → (1 ≤ l.variable) × (l.variable < m)
 head_within n m l b e h =
-    let j = and_left (leb 1 l.variable) (leb l.variable n && b) h in
-    let k = and_left (leb l.variable n) b (and_right (leb 1 l.variable) (leb l.variable n && b) h) in
+    let j = (and_parts (leb 1 l.variable) (leb l.variable n && b) h).0 in
+    let k = (and_parts (leb l.variable n) b (and_parts (leb 1 l.variable) (leb l.variable n && b) h).1).0 in
     (grind (arith, nat_tests), grind (arith, nat_tests))
 
 rest_within : (n : ℕ) (l : Lit) (b : Bool) → leb 1 l.variable && (leb l.variable n && b) ≡ true → b ≡ true
-rest_within n l b h = and_right (leb l.variable n) b (and_right (leb 1 l.variable) (leb l.variable n && b) h)
+rest_within n l b h = (and_parts (leb l.variable n) b (and_parts (leb 1 l.variable) (leb l.variable n && b) h).1).1
 
 get_past : (cs : List Constraint) (ds : List Constraint) (k : ℕ) → length cs ≤ k → slice_get (cs ++ ds) k ≡ slice_get ds (k - length cs)
 get_past [] ds k h =
@@ -43,7 +36,7 @@ get_past (c ∷ cs) ds (suc k) h =
     let e : suc k - length (c ∷ cs) ≡ k - length cs = omega arith in
     get_past cs ds k fewer ∙ ap (slice_get ds) (sym e)
 
-get_clause : (ms : List Lemma) (k : ℕ) (d : Lemma) → k < length ms → slice_get (map lemma_clause ms) k ≡ Some (Clause (get_or ms k d).lits)
+pub get_clause : (ms : List Lemma) (k : ℕ) (d : Lemma) → k < length ms → slice_get (map lemma_clause ms) k ≡ Some (Clause (get_or ms k d).lits)
 get_clause [] k d h = absurd (omega arith)
 get_clause (m ∷ ms) zero d h = refl
 get_clause (m ∷ ms) (suc k) d h = get_clause ms k d (omega arith)
@@ -82,8 +75,8 @@ lits_all n m (l ∷ ls) e h =
 
 pub lemma_lits : (n : ℕ) (ms : List Lemma) (k : ℕ) (d : Lemma) → lemmas_within n ms ≡ true → k < length ms → lits_within n (get_or ms k d).lits ≡ true
 lemma_lits n [] k d h q = absurd (omega arith)
-lemma_lits n (m ∷ ms) zero d h q = and_left (lits_within n m.lits) (lemmas_within n ms) h
-lemma_lits n (m ∷ ms) (suc k) d h q = lemma_lits n ms k d (and_right (lits_within n m.lits) (lemmas_within n ms) h) (omega arith)
+lemma_lits n (m ∷ ms) zero d h q = (and_parts (lits_within n m.lits) (lemmas_within n ms) h).0
+lemma_lits n (m ∷ ms) (suc k) d h q = lemma_lits n ms k d (and_parts (lits_within n m.lits) (lemmas_within n ms) h).1 (omega arith)
 
 pub lemma_cited : (cs : List Constraint) (ms : List Lemma) (hint n : ℕ) (d : Lemma) → n ≡ length cs → 0 < hint → n ≤ hint - 1 → hint - 1 - n < length ms → cited (citable cs ms) hint ≡ Some (Clause (get_or ms (hint - 1 - n) d).lits)
 lemma_cited cs ms hint n d e =
@@ -120,19 +113,19 @@ within_opposite n (l ∷ ls) = ap (λ b. leb 1 l.variable && (leb l.variable n &
 pub within_push : (n : ℕ) (ms : List Lemma) (x : Lemma) → lemmas_within n ms ≡ true → lits_within n x.lits ≡ true → lemmas_within n (ms ++ x ∷ []) ≡ true
 within_push n [] x h k = ap (λ b. b && true) k
 within_push n (m ∷ ms) x h k =
-    let a = and_left (lits_within n m.lits) (lemmas_within n ms) h in
-    let r = within_push n ms x (and_right (lits_within n m.lits) (lemmas_within n ms) h) k in
+    let a = (and_parts (lits_within n m.lits) (lemmas_within n ms) h).0 in
+    let r = within_push n ms x (and_parts (lits_within n m.lits) (lemmas_within n ms) h).1 k in
     ap (λ b. b && lemmas_within n (ms ++ x ∷ [])) a ∙ r
 
 pub accepted_within : (f : Formula) (e : List Lemma) (m : Lemma) → lemma_accepted f e m ≡ true → lits_within f.variables m.lits ≡ true
 accepted_within f e m h =
-    sym (within_opposite f.variables m.lits) ∙ and_left (lits_within f.variables (map opposite m.lits)) (walk_from (citable f.constraints e) (assume nothing (map opposite m.lits)) m.hints) h
+    sym (within_opposite f.variables m.lits) ∙ (and_parts (lits_within f.variables (map opposite m.lits)) (walk_from (citable f.constraints e) (assume nothing (map opposite m.lits)) m.hints) h).0
 
 pub follows_within : (f : Formula) (e ms : List Lemma) → follows_after f e ms ≡ true → lemmas_within f.variables ms ≡ true
 follows_within f e [] h = refl
 follows_within f e (m ∷ ms) h =
-    let a = accepted_within f e m (and_left (lemma_accepted f e m) (follows_after f (e ++ m ∷ []) ms) h) in
-    let r = follows_within f (e ++ m ∷ []) ms (and_right (lemma_accepted f e m) (follows_after f (e ++ m ∷ []) ms) h) in
+    let a = accepted_within f e m (and_parts (lemma_accepted f e m) (follows_after f (e ++ m ∷ []) ms) h).0 in
+    let r = follows_within f (e ++ m ∷ []) ms (and_parts (lemma_accepted f e m) (follows_after f (e ++ m ∷ []) ms) h).1 in
     ap (λ b. b && lemmas_within f.variables ms) a ∙ r
 
 and_true : (a b : Bool) → a ≡ true → a && b ≡ b

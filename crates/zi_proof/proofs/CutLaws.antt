@@ -5,7 +5,7 @@ use Rattle.std.proofs.lemmas.Bool.Decides.{nat_tests}
 use Rattle.zi_text.specs.Pieces.{pieces}
 use Rattle.zi_proof.specs.ProofText.{all_pieces}
 
-test_same : (c : ℕ) → eqb c c ≡ true
+pub test_same : (c : ℕ) → eqb c c ≡ true
 test_same c = grind (arith, nat_tests)
 
 test_other : (x c : ℕ) → x ≢ c → eqb x c ≡ false

@@ -8,13 +8,13 @@ use Rattle.std.proofs.lemmas.Str.Parse.{digit_from_value}
 use Rattle.std.proofs.lemmas.List.{append-nil}
 use Rattle.std.proofs.lemmas.List.Elements.{All-head, All-tail}
 use Rattle.std.proofs.lemmas.Bool.Decides.{nat_tests, eqb_tells}
+use Rattle.std.proofs.lemmas.Bool.{and_parts}
 use Rattle.zi_text.specs.Pieces.{pieces}
 use Rattle.zi_formula.specs.declared.formula.Lit.{Lit}
 use Rattle.zi_proof.specs.declared.proof.Lemma.{Lemma}
 use Rattle.zi_proof.specs.declared.proof.Block.{Block}
 use Rattle.zi_proof.specs.declared.proof.Certificate.{Certificate}
 use Rattle.zi_proof.specs.ProofText.{all_pieces, behind, lines_text, InRange, LemmaNumbered, BlockNumbered, Numbered, zero_word, lit_word, hint_words, lemma_words, block_words, lemma_line, block_line, header, end_line, certificate_lines, certificate_text}
-use Rattle.zi_proof.proofs.Cites.{and_left, and_right}
 use Rattle.zi_proof.proofs.CutLaws.{pieces_same, pieces_other}
 use Rattle.zi_proof.proofs.NumberLaws.{LitInRange}
 
@@ -36,7 +36,7 @@ not_same x c h = grind (arith, nat_tests)
 
 free_by_test : (c : ℕ) (w : List ℕ) → free_test c w ≡ true → Free c w
 free_by_test c [] h = tt
-free_by_test c (x ∷ xs) h = (not_same x c (and_left (not (eqb x c)) (free_test c xs) h), free_by_test c xs (and_right (not (eqb x c)) (free_test c xs) h))
+free_by_test c (x ∷ xs) h = (not_same x c (and_parts (not (eqb x c)) (free_test c xs) h).0, free_by_test c xs (and_parts (not (eqb x c)) (free_test c xs) h).1)
 
 free_append : (c : ℕ) (v w : List ℕ) → Free c v → Free c w → Free c (v ++ w)
 free_append c [] w f g = g

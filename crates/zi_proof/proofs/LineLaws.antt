@@ -14,6 +14,7 @@ use Rattle.zi_proof.specs.ProofText.{all_pieces, but_last, whole_lines, behind, 
 use Rattle.zi_proof.specs.Reading.{lemma_of, block_of, Says, front_lines, PartsNumbered, Next}
 use Rattle.zi_proof.proofs.NumberLaws.{lemma_told, lemma_read, block_told, block_read}
 use Rattle.zi_proof.proofs.FreeLaws.{text_of_pieces, text_of_lines, lemma_pieces, block_pieces, certificate_pieces}
+use Rattle.zi_text.proofs.ListLaws.{heads}
 
 pub head_same : (x y : List ℕ) (xs ys : List (List ℕ)) → x ∷ xs ≡ y ∷ ys → x ≡ y
 head_same x y xs ys e = cc
@@ -21,17 +22,14 @@ head_same x y xs ys e = cc
 pub tail_same : (x y : List ℕ) (xs ys : List (List ℕ)) → x ∷ xs ≡ y ∷ ys → xs ≡ ys
 tail_same x y xs ys e = cc
 
-first_same : (x y : ℕ) (xs ys : List ℕ) → x ∷ xs ≡ y ∷ ys → x ≡ y
-first_same x y xs ys e = cc
-
 pub not_block : (m : Lemma) (b : Block) → lemma_line m ≡ block_line b → ⊥
-not_block m b e = let k : ◌≡◌ {A = ℕ} 108 98 = first_same 108 98 (behind 32 (lemma_words m)) (behind 32 (block_words b)) e in absurd (omega arith)
+not_block m b e = let k : ◌≡◌ {A = ℕ} 108 98 = heads 108 98 (behind 32 (lemma_words m)) (behind 32 (block_words b)) e in absurd (omega arith)
 
 pub lemma_not_end : (m : Lemma) → lemma_line m ≡ end_line → ⊥
-lemma_not_end m e = let k : ◌≡◌ {A = ℕ} 108 101 = first_same 108 101 (behind 32 (lemma_words m)) [] e in absurd (omega arith)
+lemma_not_end m e = let k : ◌≡◌ {A = ℕ} 108 101 = heads 108 101 (behind 32 (lemma_words m)) [] e in absurd (omega arith)
 
 pub block_not_end : (b : Block) → block_line b ≡ end_line → ⊥
-block_not_end b e = let k : ◌≡◌ {A = ℕ} 98 101 = first_same 98 101 (behind 32 (block_words b)) [] e in absurd (omega arith)
+block_not_end b e = let k : ◌≡◌ {A = ℕ} 98 101 = heads 98 101 (behind 32 (block_words b)) [] e in absurd (omega arith)
 
 -- a line by its words
 
@@ -45,7 +43,7 @@ end_words_of : (text : List ℕ) (ws : List (List ℕ)) (w : List ℕ) → all_p
 end_words_of text ws w e t = sym e ∙ ap (all_pieces 32) t
 
 letters_differ : (a b : ℕ) (vs ws : List (List ℕ)) → (a ∷ []) ∷ vs ≡ (b ∷ []) ∷ ws → a ≡ b
-letters_differ a b vs ws e = first_same a b [] [] (head_same (a ∷ []) (b ∷ []) vs ws e)
+letters_differ a b vs ws e = heads a b [] [] (head_same (a ∷ []) (b ∷ []) vs ws e)
 
 pub says_lemma : (text : List ℕ) (ws : List (List ℕ)) (m : Lemma) → all_pieces 32 text ≡ (108 ∷ []) ∷ ws → lemma_of ws ≡ Some m → Says text (line.Lemma m)
 says_lemma text ws m e k =
@@ -123,7 +121,7 @@ fits_lemma m [] x more tail r e =
     (inl (refl, (m, (r, k))), λ z. absurd (lemma_not_end m (sym k ∙ z)))
 fits_lemma m (b ∷ bs) x more tail r e = absurd (not_block m b (sym (head_same (block_line b) (lemma_line m) (map block_line bs ++ x ∷ more) tail e)))
 
-no_lemma_first : (m : Lemma) (tail : List (List ℕ)) (cb : List Block) → lemma_line m ∷ tail ≡ map block_line cb ++ end_line ∷ [] → ⊥
+pub no_lemma_first : (m : Lemma) (tail : List (List ℕ)) (cb : List Block) → lemma_line m ∷ tail ≡ map block_line cb ++ end_line ∷ [] → ⊥
 no_lemma_first m tail [] e = lemma_not_end m (head_same (lemma_line m) end_line tail [] e)
 no_lemma_first m tail (b ∷ cb) e = not_block m b (head_same (lemma_line m) (block_line b) tail (map block_line cb ++ end_line ∷ []) e)
 

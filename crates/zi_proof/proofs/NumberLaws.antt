@@ -8,13 +8,13 @@ use Rattle.std.proofs.lemmas.Fmt.{decimal_nonempty, first_decimal, digits_decima
 use Rattle.std.proofs.lemmas.Str.Parse.{IsNumeralModel, numerals_by_fold}
 use Rattle.std.proofs.lemmas.List.Elements.{All-nil, All-cons, All-head, All-tail}
 use Rattle.std.proofs.lemmas.Bool.Decides.{nat_tests}
+use Rattle.std.proofs.lemmas.Bool.{and_parts}
 use Rattle.zi_text.specs.Numeral.{number_from}
 use Rattle.zi_formula.specs.declared.formula.Lit.{Lit}
 use Rattle.zi_proof.specs.declared.proof.Lemma.{Lemma}
 use Rattle.zi_proof.specs.declared.proof.Block.{Block}
 use Rattle.zi_proof.specs.ProofText.{InRange, LemmaNumbered, BlockNumbered, zero_word, lit_word, hint_words, lemma_words, block_words}
 use Rattle.zi_proof.specs.Reading.{digits_on, number_of, signed, lit_of, is_zero, last_hint, more_hints, hints_of, more_lits, lits_of, with_hints, lemma_with, lemma_of, with_rest, first_number, whole_block, block_behind, block_with, block_of}
-use Rattle.zi_proof.proofs.Cites.{and_left, and_right}
 
 own : IsNumeralModel (λ ds. all_ascii_digits ds ≡ true) (number_from 0)
 own = numerals_by_fold _ (search rules) number_from (search rules)
@@ -28,9 +28,9 @@ digits_read : (n : ℕ) (ds : List ℕ) → all_ascii_digits ds ≡ true → num
 digits_read n [] p small = refl
 digits_read n (d ∷ ds) p small =
     let fits : ltb (10 * n + (d - 48)) (2 ^ 32) ≡ true = grind (arith, nat_tests, number_from_le (10 * n + (d - 48)) ds) in
-    let digit = and_left (is_ascii_digit d) (all_ascii_digits ds) p in
+    let digit = (and_parts (is_ascii_digit d) (all_ascii_digits ds) p).0 in
     ap₂ (λ a b. cond (a && b) (digits_on (10 * n + (d - 48)) ds) None) digit fits
-    ∙ digits_read (10 * n + (d - 48)) ds (and_right (is_ascii_digit d) (all_ascii_digits ds) p) small
+    ∙ digits_read (10 * n + (d - 48)) ds (and_parts (is_ascii_digit d) (all_ascii_digits ds) p).1 small
 
 -- what is read from digits is their number
 abbrev pub Digits : ℕ → ℕ → List ℕ → Type 0

@@ -11,7 +11,7 @@ use Rattle.zi_proof.specs.Reading.{lemma_of, block_of}
 use Rattle.zi_proof.specs.Laws.{ATextHasOneCertificate}
 use Rattle.zi_proof.proofs.NumberLaws.{lemma_read, block_read}
 use Rattle.zi_proof.proofs.FreeLaws.{lemma_pieces, block_pieces, certificate_pieces}
-use Rattle.zi_proof.proofs.LineLaws.{head_same, tail_same, not_block, lemma_not_end, block_not_end}
+use Rattle.zi_proof.proofs.LineLaws.{head_same, tail_same, not_block, lemma_not_end, block_not_end, no_lemma_first}
 
 some_block : (b c : Block) → ◌≡◌ {A = Option Block} (Some b) (Some c) → b ≡ c
 some_block b c e = cc
@@ -34,18 +34,14 @@ one_blocks (b ∷ bs) (c ∷ cs) r s e =
     ap₂ (λ x xs. x ∷ xs) (one_block b c (All-head BlockNumbered b bs r) (All-head BlockNumbered c cs s) (head_same (block_line b) (block_line c) (map block_line bs ++ end_line ∷ []) (map block_line cs ++ end_line ∷ []) e))
     (one_blocks bs cs (All-tail BlockNumbered b bs r) (All-tail BlockNumbered c cs s) (tail_same (block_line b) (block_line c) (map block_line bs ++ end_line ∷ []) (map block_line cs ++ end_line ∷ []) e))
 
-lemma_or_less : (m : Lemma) (tail : List (List ℕ)) (bs : List Block) → lemma_line m ∷ tail ≡ map block_line bs ++ end_line ∷ [] → ⊥
-lemma_or_less m tail [] e = lemma_not_end m (head_same (lemma_line m) end_line tail [] e)
-lemma_or_less m tail (b ∷ bs) e = not_block m b (head_same (lemma_line m) (block_line b) tail (map block_line bs ++ end_line ∷ []) e)
-
 abbrev One : List Lemma → List Lemma → List Block → List Block → Type 0
 One ms ns bs cs = (ms ≡ ns) × (bs ≡ cs)
 
 one_parts : (ms ns : List Lemma) (bs cs : List Block) → All LemmaNumbered ms → All LemmaNumbered ns → All BlockNumbered bs → All BlockNumbered cs
     → map lemma_line ms ++ (map block_line bs ++ end_line ∷ []) ≡ map lemma_line ns ++ (map block_line cs ++ end_line ∷ []) → One ms ns bs cs
 one_parts [] [] bs cs r s p q e = (refl, one_blocks bs cs p q e)
-one_parts [] (n ∷ ns) bs cs r s p q e = absurd (lemma_or_less n (map lemma_line ns ++ (map block_line cs ++ end_line ∷ [])) bs (sym e))
-one_parts (m ∷ ms) [] bs cs r s p q e = absurd (lemma_or_less m (map lemma_line ms ++ (map block_line bs ++ end_line ∷ [])) cs e)
+one_parts [] (n ∷ ns) bs cs r s p q e = absurd (no_lemma_first n (map lemma_line ns ++ (map block_line cs ++ end_line ∷ [])) bs (sym e))
+one_parts (m ∷ ms) [] bs cs r s p q e = absurd (no_lemma_first m (map lemma_line ms ++ (map block_line bs ++ end_line ∷ [])) cs e)
 one_parts (m ∷ ms) (n ∷ ns) bs cs r s p q e =
     let xs = map lemma_line ms ++ (map block_line bs ++ end_line ∷ []) in
     let ys = map lemma_line ns ++ (map block_line cs ++ end_line ∷ []) in

@@ -1,7 +1,7 @@
 -- Acceptance is sound: a walk keeps to what every model says.
 use Rattle.std.proofs.Common.{◌≡◌, ◌≢◌, ℕ, zero, suc, Bool, true, false, not, ◌&&◌, ◌||◌, eqb, cond, List, [], ◌∷◌, ◌++◌, map, refl, sym, ap, ◌∙◌, arith, Option, Some, None, ◌⊎◌, inl, inr}
 use Rattle.std.specs.List.{slice_get}
-use Rattle.std.proofs.lemmas.Bool.{false≢true, or_parts, true_from_ne_false}
+use Rattle.std.proofs.lemmas.Bool.{false≢true, or_parts, true_from_ne_false, and_parts}
 use Rattle.std.proofs.lemmas.Bool.Decides.{nat_tests}
 use Rattle.zi_formula.specs.declared.formula.Lit.{Lit}
 use Rattle.zi_formula.specs.declared.formula.Constraint.{Constraint}
@@ -12,7 +12,6 @@ use Rattle.zi_proof.specs.declared.proof.Lemma.{Lemma}
 use Rattle.zi_proof.specs.Known.{Known, nothing, put, says, is_open, is_true, is_false, Outcome, Fails, Contradiction, Goes, standing, by_standing, clause_step, true_ones, deny, deny_all, by_true_ones, group_step, step}
 use Rattle.zi_proof.specs.Accepted.{citable, cited, step_cited, lemma_clause, after_hint, no_more, walk, assume, walk_from, lits_within, accepted, lemma_accepted, follows_after}
 use Rattle.zi_proof.specs.Laws.{MakesTrue, LemmasAreTrue, BlocksExclude}
-use Rattle.zi_proof.proofs.Cites.{and_left, and_right}
 
 -- the assignment says what is known
 abbrev pub Agrees : (ℕ → Bool) → Known → Type 0
@@ -23,7 +22,7 @@ Sound v Fails = Unit {0}
 Sound v Contradiction = ⊥
 Sound v (Goes k) = Agrees v k
 
-says_some : (o : Option Bool) (b : Bool) → says o b ≡ true → o ≡ Some b
+pub says_some : (o : Option Bool) (b : Bool) → says o b ≡ true → o ≡ Some b
 says_some None b e = cc
 says_some (Some true) true e = refl
 says_some (Some true) false e = cc
@@ -185,7 +184,7 @@ two_true v x y ys p q h =
 known_true : (v : ℕ → Bool) (k : Known) (t : ℕ) → Agrees v k → says (k t) true ≡ true → v t ≡ true
 known_true v k t g e = g t true (says_some (k t) true e)
 
-open_not_true : (o : Option Bool) → is_open o ≡ true → says o true ≡ true → ⊥
+pub open_not_true : (o : Option Bool) → is_open o ≡ true → says o true ≡ true → ⊥
 open_not_true None p q = false≢true q
 open_not_true (Some b) p q = false≢true p
 
@@ -208,8 +207,8 @@ step_sound v k (AtMostOne xs) g h = group_sound v k xs g h
 
 get_sound : (v : ℕ → Bool) (k : Known) (all : List Constraint) (i : ℕ) → Agrees v k → all_true v all ≡ true → Sound v (step_cited k (slice_get all i))
 get_sound v k [] i g h = tt
-get_sound v k (c ∷ cs) zero g h = step_sound v k c g (and_left (constraint_true v c) (all_true v cs) h)
-get_sound v k (c ∷ cs) (suc i) g h = get_sound v k cs i g (and_right (constraint_true v c) (all_true v cs) h)
+get_sound v k (c ∷ cs) zero g h = step_sound v k c g (and_parts (constraint_true v c) (all_true v cs) h).0
+get_sound v k (c ∷ cs) (suc i) g h = get_sound v k cs i g (and_parts (constraint_true v c) (all_true v cs) h).1
 
 pub cited_sound : (v : ℕ → Bool) (k : Known) (all : List Constraint) (hint : ℕ) → Agrees v k → all_true v all ≡ true → Sound v (step_cited k (cited all hint))
 cited_sound v k all zero g h = tt
@@ -251,11 +250,11 @@ nothing_agrees v = λ x b e. none_is_not_some b (v x) e
 pub all_append : (v : ℕ → Bool) (cs ds : List Constraint) → all_true v cs ≡ true → all_true v ds ≡ true → all_true v (cs ++ ds) ≡ true
 all_append v [] ds h k = k
 all_append v (c ∷ cs) ds h k =
-    ap (λ b. b && all_true v (cs ++ ds)) (and_left (constraint_true v c) (all_true v cs) h) ∙ all_append v cs ds (and_right (constraint_true v c) (all_true v cs) h) k
+    ap (λ b. b && all_true v (cs ++ ds)) (and_parts (constraint_true v c) (all_true v cs) h).0 ∙ all_append v cs ds (and_parts (constraint_true v c) (all_true v cs) h).1 k
 
 pub accepted_sound : (f : Formula) (ms : List Lemma) (assumed : List Lit) (hints : List ℕ) (v : ℕ → Bool) → Models v f → all_true v (map lemma_clause ms) ≡ true → accepted f ms assumed hints ≡ true → MakesTrue v assumed → ⊥
 accepted_sound f ms assumed hints v m a h t =
-    walk_from_sound v (citable f.constraints ms) (assume nothing assumed) hints (all_append v f.constraints (map lemma_clause ms) m a) (assume_sound v nothing assumed (nothing_agrees v) t) (and_right (lits_within f.variables assumed) (walk_from (citable f.constraints ms) (assume nothing assumed) hints) h)
+    walk_from_sound v (citable f.constraints ms) (assume nothing assumed) hints (all_append v f.constraints (map lemma_clause ms) m a) (assume_sound v nothing assumed (nothing_agrees v) t) (and_parts (lits_within f.variables assumed) (walk_from (citable f.constraints ms) (assume nothing assumed) hints) h).1
 
 opposite_case : (p w : Bool) → cond p w (not w) ≡ false → cond (not p) w (not w) ≡ true
 opposite_case true true e = absurd (false≢true (sym e))
@@ -276,13 +275,13 @@ lemma_sound f ms m v g a h =
 all_push : (v : ℕ → Bool) (ms : List Lemma) (m : Lemma) → all_true v (map lemma_clause ms) ≡ true → clause_true v m.lits ≡ true → all_true v (map lemma_clause (ms ++ m ∷ [])) ≡ true
 all_push v [] m h k = ap (λ b. b && true) k
 all_push v (n ∷ ms) m h k =
-    ap (λ b. b && all_true v (map lemma_clause (ms ++ m ∷ []))) (and_left (clause_true v n.lits) (all_true v (map lemma_clause ms)) h) ∙ all_push v ms m (and_right (clause_true v n.lits) (all_true v (map lemma_clause ms)) h) k
+    ap (λ b. b && all_true v (map lemma_clause (ms ++ m ∷ []))) (and_parts (clause_true v n.lits) (all_true v (map lemma_clause ms)) h).0 ∙ all_push v ms m (and_parts (clause_true v n.lits) (all_true v (map lemma_clause ms)) h).1 k
 
 follows_sound : (f : Formula) (e ms : List Lemma) (v : ℕ → Bool) → Models v f → all_true v (map lemma_clause e) ≡ true → follows_after f e ms ≡ true → all_true v (map lemma_clause ms) ≡ true
 follows_sound f e [] v g a h = refl
 follows_sound f e (m ∷ ms) v g a h =
-    let c : clause_true v m.lits ≡ true = lemma_sound f e m v g a (and_left (lemma_accepted f e m) (follows_after f (e ++ m ∷ []) ms) h) in
-    ap (λ b. b && all_true v (map lemma_clause ms)) c ∙ follows_sound f (e ++ m ∷ []) ms v g (all_push v e m a c) (and_right (lemma_accepted f e m) (follows_after f (e ++ m ∷ []) ms) h)
+    let c : clause_true v m.lits ≡ true = lemma_sound f e m v g a (and_parts (lemma_accepted f e m) (follows_after f (e ++ m ∷ []) ms) h).0 in
+    ap (λ b. b && all_true v (map lemma_clause ms)) c ∙ follows_sound f (e ++ m ∷ []) ms v g (all_push v e m a c) (and_parts (lemma_accepted f e m) (follows_after f (e ++ m ∷ []) ms) h).1
 
 pub lemmas_are_true : LemmasAreTrue
 lemmas_are_true = λ f ms v h g. follows_sound f [] ms v g refl h

@@ -6,44 +6,29 @@ use Rattle.std.proofs.lemmas.Bool.Decides.{nat_tests}
 use Rattle.std.specs.Cmp.Lexicographic.{slice_cmp}
 use Rattle.std.specs.declared.cmp.Ordering.{Ordering}
 use Rattle.std.specs.declared.cmp.Ordering.TheVariants.{Less, Equal, Greater}
+use Rattle.std.proofs.lemmas.Map.Lookups.{both_Equal}
 use Rattle.zi_policy.specs.declared.types.Policy.{Policy}
 use Rattle.zi_rank.specs.declared.types.Standing.{Standing}
 use Rattle.zi_rank.specs.Rank.{Order, in_turn, components, rank_cmp, Before}
 use Rattle.zi_rank.specs.RankOrder.{rank_total}
 use Rattle.zi_rank.specs.Laws.{IsStrict, RanksAreStrict}
-
-then_parts : (o p : Ordering) → ordering_then o p ≡ Equal → (o ≡ Equal) × (p ≡ Equal)
-then_parts Less p e = (cc)
-then_parts Equal p e = (refl, e)
-then_parts Greater p e = (cc)
-
-equal_numbers : (x y : ℕ) → nat_cmp x y ≡ Equal → x ≡ y
-equal_numbers x y e = grind (arith, nat_tests)
-
-equal_lists : (xs ys : List ℕ) → slice_cmp nat_cmp xs ys ≡ Equal → xs ≡ ys
-equal_lists [] [] e = refl
-equal_lists [] (y ∷ ys) e = (cc)
-equal_lists (x ∷ xs) [] e = (cc)
-equal_lists (x ∷ xs) (y ∷ ys) e =
-    let p : (nat_cmp x y ≡ Equal) × (slice_cmp nat_cmp xs ys ≡ Equal) = then_parts (nat_cmp x y) (slice_cmp nat_cmp xs ys) e in
-    let h : x ≡ y = equal_numbers x y p.0 in
-    let t : xs ≡ ys = equal_lists xs ys p.1 in
-    cc
+use Rattle.zi_text.proofs.Searched.{same_equal}
+use Rattle.zi_version.proofs.OrderLaws.{numbers_tied}
 
 -- where all orders tie, those behind the first n do
 ties_behind : (n : ℕ) (os : List (Order Standing)) (c d : Standing) → in_turn os c d ≡ Equal → in_turn (drop n os) c d ≡ Equal
 ties_behind zero os c d e = e
 ties_behind (suc n) [] c d e = e
-ties_behind (suc n) (o ∷ os) c d e = ties_behind n os c d (then_parts (o c d) (in_turn os c d) e).1
+ties_behind (suc n) (o ∷ os) c d e = ties_behind n os c d (both_Equal (o c d) (in_turn os c d) e).1
 
 -- two that tie stand at one place of one feed
 last_two : (p : Policy) (c d : Standing) → rank_cmp p c d ≡ Equal → (slice_cmp nat_cmp c.feed d.feed ≡ Equal) × (nat_cmp c.place d.place ≡ Equal)
 unfolding rank_cmp
 last_two p c d e =
     let last = ordering_then (slice_cmp nat_cmp c.feed d.feed) (ordering_then (nat_cmp c.place d.place) Equal) in
-    let f = then_parts last Equal (ties_behind 11 (components p) c d e) in
-    let g = then_parts (slice_cmp nat_cmp c.feed d.feed) (ordering_then (nat_cmp c.place d.place) Equal) f.0 in
-    (g.0, (then_parts (nat_cmp c.place d.place) Equal g.1).0)
+    let f = both_Equal last Equal (ties_behind 11 (components p) c d e) in
+    let g = both_Equal (slice_cmp nat_cmp c.feed d.feed) (ordering_then (nat_cmp c.place d.place) Equal) f.0 in
+    (g.0, (both_Equal (nat_cmp c.place d.place) Equal g.1).0)
 
 never_itself : (p : Policy) (c : Standing) → ¬ Before p c c
 never_itself p c b = let e : rank_cmp p c c ≡ Equal = tied_itself (rank_total p) c in cc
@@ -60,8 +45,8 @@ one_first : (p : Policy) (c d : Standing) → (c.feed ≢ d.feed) ⊎ (c.place �
 one_first p c d apart = by_order (rank_cmp p c d)
     (λ e. inl e)
     (λ e. let same = last_two p c d e in elim apart [
-      | inl h ↦ absurd (h (equal_lists c.feed d.feed same.0))
-      | inr h ↦ absurd (h (equal_numbers c.place d.place same.1))
+      | inl h ↦ absurd (h (same_equal c.feed d.feed same.0))
+      | inr h ↦ absurd (h (numbers_tied c.place d.place same.1))
     ])
     (λ e. inr ((rank_total p).antisymm d c ∙ ap ordering_reverse e))
 

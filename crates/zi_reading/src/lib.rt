@@ -6,20 +6,22 @@
 //! share every definition. Forms.antt has the forms of values, Words.antt small words about texts and lists, Views.antt what
 //! lent elements are.
 //!
-//! `reading` has attributes, names and the table (TableLaws goes through it), `forms` the small forms of values, `ways` how
-//! elements are read.
+//! `kinds` has the names of elements, which are looked at once, and the table (Kinds.antt has both as kinds, KindLaws goes through
+//! them), `reading` attributes and the elements that count, `forms` the small forms of values, `ways` how elements are read.
 #![tactic(auto)]
 
 mod forms;
+mod kinds;
 mod reading;
 mod ways;
 
 pub use forms::{
-    is_dest, is_expression, is_path, is_version, meaning, numeral, range_of, stability_of,
+    is_dest, is_expression, is_path, is_version, meaning, range_of, stability_of,
     version_of, words_in,
 };
+pub use kinds::{BINDINGS, Kind, Part};
 pub use reading::{
-    attribute, attribute_text, first_of, has, is, is_binding, is_closed, is_left_out, is_one_of,
-    is_ours, is_text, is_unbuilt, is_unclear, lent, parts, stands, text_in, those, value,
+    attribute, attribute_text, elements_of, first_of, has, is, is_closed, is_left_out, is_ours,
+    is_text, is_unbuilt, is_unclear, lent, parts, stands, text_in, those, value,
 };
 pub use ways::Ways;

@@ -1,14 +1,16 @@
 //! Which elements are read, and what is read off one.
-ghost use Rattle.std.specs.Prelude.{◌≡◌, IfOk, List, [], ◌∷◌, codes, map, filter, not, false, Some, ◌&&◌, option_copied, option_map, unwrap_or};
+ghost use Rattle.std.specs.Prelude.{◌≡◌, IfOk, List, [], ◌∷◌, map, filter, not, false, Some, ◌&&◌, option_copied, option_map, unwrap_or};
 ghost use Rattle.std.specs.List.{list_any};
 ghost use Rattle.zi_elements.specs.Forest.{element_view, nodes_view, elements, attribute, has, value, is_attribute, text_in};
 ghost use Rattle.zi_address.specs.Texts.{same};
 ghost use Rattle.zi_reading.specs.Ways.{ways_of};
-ghost use Rattle.zi_reading.specs.Words.{is_among, listed, first};
-ghost use Rattle.zi_reading.specs.Reading.{is_ours, is, step_names, binding_names, read_in, is_refused_by, is_left_out, is_unclear, is_other_step, is_unbuilt, is_closed, is_restriction, stands, is_part, parts, those};
-ghost use Rattle.zi_reading.specs.Views.{views};
+ghost use Rattle.zi_reading.specs.Words.{is_among, first};
+ghost use Rattle.zi_reading.specs.Kinds.{name_of};
+ghost use Rattle.zi_reading.specs.Reading.{is_ours, is, step_names, is_refused_by, is_left_out, is_unclear, is_other_step, is_unbuilt, is_closed, is_restriction, stands, is_part, parts, those};
+ghost use Rattle.zi_reading.specs.Views.{views, part_views};
 
 use crate::forms::{is_expression, range_of, version_of};
+use crate::kinds::{Kind, Part};
 use crate::ways::Ways;
 use std::alloc::Global;
 use zi_elements::{Attr, Element, NAMESPACE, Node};
@@ -94,136 +96,11 @@ pub fn is(e: &Element, name: &str) -> bool
     is_text(e.name.as_str(), name) && is_ours(e)
 }
 
-/// Whether a text is one of these.
-#[tactic(auto, unfolding(crate::specs::Words::is_among))]
-pub fn is_one_of(names: &[&str], text: &str) -> bool
-    ensures { result ≡ is_among (map (λ n. n.now) names.now) text.now }
+// Whether an element has the name of a step of a recipe.
+fn is_step(e: &Part) -> bool
+    ensures { result ≡ is_among step_names e.now.name }
 {
-    for name in names {
-        if is_text(text, name) {
-            return true;
-        }
-    }
-    false
-}
-
-/// Whether this is the name of a binding.
-pub fn is_binding(name: &str) -> bool
-    ensures { result ≡ is_among binding_names name.now }
-{
-    let names = [
-        "environment",
-        "executable-in-var",
-        "executable-in-path",
-        "overlay",
-        "binding",
-    ];
-    is_one_of(names.as_slice(), name)
-}
-
-/// Whether this is the name of a step of a recipe.
-fn is_step(name: &str) -> bool
-    ensures { result ≡ is_among step_names name.now }
-{
-    let names = ["file", "rename", "remove"];
-    is_one_of(names.as_slice(), name)
-}
-
-// What is read inside a group.
-fn is_in_group(name: &str) -> bool
-    ensures { result ≡ is_among (read_in (codes "group")) name.now }
-{
-    let names = [
-        "group",
-        "implementation",
-        "requires",
-        "restricts",
-        "command",
-    ];
-    is_one_of(names.as_slice(), name) || is_binding(name)
-}
-
-// What is read inside an implementation.
-fn is_in_implementation(name: &str) -> bool
-    ensures { result ≡ is_among (read_in (codes "implementation")) name.now }
-{
-    let names = [
-        "manifest-digest",
-        "requires",
-        "restricts",
-        "command",
-        "file",
-        "recipe",
-    ];
-    is_one_of(names.as_slice(), name) || is_binding(name)
-}
-
-// What is read inside a command.
-fn is_in_command(name: &str) -> bool
-    ensures { result ≡ is_among (read_in (codes "command")) name.now }
-{
-    let names = [
-        "arg",
-        "for-each",
-        "runner",
-        "requires",
-        "restricts",
-        "working-dir",
-    ];
-    is_one_of(names.as_slice(), name) || is_binding(name)
-}
-
-// What is read inside a runner.
-fn is_in_runner(name: &str) -> bool
-    ensures { result ≡ is_among (read_in (codes "runner")) name.now }
-{
-    let names = ["arg", "for-each", "version"];
-    is_one_of(names.as_slice(), name) || is_binding(name)
-}
-
-// What is read inside the root.
-fn is_in_interface(name: &str) -> bool
-    ensures { result ≡ is_among (read_in (codes "interface")) name.now }
-{
-    let names = ["feed", "group", "implementation"];
-    is_one_of(names.as_slice(), name)
-}
-
-// What is read inside an element that is neither the root nor one with dependencies.
-fn is_in_small(parent: &str, name: &str) -> bool
-    requires { is_among (listed (codes "interface group implementation command runner")) parent.now ≡ false }
-    ensures { result ≡ is_among (read_in parent.now) name.now }
-{
-    if is_text(parent, "requires") {
-        is_text(name, "version") || is_binding(name)
-    } else if is_text(parent, "restricts") {
-        is_text(name, "version")
-    } else if is_text(parent, "for-each") {
-        is_text(name, "arg")
-    } else if is_text(parent, "recipe") {
-        is_step(name)
-    } else {
-        false
-    }
-}
-
-/// Whether an element of a name is read inside one of another.
-fn is_read_in(parent: &str, name: &str) -> bool
-    ensures { result ≡ is_among (read_in parent.now) name.now }
-{
-    if is_text(parent, "interface") {
-        is_in_interface(name)
-    } else if is_text(parent, "group") {
-        is_in_group(name)
-    } else if is_text(parent, "implementation") {
-        is_in_implementation(name)
-    } else if is_text(parent, "command") {
-        is_in_command(name)
-    } else if is_text(parent, "runner") {
-        is_in_runner(name)
-    } else {
-        is_in_small(parent, name)
-    }
+    e.is_one_of([Kind::File, Kind::Rename, Kind::Remove].as_slice())
 }
 
 // Whether a version expression doesn't admit the launcher's version; none does that.
@@ -262,10 +139,10 @@ pub fn is_unclear(alloc: Global, e: &Element) -> Result<bool, Memory>
 }
 
 // Whether it is a child of a recipe that isn't one of the three steps.
-fn is_other_step(alloc: Global, e: &Element) -> Result<bool, Memory>
+fn is_other_step(alloc: Global, e: &Part) -> Result<bool, Memory>
     ensures { IfOk result (λ b. b ≡ is_other_step (element_view e.now)) }
 {
-    Ok(is_ours(e) && !is_step(e.name.as_str()) && !is_left_out(alloc, e)?)
+    Ok(e.is_ours() && !is_step(e) && !is_left_out(alloc, e.element())?)
 }
 
 // Whether another step than the three stands among nodes.
@@ -274,7 +151,7 @@ fn has_other_step(alloc: Global, nodes: &[Node]) -> Result<bool, Memory>
 {
     for node in nodes {
         if let Node::Child(e) = node {
-            if is_other_step(alloc, e)? {
+            if is_other_step(alloc, &Part::new(e))? {
                 return Ok(true);
             }
         }
@@ -284,65 +161,62 @@ fn has_other_step(alloc: Global, nodes: &[Node]) -> Result<bool, Memory>
 
 /// Whether an element is a recipe with another step than the three, which isn't built. Memory is the one refusal.
 #[tactic(auto, unfolding(crate::specs::Reading::is_unbuilt))]
-pub fn is_unbuilt(alloc: Global, e: &Element) -> Result<bool, Memory>
+pub fn is_unbuilt(alloc: Global, e: &Part) -> Result<bool, Memory>
     ensures { IfOk result (λ b. b ≡ is_unbuilt (element_view e.now)) }
 {
-    if !is(e, "recipe") {
+    if !e.is(Kind::Recipe) {
         return Ok(false);
     }
-    has_other_step(alloc, e.children.as_slice())
+    has_other_step(alloc, e.element().children.as_slice())
 }
 
 /// Whether nothing in an element is read. Memory is the one refusal.
-pub fn is_closed(alloc: Global, e: &Element) -> Result<bool, Memory>
+pub fn is_closed(alloc: Global, e: &Part) -> Result<bool, Memory>
     ensures { IfOk result (λ b. b ≡ is_closed (element_view e.now)) }
 {
-    Ok(is_unclear(alloc, e)? || is_unbuilt(alloc, e)?)
+    Ok(is_unclear(alloc, e.element())? || is_unbuilt(alloc, e)?)
 }
 
 // Whether it restricts versions, which a selections document doesn't do.
-fn is_restriction(e: &Element) -> bool
+fn is_restriction(e: &Part) -> bool
     ensures { result ≡ is_restriction (element_view e.now) }
 {
-    let names = ["version", "restricts"];
-    is_one_of(names.as_slice(), e.name.as_str())
+    e.is_one_of([Kind::Version, Kind::Restricts].as_slice())
 }
 
-/// Whether an element is read inside one of a name. Memory is the one refusal.
+/// Whether an element is read inside one of the name of another. Memory is the one refusal.
 #[tactic(auto, unfolding(crate::specs::Reading::stands))]
-pub fn stands(alloc: Global, ways: Ways, parent: &str, e: &Element) -> Result<bool, Memory>
-    ensures { IfOk result (λ b. b ≡ stands (ways_of ways.entry) parent.now (element_view e.now)) }
+pub fn stands(alloc: Global, ways: Ways, parent: &Part, e: &Part) -> Result<bool, Memory>
+    ensures { IfOk result (λ b. b ≡ stands (ways_of ways.entry) parent.now.name (element_view e.now)) }
 {
-    if !is_ours(e)
-        || !is_read_in(parent, e.name.as_str())
-        || (!ways.is_whole() && is_restriction(e))
-    {
+    if !e.is_ours() || !e.is_read_in(parent) || (!ways.is_whole() && is_restriction(e)) {
         return Ok(false);
     }
-    Ok(!is_left_out(alloc, e)?)
+    Ok(!is_left_out(alloc, e.element())?)
 }
 
-// Whether an element counts inside one of a name.
-fn is_part(alloc: Global, ways: Ways, parent: &str, e: &Element) -> Result<bool, Memory>
-    ensures { IfOk result (λ b. b ≡ is_part (ways_of ways.entry) parent.now (element_view e.now)) }
+// Whether an element counts inside one of the name of another.
+fn is_part(alloc: Global, ways: Ways, parent: &Part, e: &Part) -> Result<bool, Memory>
+    ensures { IfOk result (λ b. b ≡ is_part (ways_of ways.entry) parent.now.name (element_view e.now)) }
 {
-    Ok(stands(alloc, ways, parent, e)? && !is_unclear(alloc, e)?)
+    Ok(stands(alloc, ways, parent, e)? && !is_unclear(alloc, e.element())?)
 }
 
-// The elements among nodes that count inside one of a name, in order.
+// The elements among nodes that count inside one of the name of another, in order.
 fn counting<'a>(
     alloc: Global,
     ways: Ways,
-    parent: &str,
+    parent: &Part,
     nodes: &'a [Node],
-) -> Result<Vec<&'a Element>, Memory>
-    ensures { IfOk result (λ v. views v.items ≡ filter (is_part (ways_of ways.entry) parent.now) (elements (nodes_view nodes.now))) }
+) -> Result<Vec<Part<'a>>, Memory>
+    ensures { IfOk result (λ v. part_views v.items ≡ filter (is_part (ways_of ways.entry) parent.now.name) (elements (nodes_view nodes.now))) }
 {
     let mut found = Vec::new(alloc);
     for node in nodes {
         if let Node::Child(e) = node {
-            if is_part(alloc, ways, parent, e)? {
-                found.push(e)?;
+            let part = Part::new(e);
+            if is_part(alloc, ways, parent, &part)? {
+                found.push(part)?;
             }
         }
     }
@@ -351,39 +225,56 @@ fn counting<'a>(
 
 /// The elements that count inside one, in order. Memory is the one refusal.
 #[tactic(auto, unfolding(crate::specs::Reading::parts))]
-pub fn parts<'a>(alloc: Global, ways: Ways, e: &'a Element) -> Result<Vec<&'a Element>, Memory>
-    ensures { IfOk result (λ v. views v.items ≡ parts (ways_of ways.entry) (element_view e.now)) }
+pub fn parts<'a>(alloc: Global, ways: Ways, e: &Part<'a>) -> Result<Vec<Part<'a>>, Memory>
+    ensures { IfOk result (λ v. part_views v.items ≡ parts (ways_of ways.entry) (element_view e.now)) }
 {
     if is_closed(alloc, e)? {
         return Ok(Vec::new(alloc));
     }
-    counting(alloc, ways, e.name.as_str(), e.children.as_slice())
+    counting(alloc, ways, e, e.element().children.as_slice())
 }
 
-/// Those of some elements that have one of these names, in order. Memory is the one refusal.
+/// Those of some elements that are of one of these kinds by their names, in order. Memory is the one refusal.
 pub fn those<'a>(
     alloc: Global,
-    names: &[&str],
-    parts: &[&'a Element],
-) -> Result<Vec<&'a Element>, Memory>
-    ensures { IfOk result (λ v. views v.items ≡ those (map (λ n. n.now) names.now) (views parts.now)) }
+    kinds: &[Kind],
+    parts: &[Part<'a>],
+) -> Result<Vec<Part<'a>>, Memory>
+    ensures { IfOk result (λ v. part_views v.items ≡ those (map name_of kinds.now) (part_views parts.now)) }
 {
     let mut found = Vec::new(alloc);
     for e in parts {
-        if is_one_of(names, e.name.as_str()) {
-            found.push(*e)?;
+        if e.is_one_of(kinds) {
+            found.push(e.again())?;
         }
     }
     Ok(found)
 }
 
-/// The first of some elements that has this name, where one has.
-pub fn first_of<'a>(name: &str, parts: &[&'a Element]) -> Option<&'a Element>
-    ensures { option_map (λ r. element_view r.now) result ≡ first (those (name.now ∷ []) (views parts.now)) }
+/// The same, lent as elements. Memory is the one refusal.
+pub fn elements_of<'a>(
+    alloc: Global,
+    kinds: &[Kind],
+    parts: &[Part<'a>],
+) -> Result<Vec<&'a Element>, Memory>
+    ensures { IfOk result (λ v. views v.items ≡ those (map name_of kinds.now) (part_views parts.now)) }
+{
+    let mut found = Vec::new(alloc);
+    for e in parts {
+        if e.is_one_of(kinds) {
+            found.push(e.element())?;
+        }
+    }
+    Ok(found)
+}
+
+/// The first of some elements that is of this kind by its name, where one is.
+pub fn first_of<'p, 'a>(kind: Kind, parts: &'p [Part<'a>]) -> Option<&'p Part<'a>>
+    ensures { option_map (λ r. element_view r.now) result ≡ first (those (name_of kind ∷ []) (part_views parts.now)) }
 {
     for e in parts {
-        if is_text(e.name.as_str(), name) {
-            return Some(*e);
+        if e.is_named(kind) {
+            return Some(e);
         }
     }
     None

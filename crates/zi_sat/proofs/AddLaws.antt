@@ -22,16 +22,15 @@ use Rattle.zi_sat.specs.declared.watches.Watches.{Watches as Lists}
 use Rattle.zi_sat.specs.Rows.{Has}
 use Rattle.zi_sat.specs.Guard.{row_of, pair_at, Held, AllHeld, AllCalm, Adds, Guard, Fitting, Ready}
 use Rattle.zi_sat.specs.Watching.{Watches}
-use Rattle.zi_sat.proofs.FreshStep.{lit_self}
-use Rattle.zi_sat.proofs.WatchLaws.{or_first, or_later}
 use Rattle.zi_sat.proofs.VisitLaws.{citable_length}
 use Rattle.zi_sat.proofs.CalmLaws.{calm_start}
+use Rattle.zi_sat.proofs.CountLaws.{or_case, head_in, lit_self}
 
 pub has_at : (ls : List Lit) (i : ℕ) (d : Lit) → i < length ls → has_lit ls (get_or ls i d) ≡ true
 has_at [] i d h = absurd (omega arith)
-has_at (l ∷ ls) zero d h = or_first (same_lit l l) (has_lit ls l) (lit_self l)
+has_at (l ∷ ls) zero d h = head_in (same_lit l l) (has_lit ls l) (lit_self l)
 has_at (l ∷ ls) (suc i) d h =
-    or_later (same_lit l (get_or ls i d)) (has_lit ls (get_or ls i d)) (has_at ls i d (omega arith))
+    or_case (same_lit l (get_or ls i d)) (has_lit ls (get_or ls i d)) (has_at ls i d (omega arith))
 
 lacks_case : (m l : Lit) (b : Bool) → cond (same_lit m l) true b ≡ false → (same_lit m l ≡ false) × (b ≡ false)
 lacks_case m l b h = go (same_lit m l) refl h

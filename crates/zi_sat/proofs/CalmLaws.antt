@@ -1,14 +1,13 @@
 -- Pairs that were quiet before each decision: they stay so as the trail grows and is cut and as watches move.
 use Rattle.std.proofs.Common.{◌≡◌, ℕ, zero, suc, ◌<◌, Bool, true, false, cond, List, [], ◌∷◌, ◌++◌, length, get_or, take, refl, sym, ap, ◌∙◌, subst, arith, Option, Some, None, ◌⊎◌, inl, inr}
 use Rattle.std.specs.List.{slice_get}
-use Rattle.std.proofs.lemmas.Bool.{cases_eq}
+use Rattle.std.proofs.lemmas.Bool.{cases_eq, and_parts}
 use Rattle.std.proofs.lemmas.Option.{same_Some}
 use Rattle.zi_formula.specs.declared.formula.Lit.{Lit}
 use Rattle.zi_formula.specs.declared.formula.Constraint.{Constraint}
 use Rattle.zi_formula.specs.declared.formula.Constraint.TheVariants.{Clause, AtMostOne}
 use Rattle.zi_formula.specs.Truth.{opposite}
 use Rattle.zi_proof.specs.Known.{Known, nothing, put, is_open, is_false}
-use Rattle.zi_proof.proofs.Cites.{and_left, and_right}
 use Rattle.zi_sat.specs.declared.entry.Entry.{Entry}
 use Rattle.zi_sat.specs.declared.entry.Why.{Why}
 use Rattle.zi_sat.specs.declared.entry.Why.TheVariants.{Decision, Hint}
@@ -119,8 +118,8 @@ calm_decided w all es fs l f g h n c e = pair_decided es fs l (pair_at w.pairs n
 
 pub silent_each : (k : Known) (all : List Constraint) (n : ℕ) (c : Constraint) → all_silent k all ≡ true → slice_get all n ≡ Some c → silent k c ≡ true
 silent_each k [] n c s e = let z : ◌≡◌ {A = Option Constraint} None (Some c) = e in cc
-silent_each k (x ∷ all) zero c s e = ap (silent k) (sym (same_Some x c e)) ∙ and_left (silent k x) (all_silent k all) s
-silent_each k (x ∷ all) (suc n) c s e = silent_each k all n c (and_right (silent k x) (all_silent k all) s) e
+silent_each k (x ∷ all) zero c s e = ap (silent k) (sym (same_Some x c e)) ∙ (and_parts (silent k x) (all_silent k all) s).0
+silent_each k (x ∷ all) (suc n) c s e = silent_each k all n c (and_parts (silent k x) (all_silent k all) s).1 e
 
 abbrev pub CalmBy : List Entry → (ℕ → Option Pair) → List Constraint → Type 0
 CalmBy es f all = Each all (λ n c. Calm es (f n) c)

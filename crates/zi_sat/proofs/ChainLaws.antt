@@ -1,9 +1,8 @@
 -- The steps of the backward pass, entry by entry.
 use Rattle.std.proofs.Common.{◌≡◌, ℕ, Bool, true, false, not, eqb, cond, List, [], ◌∷◌, ◌++◌, length, refl, sym, ap, ◌∙◌, subst, arith, Option, Some, None, ◌⊎◌, inl, inr, append_assoc}
-use Rattle.std.proofs.lemmas.Bool.{false≢true, and_parts}
+use Rattle.std.proofs.lemmas.Bool.{false≢true, and_parts, eqb-true}
 use Rattle.std.proofs.lemmas.List.{append-nil}
 use Rattle.std.proofs.lemmas.Option.{same_Some}
-use Rattle.zi_sat.proofs.CountLaws.{eqb_self}
 use Rattle.zi_formula.specs.declared.formula.Lit.{Lit}
 use Rattle.zi_formula.specs.declared.formula.Constraint.{Constraint}
 use Rattle.zi_formula.specs.declared.formula.Constraint.TheVariants.{Clause, AtMostOne}
@@ -22,13 +21,16 @@ use Rattle.zi_sat.specs.Marking.{Inside, mark_used, mark_cited, Explains}
 use Rattle.zi_sat.specs.Chain.{Linked, LinkBy, Chained, range_by, range, newest, Explained, kept_hints}
 use Rattle.zi_sat.proofs.TrailLaws.{learn-append}
 use Rattle.zi_sat.proofs.MoveLaws.{open_rest}
-use Rattle.zi_sat.proofs.GroupLaws.{In, denied_decided}
-use Rattle.zi_sat.proofs.FreshStep.{eqb_means, lits_same}
+use Rattle.zi_sat.proofs.GroupLaws.{In, denied_decided, head_lit, tail_lits}
+use Rattle.zi_sat.proofs.FreshStep.{lits_same}
 use Rattle.zi_sat.proofs.FreshLaws.{put_extends, learn_extends, put_self, open_front}
-use Rattle.zi_sat.proofs.EntryLaws.{true_in}
-use Rattle.zi_sat.proofs.LessLaws.{FalseBut, says_some, made}
+use Rattle.zi_sat.proofs.EntryLaws.{true_in, lits-hinted, makes_by}
+use Rattle.zi_sat.proofs.LessLaws.{FalseBut, made}
 use Rattle.zi_sat.proofs.MarkLaws.{MarkedBy, marked_by}
-use Rattle.zi_sat.proofs.ExplainLaws.{skip, unfold_clause, unfold_group, unfold_again, ones_one, made_false, made_alone, without_inside}
+use Rattle.zi_sat.proofs.ExplainLaws.{skip, unfold_clause, unfold_group, unfold_again, ones_one, made_false, made_alone, without_inside, open_some}
+use Rattle.zi_sat.proofs.WatchLaws.{not_twice}
+use Rattle.zi_proof.proofs.Sound.{says_some}
+use Rattle.zi_proof.proofs.CutLaws.{test_same}
 
 -- a lawful trail is chained
 
@@ -51,16 +53,12 @@ once_chain all k h (l ∷ []) es g n o c =
     (record { made = put k l; goes = g; holds = true_in k [] l [] o; ends = inl refl }, c)
 once_chain all k h (l ∷ m ∷ ls) es g n o c = absurd (omega (arith, n))
 
-lits-of : (h : ℕ) (ls : List Lit) (es : List Entry) → lits_of (hinted h ls ++ es) ≡ ls ++ lits_of es
-lits-of h [] es = refl
-lits-of h (l ∷ ls) es = ap (λ xs. l ∷ xs) (lits-of h ls es)
-
 chain_moves : (all cs : List Constraint) (chooses : Known → Option Lit) (k : Known) (ms : List Move) → Right all cs chooses k ms → OpenAll k (lits_of (entries_of ms)) → Chained all k (entries_of ms)
 chain_moves all cs chooses k [] r o = tt
 chain_moves all cs chooses k (Decide l ∷ ms) r o = (tt, chain_moves all cs chooses (put k l) ms r.2 o.1)
 chain_moves all cs chooses k (Apply h ls ∷ ms) r o =
     let rest : Chained all (learn k ls) (entries_of ms) = chain_moves all cs chooses (learn k ls) ms r.1 (open_rest k h ls (entries_of ms) o) in
-    let front : OpenAll k ls = open_front k ls (lits_of (entries_of ms)) (subst (OpenAll k) (lits-of h ls (entries_of ms)) o) in
+    let front : OpenAll k ls = open_front k ls (lits_of (entries_of ms)) (subst (OpenAll k) (lits-hinted h ls (entries_of ms)) o) in
     elim r.0.1 [
       | inl n ↦ once_chain all k h ls (entries_of ms) r.0.0 n front rest
       | inr again ↦ hinted_chain all k h ls [] ls (entries_of ms) again refl front rest
@@ -149,9 +147,6 @@ skip_entry all k e es m hs c o x = skip_why all k e e.why es m hs refl c.0 c.1 o
 
 -- a marked entry
 
-makes_made : (o : Outcome) (g : Known) (l : Lit) → o ≡ Goes g → is_true g l ≡ true → Makes o l
-makes_made o g l e h = subst (λ u. Makes u l) (sym e) h
-
 group_front : (all : List Constraint) (k r m : Known) (h : ℕ) (l : Lit) (xs hs : List ℕ) → cited all h ≡ Some (AtMostOne xs) → is_open (k l.variable) ≡ true → In l.variable xs → l.positive ≡ false → Inside m r → m l.variable ≡ Some l.positive → newest hs ≡ h → Explains all (put k l) m hs → Explains all k (mark_used r (without m l.variable) (AtMostOne xs)) hs
 group_front all k r m h l xs [] c o i p j q n x =
     let z : cited all 0 ≡ Some (AtMostOne xs) = ap (cited all) n ∙ c in
@@ -160,7 +155,7 @@ group_front all k r m h l xs (i2 ∷ hs) c o i p j q n x =
     subst (λ y. Explains all k (mark_used r (without m l.variable) (AtMostOne xs)) (y ∷ hs)) (sym n) (unfold_again all k (put k l) r m h l xs hs c o i p (λ y b e. e) j q (subst (λ y. Explains all (put k l) m (y ∷ hs)) n x))
 
 newest_case : (h : ℕ) (hs : List ℕ) (t : Bool) → eqb (newest hs) h ≡ t → newest (cond t hs (h ∷ hs)) ≡ h
-newest_case h hs true e = eqb_means (newest hs) h e
+newest_case h hs true e = eqb-true (newest hs) h e
 newest_case h hs false e = refl
 
 newest_kept : (c : Option Constraint) (h : ℕ) (hs : List ℕ) → newest (kept_hints c h hs) ≡ h
@@ -172,16 +167,16 @@ group_case : (all : List Constraint) (k r m : Known) (h : ℕ) (l : Lit) (xs hs 
 group_case all k r m h l xs hs es n true e c d o p i j q s x =
     let one : (t : ℕ) × (true_ones k xs ≡ t ∷ []) × (deny_all k xs ≡ n.made) = ones_one k xs (true_ones k xs) n.made s in
     let neg : In l.variable xs × (l.positive ≡ false) = made_false k xs l o (ap (λ v. is_true v l) one.2 ∙ n.holds) in
-    group_front all k r m h l xs hs c o neg.0 neg.1 j q (eqb_means (newest hs) h e) (explained_now all (put k l) es m hs d p x)
+    group_front all k r m h l xs hs c o neg.0 neg.1 j q (eqb-true (newest hs) h e) (explained_now all (put k l) es m hs d p x)
 group_case all k r m h l xs hs es n false e c d o p i j q s x = elim (made_or_front all k l h es m hs n d p x) [
   | inl f ↦ unfold_group all k n.made r m h l xs hs c o s n.holds i j q f
-  | inr f ↦ absurd (false≢true (sym e ∙ (ap (λ y. eqb y h) f.1 ∙ eqb_self h)))
+  | inr f ↦ absurd (false≢true (sym e ∙ (ap (λ y. eqb y h) f.1 ∙ test_same h)))
 ]
 
 unfold_case : (all : List Constraint) (k r m : Known) (h : ℕ) (l : Lit) (hs : List ℕ) (es : List Entry) (n : Linked all k l h es) (c : Option Constraint) → cited all h ≡ c → step_cited k c ≡ Goes n.made → Chained all (put k l) es → is_open (k l.variable) ≡ true → OpenAll (put k l) (lits_of es) → Inside k r → Inside m r → m l.variable ≡ Some l.positive → Explained all (put k l) es m hs → Explains all k (mark_cited r (without m l.variable) c) (kept_hints c h hs)
 unfold_case all k r m h l hs es n None e s d o p i j q x = let z : ◌≡◌ {A = Outcome} Fails (Goes n.made) = s in cc
 unfold_case all k r m h l hs es n (Some (Clause ls)) e s d o p i j q x =
-    unfold_clause all k r m h l ls hs e o (makes_made (clause_step k ls) n.made l s n.holds) i j q (explained_now all (put k l) es m hs d p x)
+    unfold_clause all k r m h l ls hs e o (makes_by (clause_step k ls) n.made l s n.holds) i j q (explained_now all (put k l) es m hs d p x)
 unfold_case all k r m h l hs es n (Some (AtMostOne xs)) e s d o p i j q x =
     group_case all k r m h l xs hs es n (eqb (newest hs) h) refl e d o p i j q s x
 
@@ -194,19 +189,15 @@ unfold_entry all k r m e h es hs w c o i j q x =
 -- what is marked then is known before the entry
 
 put_or_case : (k : Known) (l : Lit) (x : ℕ) (b t : Bool) → eqb x l.variable ≡ t → cond t (Some l.positive) (k x) ≡ Some b → (x ≡ l.variable) ⊎ (k x ≡ Some b)
-put_or_case k l x b true e p = inl (eqb_means x l.variable e)
+put_or_case k l x b true e p = inl (eqb-true x l.variable e)
 put_or_case k l x b false e p = inr p
-
-open_is_none : (o : Option Bool) (b : Bool) → is_open o ≡ true → o ≡ Some b → ⊥
-open_is_none None b h e = let z : ◌≡◌ {A = Option Bool} None (Some b) = e in cc
-open_is_none (Some c) b h e = false≢true h
 
 gone_case : (m : Known) (y x : ℕ) (b t : Bool) → t ≡ true → cond t None (m x) ≡ Some b → ⊥
 gone_case m y x b true e p = let z : ◌≡◌ {A = Option Bool} None (Some b) = p in cc
 gone_case m y x b false e p = false≢true e
 
 gone : (m : Known) (y x : ℕ) (b : Bool) → x ≡ y → without m y x ≡ Some b → ⊥
-gone m y x b e p = gone_case m y x b (eqb x y) (ap (eqb x) (sym e) ∙ eqb_self x) p
+gone m y x b e p = gone_case m y x b (eqb x y) (ap (eqb x) (sym e) ∙ test_same x) p
 
 -- what is marked but for the entry's literal was known before it
 unmarked_inside : (m k : Known) (l : Lit) → Inside m (put k l) → Inside (without m l.variable) k
@@ -217,19 +208,9 @@ unmarked_inside m k l i = λ x b p. elim (put_or_case k l x b (eqb x l.variable)
 
 pub skipped_inside : (m k : Known) (l : Lit) → is_open (m l.variable) ≡ true → Inside m (put k l) → Inside m k
 skipped_inside m k l o i = λ x b p. elim (put_or_case k l x b (eqb x l.variable) refl (i x b p)) [
-  | inl e ↦ absurd (open_is_none (m l.variable) b o (ap m (sym e) ∙ p))
+  | inl e ↦ absurd (open_some (m l.variable) b o (ap m (sym e) ∙ p))
   | inr q ↦ q
 ]
-
-opposite_twice : (b : Bool) → not (not b) ≡ b
-opposite_twice true = refl
-opposite_twice false = refl
-
-list_head : (a b : Lit) (xs bs : List Lit) → a ∷ xs ≡ b ∷ bs → a ≡ b
-list_head a b xs bs e = cc
-
-list_tail : (a b : Lit) (xs bs : List Lit) → a ∷ xs ≡ b ∷ bs → xs ≡ bs
-list_tail a b xs bs e = cc
 
 not_self : (b : Bool) → not b ≡ b → ⊥
 not_self true e = false≢true e
@@ -247,7 +228,7 @@ clash r l x b h q e =
 stand_case : (k : Known) (l m : Lit) (ls : List Lit) (t : Bool) → is_false k m ≡ t → cond t (standing k ls) (m ∷ standing k ls) ≡ l ∷ [] → (standing k ls ≡ l ∷ [] → FalseBut k l ls) → (standing k ls ≡ [] → FalseBut k l ls) → FalseBut k l (m ∷ ls)
 stand_case k l m ls true e s r n = (inl e, r s)
 stand_case k l m ls false e s r n =
-    (inr (list_head m l (standing k ls) [] s), n (list_tail m l (standing k ls) [] s))
+    (inr (head_lit m l (standing k ls) [] s), n (tail_lits m l (standing k ls) [] s))
 
 none_case : (k : Known) (l m : Lit) (ls : List Lit) (t : Bool) → is_false k m ≡ t → cond t (standing k ls) (m ∷ standing k ls) ≡ [] → (standing k ls ≡ [] → FalseBut k l ls) → FalseBut k l (m ∷ ls)
 none_case k l m ls true e s n = (inl e, n s)
@@ -265,7 +246,7 @@ stand_but k l (m ∷ ls) s =
 false_is : (w : Known) (m : Lit) (x : ℕ) (b : Bool) → m ≡ opposite (record { variable = x; positive = b }) → is_false w m ≡ true → w x ≡ Some b
 false_is w m x b e f =
     let g : says (w x) (not (not b)) ≡ true = subst (λ z. is_false w z ≡ true) e f in
-    says_some (w x) b (subst (λ c. says (w x) c ≡ true) (opposite_twice b) g)
+    says_some (w x) b (subst (λ c. says (w x) c ≡ true) (not_twice b) g)
 
 has_but_case : (w r : Known) (l m : Lit) (ls : List Lit) (x : ℕ) (b t : Bool) → same_lit m (opposite (record { variable = x; positive = b })) ≡ t → (is_false w m ≡ true) ⊎ (m ≡ l) → r l.variable ≡ Some l.positive → cond t true (has_lit ls (opposite (record { variable = x; positive = b }))) ≡ true → r x ≡ Some b → (has_lit ls (opposite (record { variable = x; positive = b })) ≡ true → w x ≡ Some b) → w x ≡ Some b
 has_but_case w r l m ls x b true e (inl f) h u q n = false_is w m x b (lits_same m (opposite (record { variable = x; positive = b })) e) f
@@ -288,7 +269,7 @@ clause_inside k r m l ls i h s n j =
 
 -- a variable of a group that is true on the trail was true before the group's hint
 has_in_case : (y x : ℕ) (xs : List ℕ) (t : Bool) → eqb y x ≡ t → cond t true (has_variable xs x) ≡ true → (has_variable xs x ≡ true → In x xs) → (x ≡ y) ⊎ In x xs
-has_in_case y x xs true e h r = inl (sym (eqb_means y x e))
+has_in_case y x xs true e h r = inl (sym (eqb-true y x e))
 has_in_case y x xs false e h r = inr (r h)
 
 has_in : (xs : List ℕ) (x : ℕ) → has_variable xs x ≡ true → In x xs
@@ -317,7 +298,7 @@ group_inside k g r m l xs s i n j =
 inside_case : (all : List Constraint) (k r m : Known) (h : ℕ) (l : Lit) (es : List Entry) (n : Linked all k l h es) (c : Option Constraint) → step_cited k c ≡ Goes n.made → is_open (k l.variable) ≡ true → Inside k r → r l.variable ≡ Some l.positive → Inside n.made r → Inside m (put k l) → Inside m r → Inside (mark_cited r (without m l.variable) c) k
 inside_case all k r m h l es n None s o i q g p j = let z : ◌≡◌ {A = Outcome} Fails (Goes n.made) = s in cc
 inside_case all k r m h l es n (Some (Clause ls)) s o i q g p j =
-    clause_inside k r m l ls i q (made_alone k l (standing k ls) o (makes_made (clause_step k ls) n.made l s n.holds)) (unmarked_inside m k l p) j
+    clause_inside k r m l ls i q (made_alone k l (standing k ls) o (makes_by (clause_step k ls) n.made l s n.holds)) (unmarked_inside m k l p) j
 inside_case all k r m h l es n (Some (AtMostOne xs)) s o i q g p j =
     group_inside k n.made r m l xs (ones_one k xs (true_ones k xs) n.made s).2 g (unmarked_inside m k l p) j
 

@@ -3,6 +3,7 @@ use Rattle.std.proofs.Common.{◌≡◌, ℕ, zero, suc, ◌+◌, ◌<◌, ◌�
 use Rattle.std.specs.List.{slice_get}
 use Rattle.std.proofs.lemmas.List.Elements.{All-nil, All-cons}
 use Rattle.std.proofs.lemmas.Bool.Decides.{nat_tests}
+use Rattle.std.proofs.lemmas.Bool.{and_parts}
 use Rattle.zi_formula.specs.declared.formula.Lit.{Lit}
 use Rattle.zi_formula.specs.declared.formula.Constraint.{Constraint}
 use Rattle.zi_formula.specs.declared.formula.Constraint.TheVariants.{Clause}
@@ -13,7 +14,7 @@ use Rattle.zi_proof.specs.Accepted.{citable, cited, step_cited, lemma_clause, li
 use Rattle.zi_sat.specs.declared.entry.Entry.{Entry}
 use Rattle.zi_sat.specs.Trail.{learn, all_silent, silent}
 use Rattle.zi_sat.specs.Moves.{hinted, Again, Applies}
-use Rattle.zi_sat.proofs.MoveLaws.{and_left, and_right}
+use Rattle.zi_proof.proofs.Cites.{get_clause}
 
 get_after : (cs ds : List Constraint) (i : ℕ) → slice_get (cs ++ ds) (length cs + i) ≡ slice_get ds i
 get_after [] ds i =
@@ -23,11 +24,6 @@ get_after (c ∷ cs) ds i =
     let e : length (c ∷ cs) + i ≡ suc (length cs + i) = omega arith in
     ap (slice_get (c ∷ cs ++ ds)) e ∙ get_after cs ds i
 
-get_clause : (ms : List Lemma) (k : ℕ) (d : Lemma) → k < length ms → slice_get (map lemma_clause ms) k ≡ Some (Clause (get_or ms k d).lits)
-get_clause [] k d h = absurd (omega arith)
-get_clause (m ∷ ms) zero d h = refl
-get_clause (m ∷ ms) (suc k) d h = get_clause ms k d (omega arith)
-
 pub cited_at : (cs : List Constraint) (ms : List Lemma) (i n : ℕ) (d : Lemma) → n ≡ length cs → i < length ms → cited (citable cs ms) (n + i + 1) ≡ Some (Clause (get_or ms i d).lits)
 cited_at cs ms i n d e h =
     let same : n + i + 1 ≡ suc (length cs + i) = omega (arith, e) in
@@ -35,29 +31,29 @@ cited_at cs ms i n d e h =
 
 head_ok : (n : ℕ) (l : Lit) (b : Bool) → leb 1 l.variable && (leb l.variable n && b) ≡ true → (1 ≤ l.variable) × (l.variable ≤ n)
 head_ok n l b h =
-    let j : leb 1 l.variable ≡ true = and_left (leb 1 l.variable) (leb l.variable n && b) h in
-    let k : leb l.variable n ≡ true = and_left (leb l.variable n) b (and_right (leb 1 l.variable) (leb l.variable n && b) h) in
+    let j : leb 1 l.variable ≡ true = (and_parts (leb 1 l.variable) (leb l.variable n && b) h).0 in
+    let k : leb l.variable n ≡ true = (and_parts (leb l.variable n) b (and_parts (leb 1 l.variable) (leb l.variable n && b) h).1).0 in
     (grind (arith, nat_tests), grind (arith, nat_tests))
 
 pub lits_ok : (n : ℕ) (ls : List Lit) → lits_within n ls ≡ true → LitsWithin n ls
 lits_ok n [] h = All-nil (λ l. (1 ≤ l.variable) × (l.variable ≤ n))
 lits_ok n (l ∷ ls) h =
-    All-cons (λ l. (1 ≤ l.variable) × (l.variable ≤ n)) l ls (head_ok n l (lits_within n ls) h) (lits_ok n ls (and_right (leb l.variable n) (lits_within n ls) (and_right (leb 1 l.variable) (leb l.variable n && lits_within n ls) h)))
+    All-cons (λ l. (1 ≤ l.variable) × (l.variable ≤ n)) l ls (head_ok n l (lits_within n ls) h) (lits_ok n ls (and_parts (leb l.variable n) (lits_within n ls) (and_parts (leb 1 l.variable) (leb l.variable n && lits_within n ls) h).1).1)
 
 pub lemma_ok : (n : ℕ) (ms : List Lemma) (k : ℕ) (d : Lemma) → lemmas_within n ms ≡ true → k < length ms → LitsWithin n (get_or ms k d).lits
 lemma_ok n [] k d h q = absurd (omega arith)
-lemma_ok n (m ∷ ms) zero d h q = lits_ok n m.lits (and_left (lits_within n m.lits) (lemmas_within n ms) h)
-lemma_ok n (m ∷ ms) (suc k) d h q = lemma_ok n ms k d (and_right (lits_within n m.lits) (lemmas_within n ms) h) (omega arith)
+lemma_ok n (m ∷ ms) zero d h q = lits_ok n m.lits (and_parts (lits_within n m.lits) (lemmas_within n ms) h).0
+lemma_ok n (m ∷ ms) (suc k) d h q = lemma_ok n ms k d (and_parts (lits_within n m.lits) (lemmas_within n ms) h).1 (omega arith)
 
 pub silent_append : (k : Known) (cs ds : List Constraint) → all_silent k cs ≡ true → all_silent k ds ≡ true → all_silent k (cs ++ ds) ≡ true
 silent_append k [] ds a b = b
 silent_append k (c ∷ cs) ds a b =
-    ap (λ x. x && all_silent k (cs ++ ds)) (and_left (silent k c) (all_silent k cs) a) ∙ silent_append k cs ds (and_right (silent k c) (all_silent k cs) a) b
+    ap (λ x. x && all_silent k (cs ++ ds)) (and_parts (silent k c) (all_silent k cs) a).0 ∙ silent_append k cs ds (and_parts (silent k c) (all_silent k cs) a).1 b
 
 pub silent_front : (k : Known) (cs ds : List Constraint) → all_silent k (cs ++ ds) ≡ true → all_silent k cs ≡ true
 silent_front k [] ds a = refl
 silent_front k (c ∷ cs) ds a =
-    ap (λ x. x && all_silent k cs) (and_left (silent k c) (all_silent k (cs ++ ds)) a) ∙ silent_front k cs ds (and_right (silent k c) (all_silent k (cs ++ ds)) a)
+    ap (λ x. x && all_silent k cs) (and_parts (silent k c) (all_silent k (cs ++ ds)) a).0 ∙ silent_front k cs ds (and_parts (silent k c) (all_silent k (cs ++ ds)) a).1
 
 pub contradicts : (k : Known) (o : Option Constraint) (c : Constraint) → o ≡ Some c → step k c ≡ Contradiction → step_cited k o ≡ Contradiction
 contradicts k o c e h = ap (step_cited k) e ∙ h

@@ -2,7 +2,7 @@
 use Rattle.std.proofs.Common.{◌≡◌, ℕ, ◌<◌, ◌≤◌, Bool, true, false, not, ◌&&◌, ◌||◌, cond, List, [], ◌∷◌, ◌++◌, map, length, take, get_or, refl, sym, ap, ◌∙◌, subst, Option, Some, None}
 use Rattle.std.specs.List.{All}
 use Rattle.std.proofs.lemmas.List.Elements.{All-head, All-tail}
-use Rattle.std.proofs.lemmas.Bool.{false≢true, or_right, or_left}
+use Rattle.std.proofs.lemmas.Bool.{false≢true, or_right, or_left, and_parts}
 use Rattle.zi_formula.specs.declared.formula.Lit.{Lit}
 use Rattle.zi_formula.specs.declared.formula.Constraint.{Constraint}
 use Rattle.zi_formula.specs.declared.formula.Constraint.TheVariants.{Clause, AtMostOne}
@@ -20,7 +20,8 @@ use Rattle.zi_sat.specs.Trail.{lits_of, learn, known_from, fails, silent, silent
 use Rattle.zi_sat.specs.declared.entry.Why.TheVariants.{Decision}
 use Rattle.zi_sat.specs.Moves.{Lawful}
 use Rattle.zi_sat.specs.Ends.{NoModelHere}
-use Rattle.zi_sat.proofs.MoveLaws.{and_left, and_right, lawful_more, lawful_cut}
+use Rattle.zi_sat.proofs.MoveLaws.{lawful_more, lawful_cut}
+use Rattle.zi_sat.proofs.LessLaws.{none_is_some}
 
 abbrev by : Known → ℕ → Bool
 by k x = says (k x) true
@@ -90,8 +91,8 @@ constraint_model k n (AtMostOne xs) d w s = group_model k xs (few_silent k xs (t
 pub all_model : (k : Known) (n : ℕ) (cs : List Constraint) → AllDecided k n → All (λ c. ConstraintWithin n c) cs → all_silent k cs ≡ true → all_true (by k) cs ≡ true
 all_model k n [] d w s = refl
 all_model k n (c ∷ cs) d w s =
-    let here : constraint_true (by k) c ≡ true = constraint_model k n c d (All-head (λ c. ConstraintWithin n c) c cs w) (and_left (silent k c) (all_silent k cs) s) in
-    ap (λ b. b && all_true (by k) cs) here ∙ all_model k n cs d (All-tail (λ c. ConstraintWithin n c) c cs w) (and_right (silent k c) (all_silent k cs) s)
+    let here : constraint_true (by k) c ≡ true = constraint_model k n c d (All-head (λ c. ConstraintWithin n c) c cs w) (and_parts (silent k c) (all_silent k cs) s).0 in
+    ap (λ b. b && all_true (by k) cs) here ∙ all_model k n cs d (All-tail (λ c. ConstraintWithin n c) c cs w) (and_parts (silent k c) (all_silent k cs) s).1
 
 -- a conflict leaves no model
 
@@ -99,11 +100,8 @@ learn_agrees : (v : ℕ → Bool) (k : Known) (ls : List Lit) → Agrees v k →
 learn_agrees v k [] g t = g
 learn_agrees v k (l ∷ ls) g t = learn_agrees v (put k l) ls (put_agrees v k l (value_of_true v l t.0) g) t.1
 
-none_some : (b : Bool) → ◌≡◌ {A = Option Bool} None (Some b) → ⊥
-none_some b e = cc
-
 pub no_model_here : (f : Formula) (ms : List Lemma) (es : List Entry) (h : ℕ) → follows f ms ≡ true → step_cited (known_from es) (cited (citable f.constraints ms) h) ≡ Contradiction → NoModelHere f es
-no_model_here f ms es h w c = λ v m t. subst (Sound v) c (cited_sound v (known_from es) (citable f.constraints ms) h (learn_agrees v nothing (lits_of es) (λ x b e. absurd (none_some b e)) t) (all_append v f.constraints (map lemma_clause ms) m (lemmas_are_true f ms v w m)))
+no_model_here f ms es h w c = λ v m t. subst (Sound v) c (cited_sound v (known_from es) (citable f.constraints ms) h (learn_agrees v nothing (lits_of es) (λ x b e. absurd (none_is_some b e)) t) (all_append v f.constraints (map lemma_clause ms) m (lemmas_are_true f ms v w m)))
 
 -- the empty lemma refutes
 

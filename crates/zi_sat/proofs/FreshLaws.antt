@@ -1,7 +1,7 @@
 -- The lemma of all decisions is new, and silent before each decision that stays.
-use Rattle.std.proofs.Common.{◌≡◌, ℕ, zero, suc, ◌<◌, Bool, true, false, not, ◌&&◌, eqb, cond, List, [], ◌∷◌, ◌++◌, map, length, get_or, take, refl, sym, ap, ◌∙◌, subst, arith, Option, Some, None, inl, inr, append_assoc}
-use Rattle.std.proofs.lemmas.Bool.{false≢true, false_from_ne_true}
-use Rattle.zi_sat.proofs.CountLaws.{eqb_self}
+use Rattle.std.proofs.Common.{◌≡◌, ℕ, zero, suc, ◌<◌, Bool, true, false, not, ◌&&◌, eqb, cond, List, [], ◌∷◌, ◌++◌, map, length, get_or, take, refl, sym, ap, ◌∙◌, subst, arith, Option, Some, None, inl, inr, append_assoc, append-nil}
+use Rattle.std.proofs.lemmas.Bool.{false≢true, false_from_ne_true, eqb-true, and_parts}
+use Rattle.zi_sat.proofs.CountLaws.{or_case, lit_self}
 use Rattle.zi_formula.specs.declared.formula.Lit.{Lit}
 use Rattle.zi_formula.specs.declared.formula.Constraint.{Constraint}
 use Rattle.zi_formula.specs.declared.formula.Constraint.TheVariants.{Clause, AtMostOne}
@@ -17,36 +17,33 @@ use Rattle.zi_sat.specs.Trail.{lits_of, learn, known_from, OpenAll, silent, all_
 use Rattle.zi_sat.specs.Moves.{Move, Decide, Apply, hinted, entries_of, Implied, Added}
 use Rattle.zi_sat.specs.Fresh.{ApartAll, New, FreshAfter, Filled, at_decision, Hushed}
 use Rattle.zi_formula.specs.Form.{Once, OnceAll}
-use Rattle.zi_sat.proofs.MoveLaws.{and_left, and_right}
 use Rattle.zi_sat.proofs.GroupLaws.{lits-hinted}
 use Rattle.zi_sat.proofs.CiteLaws.{silent_append}
 use Rattle.zi_sat.specs.Watching.{FalseOr}
-use Rattle.zi_sat.proofs.FreshStep.{AllFalse, lit_self, eqb_means, new_is_fresh}
+use Rattle.zi_sat.proofs.FreshStep.{AllFalse, new_is_fresh}
+use Rattle.zi_sat.proofs.LessLaws.{some_says, put_keep_case}
+use Rattle.zi_proof.proofs.Sound.{says_some}
+use Rattle.zi_proof.proofs.CutLaws.{test_same}
 
 -- what is known stays known
 
 abbrev pub Extends : Known → Known → Type 0
 Extends k g = (x : ℕ) (b : Bool) → k x ≡ Some b → g x ≡ Some b
 
-put_case : (k : Known) (l : Lit) (x : ℕ) (b t : Bool) → eqb x l.variable ≡ t → is_open (k l.variable) ≡ true → k x ≡ Some b → cond t (Some l.positive) (k x) ≡ Some b
-put_case k l x b true e o h =
-    absurd (false≢true (sym (ap is_open h) ∙ (ap (λ z. is_open (k z)) (eqb_means x l.variable e) ∙ o)))
-put_case k l x b false e o h = h
-
 pub put_extends : (k : Known) (l : Lit) → is_open (k l.variable) ≡ true → Extends k (put k l)
-put_extends k l o = λ x b h. put_case k l x b (eqb x l.variable) refl o h
+put_extends k l o = λ x b h. put_keep_case k l x b (eqb x l.variable) refl o h
 
 pub learn_extends : (k : Known) (ls : List Lit) → OpenAll k ls → Extends k (learn k ls)
 learn_extends k [] o = λ x b h. h
 learn_extends k (l ∷ ls) o =
     λ x b h. learn_extends (put k l) ls o.1 x b (put_extends k l o.0 x b h)
 
-self_case : (k : Known) (l : Lit) (t : Bool) → t ≡ true → cond t (Some l.positive) (k l.variable) ≡ Some l.positive
+pub self_case : (k : Known) (l : Lit) (t : Bool) → t ≡ true → cond t (Some l.positive) (k l.variable) ≡ Some l.positive
 self_case k l true e = refl
 self_case k l false e = absurd (false≢true e)
 
 pub put_self : (k : Known) (l : Lit) → put k l l.variable ≡ Some l.positive
-put_self k l = self_case k l (eqb l.variable l.variable) (eqb_self l.variable)
+put_self k l = self_case k l (eqb l.variable l.variable) (test_same l.variable)
 
 opposite_false : (p : Bool) → says (Some p) (not (not p)) ≡ true
 opposite_false true = refl
@@ -68,16 +65,16 @@ pub other_lit : (m l : Lit) → eqb m.variable l.variable ≡ false → same_lit
 other_lit m l h = ap (λ b. b && cond m.positive l.positive (not l.positive)) h
 
 pub open_apart : (k : Known) (m l : Lit) (b : Bool) → k l.variable ≡ Some b → is_open (k m.variable) ≡ true → eqb m.variable l.variable ≡ false
-open_apart k m l b h o = false_from_ne_true (eqb m.variable l.variable) (λ e. false≢true (sym (ap is_open h) ∙ (ap (λ z. is_open (k z)) (sym (eqb_means m.variable l.variable e)) ∙ o)))
+open_apart k m l b h o = false_from_ne_true (eqb m.variable l.variable) (λ e. false≢true (sym (ap is_open h) ∙ (ap (λ z. is_open (k z)) (sym (eqb-true m.variable l.variable e)) ∙ o)))
 
 -- a new lemma is apart from all that is silent before the last decision
 
 pub apart_all : (k : Known) (d : Lit) (ms : List Lit) (cs : List Constraint) → is_open (k d.variable) ≡ true → FalseOr k d ms → OnceAll cs → all_silent k cs ≡ true → ApartAll ms cs
 apart_all k d ms [] o f u s = tt
 apart_all k d ms (Clause ls ∷ cs) o f u s =
-    (new_is_fresh k d ms ls o f u.0 (and_left (silent k (Clause ls)) (all_silent k cs) s), apart_all k d ms cs o f u.1 (and_right (silent k (Clause ls)) (all_silent k cs) s))
+    (new_is_fresh k d ms ls o f u.0 (and_parts (silent k (Clause ls)) (all_silent k cs) s).0, apart_all k d ms cs o f u.1 (and_parts (silent k (Clause ls)) (all_silent k cs) s).1)
 apart_all k d ms (AtMostOne xs ∷ cs) o f u s =
-    apart_all k d ms cs o f u.1 (and_right (silent k (AtMostOne xs)) (all_silent k cs) s)
+    apart_all k d ms cs o f u.1 (and_parts (silent k (AtMostOne xs)) (all_silent k cs) s).1
 
 pub filled_once : (ms : List Lemma) → Filled ms → OnceAll (map lemma_clause ms)
 filled_once [] f = tt
@@ -85,29 +82,14 @@ filled_once (m ∷ ms) f = (f.1, filled_once ms f.2)
 
 -- it is silent before each decision that stays
 
-says_some : (o : Option Bool) (b : Bool) → says o b ≡ true → o ≡ Some b
-says_some None b e = absurd (false≢true e)
-says_some (Some true) true e = refl
-says_some (Some true) false e = absurd (false≢true e)
-says_some (Some false) true e = absurd (false≢true e)
-says_some (Some false) false e = refl
-
-some_says : (b : Bool) → says (Some b) b ≡ true
-some_says true = refl
-some_says false = refl
-
 false_more : (o r : Option Bool) (b : Bool) → ((c : Bool) → o ≡ Some c → r ≡ Some c) → says o b ≡ true → says r b ≡ true
 false_more o r b h e = ap (λ x. says x b) (h b (says_some o b e)) ∙ some_says b
 
-or_case : (b c : Bool) → c ≡ true → cond b true c ≡ true
-or_case true c h = refl
-or_case false c h = h
-
-under_case : (k : Known) (l : Lit) (x : ℕ) (t : Bool) → is_open (cond t (Some l.positive) (k x)) ≡ true → is_open (k x) ≡ true
+pub under_case : (k : Known) (l : Lit) (x : ℕ) (t : Bool) → is_open (cond t (Some l.positive) (k x)) ≡ true → is_open (k x) ≡ true
 under_case k l x true h = absurd (false≢true h)
 under_case k l x false h = h
 
-open_under_put : (k : Known) (l : Lit) (x : ℕ) → is_open (put k l x) ≡ true → is_open (k x) ≡ true
+pub open_under_put : (k : Known) (l : Lit) (x : ℕ) → is_open (put k l x) ≡ true → is_open (k x) ≡ true
 open_under_put k l x h = under_case k l x (eqb x l.variable) h
 
 pub extends_false : (k g : Known) (ls : List Lit) → Extends k g → AllFalse k ls → AllFalse g ls
@@ -190,7 +172,7 @@ opposites_push (m ∷ ls) l = ap (λ xs. opposite m ∷ xs) (opposites_push ls l
 
 pub silent_back : (k : Known) (cs ds : List Constraint) → all_silent k (cs ++ ds) ≡ true → all_silent k ds ≡ true
 silent_back k [] ds a = a
-silent_back k (c ∷ cs) ds a = silent_back k cs ds (and_right (silent k c) (all_silent k (cs ++ ds)) a)
+silent_back k (c ∷ cs) ds a = silent_back k cs ds (and_parts (silent k c) (all_silent k (cs ++ ds)) a).1
 
 pub some_length : (ls : List Lit) (l : Lit) → 0 < length (ls ++ l ∷ [])
 some_length [] l = omega arith
@@ -206,10 +188,6 @@ no_length : (ls : List Lit) → ls ≡ [] → 0 < length ls → ⊥
 no_length [] e z = omega (arith, z)
 no_length (l ∷ ls) e z = let x : ◌≡◌ {A = List Lit} (l ∷ ls) [] = e in cc
 
-nil_lemmas : (ms : List Lemma) → ms ++ [] ≡ ms
-nil_lemmas [] = refl
-nil_lemmas (m ∷ ms) = ap (λ xs. m ∷ xs) (nil_lemmas ms)
-
 apart_nil : (ms : List Lemma) → Filled ms → ApartAll [] (map lemma_clause ms)
 apart_nil [] f = tt
 apart_nil (m ∷ ms) f = (has_none m.lits f.0, apart_nil ms f.2)
@@ -218,7 +196,7 @@ pub nil_new : (cs : List Constraint) (ms : List Lemma) (m : Lemma) → m.lits �
 nil_new cs ms m e f = (subst (λ ls. ApartAll ls (map lemma_clause ms)) (sym e) (apart_nil ms f), λ z. absurd (no_length m.lits e z))
 
 pub fresh_push : (cs : List Constraint) (es ms : List Lemma) (m : Lemma) → FreshAfter cs es ms → New cs (es ++ ms) m → FreshAfter cs es (ms ++ m ∷ [])
-fresh_push cs es [] m f n = (subst (λ xs. New cs xs m) (nil_lemmas es) n, tt)
+fresh_push cs es [] m f n = (subst (λ xs. New cs xs m) (append-nil es) n, tt)
 fresh_push cs es (x ∷ ms) m f n =
     (f.0, fresh_push cs (es ++ x ∷ []) ms m f.1 (subst (λ xs. New cs xs m) (sym (append_assoc es (x ∷ []) ms)) n))
 

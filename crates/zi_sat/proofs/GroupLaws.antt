@@ -5,7 +5,6 @@ use Rattle.std.proofs.lemmas.Bool.Decides.{nat_tests}
 use Rattle.std.proofs.lemmas.List.{at_drop_more, take-append-le}
 use Rattle.std.proofs.Common.{length-append}
 use Rattle.std.proofs.Common.{append_assoc}
-use Rattle.zi_sat.proofs.CountLaws.{eqb_self}
 use Rattle.zi_formula.specs.declared.formula.Lit.{Lit}
 use Rattle.zi_proof.specs.Known.{Known, put, says, is_open, Goes, deny, deny_all, true_ones, by_true_ones, group_step}
 use Rattle.zi_proof.specs.Taken.{many_of}
@@ -16,6 +15,7 @@ use Rattle.zi_sat.specs.declared.entry.Why.TheVariants.{Hint}
 use Rattle.zi_sat.specs.Trail.{lits_of, learn, known_from, opened, all_decided, silent_by}
 use Rattle.zi_sat.specs.Moves.{hinted, Again}
 use Rattle.zi_sat.proofs.TrailLaws.{known-append}
+use Rattle.zi_proof.proofs.CutLaws.{test_same}
 
 abbrev pub not_x : ℕ → Lit
 not_x x = record { variable = x; positive = false }
@@ -33,13 +33,13 @@ says_open : (o : Option Bool) → is_open o ≡ true → says o true ≡ false
 says_open None h = refl
 says_open (Some b) h = absurd (false≢true h)
 
-says_put_case : (k : Known) (x y : ℕ) (t : Bool) → eqb y x ≡ t → is_open (k x) ≡ true → says (cond t (Some false) (k y)) true ≡ says (k y) true
+pub says_put_case : (k : Known) (x y : ℕ) (t : Bool) → eqb y x ≡ t → is_open (k x) ≡ true → says (cond t (Some false) (k y)) true ≡ says (k y) true
 says_put_case k x y true e o =
     let same : y ≡ x = grind (arith, nat_tests) in
     sym (says_open (k y) (ap (λ z. is_open (k z)) same ∙ o))
 says_put_case k x y false e o = refl
 
-true_cond : (a b : Bool) (x : ℕ) (xs ys : List ℕ) → a ≡ b → xs ≡ ys → cond a (x ∷ xs) xs ≡ cond b (x ∷ ys) ys
+pub true_cond : (a b : Bool) (x : ℕ) (xs ys : List ℕ) → a ≡ b → xs ≡ ys → cond a (x ∷ xs) xs ≡ cond b (x ∷ ys) ys
 true_cond a b x xs ys e f = ap (λ c. cond c (x ∷ xs) xs) e ∙ ap (λ zs. cond b (x ∷ zs) zs) f
 
 pub true_ones_same : (k g : Known) (xs : List ℕ) → ((y : ℕ) → says (k y) true ≡ says (g y) true) → true_ones k xs ≡ true_ones g xs
@@ -69,7 +69,7 @@ put_self_case k l y true h = refl
 put_self_case k l y false h = absurd (false≢true h)
 
 deny_self_case : (k : Known) (x : ℕ) (b : Bool) → is_open (k x) ≡ b → is_open ((cond b (put k (not_x x)) k) x) ≡ false
-deny_self_case k x true h = put_self_case k (not_x x) x (eqb x x) (eqb_self x)
+deny_self_case k x true h = put_self_case k (not_x x) x (eqb x x) (test_same x)
 deny_self_case k x false h = h
 
 pub denied_decided : (k : Known) (xs : List ℕ) (y : ℕ) → In y xs → is_open (deny_all k xs y) ≡ false
@@ -111,15 +111,15 @@ left_decided k x xs a d l =
 left_open : (k : Known) (x : ℕ) (xs : List ℕ) (l : Lit) (a : List Lit) → l ≡ not_x x → is_open (k x) ≡ true → Left (put k (not_x x)) xs a → Left k (x ∷ xs) (l ∷ a)
 left_open k x xs l a e o h =
     let g : Known = put k (not_x x) in
-    let d : is_open (g x) ≡ false = put_self_case k (not_x x) x (eqb x x) (eqb_self x) in
+    let d : is_open (g x) ≡ false = put_self_case k (not_x x) x (eqb x x) (test_same x) in
     let opens : deny k x ≡ g = ap (λ b. cond b (put k (not_x x)) k) o in
     subst (λ m. Left k (x ∷ xs) (m ∷ a)) (sym e)
     (ap (λ f. deny_all f xs) (deny_none (learn g a) x (learn_decided g a x d)) ∙ h.0 ∙ ap (λ f. deny_all f xs) (sym opens), λ y. h.1 y ∙ says_put_case k x y (eqb y x) refl o)
 
-head_lit : (l m : Lit) (ls ms : List Lit) → l ∷ ls ≡ m ∷ ms → l ≡ m
+pub head_lit : (l m : Lit) (ls ms : List Lit) → l ∷ ls ≡ m ∷ ms → l ≡ m
 head_lit l m ls ms e = cc
 
-tail_lits : (l m : Lit) (ls ms : List Lit) → l ∷ ls ≡ m ∷ ms → ls ≡ ms
+pub tail_lits : (l m : Lit) (ls ms : List Lit) → l ∷ ls ≡ m ∷ ms → ls ≡ ms
 tail_lits l m ls ms e = cc
 
 left_first : (k : Known) (x : ℕ) (xs : List ℕ) (a b : List Lit) → is_open (k x) ≡ true → ((c : List Lit) → opened (put k (not_x x)) xs ≡ c ++ b → Left (put k (not_x x)) xs c) → not_x x ∷ opened (put k (not_x x)) xs ≡ a ++ b → Left k (x ∷ xs) a

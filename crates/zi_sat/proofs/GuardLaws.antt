@@ -1,5 +1,5 @@
 -- What a look at a constraint leaves: what it holds, and why it needn't be looked at.
-use Rattle.std.proofs.Common.{◌≡◌, ℕ, zero, suc, ◌<◌, ◌≤◌, ◌+◌, ◌-◌, ◌*◌, Bool, true, false, cond, List, [], ◌∷◌, ◌++◌, length, get_or, refl, sym, ap, ◌∙◌, subst, arith, Option, Some, None, Result, Ok, Err, IfOk, ◌⊎◌, inl, inr}
+use Rattle.std.proofs.Common.{◌≡◌, ℕ, zero, suc, ◌<◌, ◌≤◌, ◌+◌, ◌-◌, ◌*◌, Bool, true, false, cond, List, [], ◌∷◌, ◌++◌, length, get_or, refl, sym, ap, ◌∙◌, subst, arith, Option, Some, None, Result, Ok, Err, IfOk, ◌⊎◌, inl, inr, append-nil}
 use Rattle.std.specs.List.{slice_get}
 use Rattle.std.proofs.lemmas.Bool.{false≢true}
 use Rattle.zi_formula.specs.declared.formula.Lit.{Lit}
@@ -21,7 +21,7 @@ use Rattle.zi_sat.proofs.FreshLaws.{put_self}
 use Rattle.zi_sat.proofs.LessLaws.{some_says}
 use Rattle.zi_sat.proofs.TrailLaws.{known-append}
 use Rattle.zi_sat.proofs.CiteLaws.{goes, cited_zs}
-use Rattle.zi_sat.proofs.MoveLaws.{nil_after, added_more}
+use Rattle.zi_sat.proofs.MoveLaws.{added_more}
 use Rattle.std.proofs.lemmas.List.Elements.{All-head, All-tail}
 use Rattle.std.proofs.lemmas.Option.{same_Some}
 
@@ -54,7 +54,7 @@ row_low n r l h e = row_case l.positive
 
 pub made_added : (all : List Constraint) (es fs : List Entry) (h : ℕ) (o : Lit) (ls : List Lit) → fs ≡ es ++ hinted h (o ∷ []) → cited all h ≡ Some (Clause ls) → clause_step (known_from es) ls ≡ Goes (put (known_from es) o) → Added all es fs
 made_added all es fs h o ls e f g =
-    added_more all es es fs h (o ∷ []) ([], sym (nil_after es), tt) e (goes (known_from es) (put (known_from es) o) (cited all h) (Clause ls) f g, inl refl)
+    added_more all es es fs h (o ∷ []) ([], sym (append-nil es), tt) e (goes (known_from es) (put (known_from es) o) (cited all h) (Clause ls) f g, inl refl)
 
 pub made_true : (es fs : List Entry) (h : ℕ) (o : Lit) → fs ≡ es ++ hinted h (o ∷ []) → is_true (known_from fs) o ≡ true
 made_true es fs h o e =

@@ -1,5 +1,5 @@
 -- What a lemma that was learned keeps of the log and the trail.
-use Rattle.std.proofs.Common.{◌≡◌, ℕ, zero, suc, ◌<◌, ◌≤◌, true, cond, List, [], ◌∷◌, ◌++◌, map, length, get_or, take, drop, refl, sym, ap, ◌∙◌, subst, arith, append_assoc}
+use Rattle.std.proofs.Common.{◌≡◌, ℕ, zero, suc, ◌<◌, ◌≤◌, true, cond, List, [], ◌∷◌, ◌++◌, map, length, get_or, take, drop, refl, sym, ap, ◌∙◌, subst, arith, append_assoc, append-nil}
 use Rattle.zi_formula.specs.declared.formula.Lit.{Lit}
 use Rattle.zi_formula.specs.declared.formula.Constraint.{Constraint}
 use Rattle.zi_formula.specs.declared.formula.Constraint.TheVariants.{Clause}
@@ -28,7 +28,7 @@ use Rattle.zi_sat.proofs.FreshStep.{AllFalse, open_not_false, open_not_true, fal
 use Rattle.zi_sat.proofs.ChainLaws.{explained_now}
 use Rattle.zi_sat.proofs.ReachLaws.{split_at, chained_drop, open_drop, front_inside}
 use Rattle.zi_sat.proofs.PlaceLaws.{none_after}
-use Rattle.zi_sat.proofs.LessonLaws.{among_open, among-append, lesson_accepted, lesson_lean, lesson_new, hush_marked, held_false, among_true}
+use Rattle.zi_sat.proofs.LessonLaws.{among_open, among-append, lesson_accepted, lesson_lean, lesson_new, hush_marked, held_false, among_true, one_only}
 
 explains : (all : List Constraint) (es : List Entry) (i : ℕ) (m : Known) (hs : List ℕ) → Chained all nothing es → OpenAll nothing (lits_of es) → Reached all es i m hs → Explains all (known_from (take i es)) m hs
 explains all es i m hs c o r =
@@ -45,12 +45,8 @@ grown_follows f n ms ns es i m hs e w c o a r g =
     let acc : lemma_accepted f ms (lesson m (lits_of es) hs) ≡ true = lesson_accepted f ms (lits_of es) (known_from (take i es)) m hs o (subst (λ k. InAll k (lits_of es)) e a) (on_trail all es i m hs o r) r.inside (explains all es i m hs c o r) in
     subst (λ xs. follows f xs ≡ true) (sym g) (follows_push f [] ms (lesson m (lits_of es) hs) w acc)
 
-nil_lemmas : (ms : List Lemma) → ms ++ [] ≡ ms
-nil_lemmas [] = refl
-nil_lemmas (m ∷ ms) = ap (λ xs. m ∷ xs) (nil_lemmas ms)
-
 lean_push : (cs : List Constraint) (es ms : List Lemma) (m : Lemma) → LeanAfter cs es ms → LeanBy (citable cs (es ++ ms)) m → LeanAfter cs es (ms ++ m ∷ [])
-lean_push cs es [] m l b = (subst (λ xs. LeanBy (citable cs xs) m) (nil_lemmas es) b, tt)
+lean_push cs es [] m l b = (subst (λ xs. LeanBy (citable cs xs) m) (append-nil es) b, tt)
 lean_push cs es (n ∷ ms) m l b =
     (l.0, lean_push cs (es ++ n ∷ []) ms m l.1 (subst (λ xs. LeanBy (citable cs xs) m) (sym (append_assoc es (n ∷ []) ms)) b))
 
@@ -99,10 +95,6 @@ take_less (e ∷ es) zero b h = refl
 take_less (e ∷ es) (suc a) zero h = absurd (omega (arith, h))
 take_less (e ∷ es) (suc a) (suc b) h = ap (λ xs. e ∷ xs) (take_less es a b (omega arith))
 
-nil_lits : (xs : List Lit) → xs ++ [] ≡ xs
-nil_lits [] = refl
-nil_lits (x ∷ xs) = ap (λ ys. x ∷ ys) (nil_lits xs)
-
 among_split : (m : Known) (es : List Entry) (i : ℕ) → among m (lits_of es) ≡ among m (lits_of (take i es)) ++ among m (lits_of (drop i es))
 among_split m es i =
     ap (among m) (sym (split_lits es i)) ∙ among-append m (lits_of (take i es)) (lits_of (drop i es))
@@ -110,13 +102,8 @@ among_split m es i =
 -- up to the place that stays the marked literals are all but the one
 all_but_one : (m : Known) (es : List Entry) (start keep : ℕ) (u : Lit) → keep ≤ start → among m (lits_of (drop keep (take start es))) ≡ [] → among m (lits_of (drop start es)) ≡ u ∷ [] → among m (lits_of es) ≡ among m (lits_of (take keep es)) ++ u ∷ []
 all_but_one m es start keep u h n e =
-    let front : among m (lits_of (take start es)) ≡ among m (lits_of (take keep es)) = among_split m (take start es) keep ∙ (ap (λ xs. among m (lits_of (take keep (take start es))) ++ xs) n ∙ (nil_lits (among m (lits_of (take keep (take start es)))) ∙ ap (λ xs. among m (lits_of xs)) (take_less es keep start h))) in
+    let front : among m (lits_of (take start es)) ≡ among m (lits_of (take keep es)) = among_split m (take start es) keep ∙ (ap (λ xs. among m (lits_of (take keep (take start es))) ++ xs) n ∙ (append-nil (among m (lits_of (take keep (take start es)))) ∙ ap (λ xs. among m (lits_of xs)) (take_less es keep start h))) in
     among_split m es start ∙ (ap (λ xs. xs ++ among m (lits_of (drop start es))) front ∙ ap (λ xs. among m (lits_of (take keep es)) ++ xs) e)
-
-one_only : (ls : List Lit) → length ls ≡ 1 → (u : Lit) × (ls ≡ u ∷ [])
-one_only [] e = absurd (omega (arith, e))
-one_only (l ∷ []) e = (l, refl)
-one_only (l ∷ m ∷ ls) e = absurd (omega (arith, e))
 
 pub learned_hushed : (cs : List Constraint) (ms ns : List Lemma) (es fs : List Entry) (start keep : ℕ) → Hushed (citable cs ms) nothing es → OpenAll nothing (lits_of es) → Learned (citable cs ms) es start keep ms ns → fs ≡ take keep es → Hushed (citable cs ns) nothing fs
 learned_hushed cs ms ns es fs start keep hush o l f =

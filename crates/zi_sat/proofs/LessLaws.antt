@@ -1,25 +1,21 @@
 -- A hint walked from less than the trail knew: what the analysis of a conflict needs, since its lemma's hints are
 -- only some of the trail's.
 use Rattle.std.proofs.Common.{◌≡◌, ℕ, Bool, true, false, not, eqb, cond, List, [], ◌∷◌, refl, sym, ap, ◌∙◌, subst, arith, Option, Some, None, ◌⊎◌, inl, inr}
-use Rattle.std.proofs.lemmas.Bool.{false≢true}
+use Rattle.std.proofs.lemmas.Bool.{false≢true, cases_Bool}
 use Rattle.std.proofs.lemmas.Bool.Decides.{nat_tests}
-use Rattle.zi_sat.proofs.CountLaws.{eqb_self}
 use Rattle.zi_formula.specs.declared.formula.Lit.{Lit}
 use Rattle.zi_proof.specs.Known.{Known, put, says, is_open, is_true, is_false, Fails, Goes, standing, by_standing, clause_step, deny, deny_all, true_ones, by_true_ones, group_step}
-use Rattle.zi_sat.proofs.GroupLaws.{not_x, In}
+use Rattle.zi_sat.proofs.GroupLaws.{not_x, In, true_cond}
 use Rattle.zi_sat.specs.Marking.{Inside}
+use Rattle.zi_proof.proofs.Sound.{says_some}
+use Rattle.zi_sat.proofs.FreshStep.{says_open}
+use Rattle.zi_proof.proofs.CutLaws.{test_same}
+use Rattle.zi_sat.proofs.TrailLaws.{open_none}
 
 -- every literal but one is false
 abbrev pub FalseBut : Known → Lit → List Lit → Type 0
 FalseBut w l [] = Unit {0}
 FalseBut w l (m ∷ ms) = ((is_false w m ≡ true) ⊎ (m ≡ l)) × FalseBut w l ms
-
-pub says_some : (o : Option Bool) (b : Bool) → says o b ≡ true → o ≡ Some b
-says_some None b e = let x : ◌≡◌ {A = Bool} false true = e in cc
-says_some (Some true) true e = refl
-says_some (Some true) false e = let x : ◌≡◌ {A = Bool} false true = e in cc
-says_some (Some false) true e = let x : ◌≡◌ {A = Bool} false true = e in cc
-says_some (Some false) false e = refl
 
 pub some_says : (b : Bool) → says (Some b) b ≡ true
 some_says true = refl
@@ -28,10 +24,6 @@ some_says false = refl
 pub says_within : (w k : Known) (x : ℕ) (b : Bool) → Inside w k → says (w x) b ≡ true → says (k x) b ≡ true
 says_within w k x b h e = ap (λ o. says o b) (h x b (says_some (w x) b e)) ∙ some_says b
 
-open_says : (o : Option Bool) (b : Bool) → is_open o ≡ true → says o b ≡ false
-open_says None b h = refl
-open_says (Some c) b h = absurd (false≢true h)
-
 open_within_case : (o r : Option Bool) → ((b : Bool) → o ≡ Some b → r ≡ Some b) → is_open r ≡ true → is_open o ≡ true
 open_within_case None r h e = refl
 open_within_case (Some b) r h e = absurd (false≢true (sym (ap is_open (h b refl)) ∙ e))
@@ -39,18 +31,14 @@ open_within_case (Some b) r h e = absurd (false≢true (sym (ap is_open (h b ref
 pub open_within : (w k : Known) (x : ℕ) → Inside w k → is_open (k x) ≡ true → is_open (w x) ≡ true
 open_within w k x h e = open_within_case (w x) (k x) (h x) e
 
-pub bool_cases : (b : Bool) → (b ≡ true) ⊎ (b ≡ false)
-bool_cases true = inl refl
-bool_cases false = inr refl
-
 -- a literal that isn't false where more is known isn't false where less is known
-not_false_within : (w k : Known) (m : Lit) → Inside w k → is_false k m ≡ false → is_false w m ≡ false
-not_false_within w k m h e = elim (bool_cases (is_false w m)) [ inr f ↦ f | inl t ↦ absurd (false≢true (sym e ∙ says_within w k m.variable (not m.positive) h t)) ]
+pub not_false_within : (w k : Known) (m : Lit) → Inside w k → is_false k m ≡ false → is_false w m ≡ false
+not_false_within w k m h e = elim (cases_Bool (is_false w m)) [ inr f ↦ f | inl t ↦ absurd (false≢true (sym e ∙ says_within w k m.variable (not m.positive) h t)) ]
 
 false_step : (w k : Known) (l m : Lit) → Inside w k → is_open (k l.variable) ≡ true → is_false k m ≡ true → (is_false w m ≡ true) ⊎ (m ≡ l) → is_false w m ≡ true
 false_step w k l m h o e (inl f) = f
 false_step w k l m h o e (inr s) =
-    absurd (false≢true (sym (open_says (k l.variable) (not l.positive) o) ∙ (ap (λ z. is_false k z) (sym s) ∙ e)))
+    absurd (false≢true (sym (says_open (k l.variable) (not l.positive) o) ∙ (ap (λ z. is_false k z) (sym s) ∙ e)))
 
 same_cond : (a b : Bool) (m : Lit) (xs ys : List Lit) → a ≡ b → xs ≡ ys → cond a xs (m ∷ xs) ≡ cond b ys (m ∷ ys)
 same_cond a b m xs ys e f = ap (λ c. cond c xs (m ∷ xs)) e ∙ ap (λ zs. cond b zs (m ∷ zs)) f
@@ -64,7 +52,7 @@ standing_sub w k l [] h o f = refl
 standing_sub w k l (m ∷ ls) h o f =
     same_cond (is_false w m) (is_false k m) m (standing w ls) (standing k ls) (standing_sub_case w k l m (is_false k m) h o refl f.0) (standing_sub w k l ls h o f.1)
 
-put_within_case : (w k : Known) (l : Lit) (x : ℕ) (b t : Bool) → Inside w k → cond t (Some l.positive) (w x) ≡ Some b → cond t (Some l.positive) (k x) ≡ Some b
+pub put_within_case : (w k : Known) (l : Lit) (x : ℕ) (b t : Bool) → Inside w k → cond t (Some l.positive) (w x) ≡ Some b → cond t (Some l.positive) (k x) ≡ Some b
 put_within_case w k l x b true h e = e
 put_within_case w k l x b false h e = h x b e
 
@@ -72,7 +60,7 @@ put_within_case w k l x b false h e = h x b e
 pub clause_sub : (w k : Known) (l : Lit) (ls : List Lit) → Inside w k → is_open (k l.variable) ≡ true → standing k ls ≡ l ∷ [] → FalseBut w l ls → (clause_step w ls ≡ Goes (put w l)) × Inside (put w l) (put k l)
 clause_sub w k l ls h o s f =
     let st : standing w ls ≡ l ∷ [] = standing_sub w k l ls h o f ∙ s in
-    let t : is_true w l ≡ false = open_says (w l.variable) l.positive (open_within w k l.variable h o) in
+    let t : is_true w l ≡ false = says_open (w l.variable) l.positive (open_within w k l.variable h o) in
     (ap (by_standing w) st ∙ ap (λ b. cond b Fails (Goes (put w l))) t, λ x b e. put_within_case w k l x b (eqb x l.variable) h e)
 
 -- groups
@@ -100,7 +88,7 @@ self_false_case k x true h = refl
 self_false_case k x false h = absurd (false≢true h)
 
 deny_self_case : (k : Known) (x : ℕ) (t : Bool) → is_open (k x) ≡ t → k x ≡ None → (cond t (put k (not_x x)) k) x ≡ Some false
-deny_self_case k x true e h = self_false_case k x (eqb x x) (eqb_self x)
+deny_self_case k x true e h = self_false_case k x (eqb x x) (test_same x)
 deny_self_case k x false e h = absurd (false≢true (sym e ∙ ap is_open h))
 
 deny_or_put : (k : Known) (x : ℕ) (s : Bool) → k x ≡ None → (cond s (Some false) (k x) ≡ None) ⊎ (cond s (Some false) (k x) ≡ Some false)
@@ -121,15 +109,11 @@ deny_at k (y ∷ xs) x h (inl e) =
 deny_at k (y ∷ xs) x h (inr i) =
     elim (deny_keeps_or k y x h) [ inl n ↦ deny_at (deny k y) xs x n i | inr f ↦ deny_all_keeps (deny k y) xs x false f ]
 
-none_is_some : (b : Bool) → ◌≡◌ {A = Option Bool} None (Some b) → ⊥
+pub none_is_some : (b : Bool) → ◌≡◌ {A = Option Bool} None (Some b) → ⊥
 none_is_some b e = cc
 
 abbrev pub Made : Known → List ℕ → ℕ → Bool → Type 0
 Made w xs x b = (w x ≡ Some b) ⊎ ((w x ≡ None) × In x xs × (b ≡ false))
-
-pub none_or : (o : Option Bool) → is_open o ≡ true → o ≡ None
-none_or None h = refl
-none_or (Some b) h = absurd (false≢true h)
 
 false_is : (b : Bool) → ◌≡◌ {A = Option Bool} (Some false) (Some b) → b ≡ false
 false_is b e = cc
@@ -141,7 +125,7 @@ made_put_case w y x xs b true e n h =
 made_put_case w y x xs b false e n h = inl h
 
 made_deny_case : (w : Known) (y x : ℕ) (xs : List ℕ) (b t : Bool) → is_open (w y) ≡ t → (cond t (put w (not_x y)) w) x ≡ Some b → Made w (y ∷ xs) x b
-made_deny_case w y x xs b true e h = made_put_case w y x xs b (eqb x y) refl (none_or (w y) e) h
+made_deny_case w y x xs b true e h = made_put_case w y x xs b (eqb x y) refl (open_none (w y) e) h
 made_deny_case w y x xs b false e h = inl h
 
 some_none : (o : Option Bool) (t : Bool) → t ≡ true → cond t (Some false) o ≡ None → o ≡ None
@@ -169,22 +153,19 @@ OnlyTrue k xs t = (y : ℕ) → In y xs → says (k y) true ≡ true → y ≡ t
 true_same_case : (w k : Known) (y t : ℕ) (b : Bool) → Inside w k → w t ≡ Some true → says (k y) true ≡ b → (b ≡ true → y ≡ t) → says (w y) true ≡ b
 true_same_case w k y t true h e f o = ap (λ z. says (w z) true) (o refl) ∙ ap (λ v. says v true) e
 true_same_case w k y t false h e f o =
-    elim (bool_cases (says (w y) true)) [ inr g ↦ g | inl g ↦ absurd (false≢true (sym f ∙ says_within w k y true h g)) ]
-
-same_ones : (a b : Bool) (x : ℕ) (xs ys : List ℕ) → a ≡ b → xs ≡ ys → cond a (x ∷ xs) xs ≡ cond b (x ∷ ys) ys
-same_ones a b x xs ys e f = ap (λ c. cond c (x ∷ xs) xs) e ∙ ap (λ zs. cond b (x ∷ zs) zs) f
+    elim (cases_Bool (says (w y) true)) [ inr g ↦ g | inl g ↦ absurd (false≢true (sym f ∙ says_within w k y true h g)) ]
 
 ones_sub : (w k : Known) (xs : List ℕ) (t : ℕ) → Inside w k → w t ≡ Some true → OnlyTrue k xs t → true_ones w xs ≡ true_ones k xs
 ones_sub w k [] t h e o = refl
 ones_sub w k (y ∷ xs) t h e o =
-    same_ones (says (w y) true) (says (k y) true) y (true_ones w xs) (true_ones k xs) (true_same_case w k y t (says (k y) true) h e refl (λ z. o y (inl refl) z)) (ones_sub w k xs t h e (λ z i s. o z (inr i) s))
+    true_cond (says (w y) true) (says (k y) true) y (true_ones w xs) (true_ones k xs) (true_same_case w k y t (says (k y) true) h e refl (λ z. o y (inl refl) z)) (ones_sub w k xs t h e (λ z i s. o z (inr i) s))
 
 denied_within_case : (w k : Known) (xs : List ℕ) (t x : ℕ) (b : Bool) → Inside w k → w t ≡ Some true → OnlyTrue k xs t → Made w xs x b → deny_all k xs x ≡ Some b
 denied_within_case w k xs t x b h e o (inl s) = deny_all_keeps k xs x b (h x b s)
 denied_within_case w k xs t x b h e o (inr (n, i, f)) =
     subst (λ c. deny_all k xs x ≡ Some c) (sym f) (elim (false_open (k x)) [
       | inl z ↦ deny_at k xs x z i
-      | inr (c, z) ↦ elim (bool_cases c) [
+      | inr (c, z) ↦ elim (cases_Bool c) [
         | inr q ↦ deny_all_keeps k xs x false (z ∙ ap Some q)
         | inl q ↦
             let y : x ≡ t = o x i (ap (λ u. says u true) (z ∙ ap Some q)) in

@@ -1,7 +1,7 @@
 -- Trails that came about rightly: longer, shorter, under more lemmas, and what they refute.
-use Rattle.std.proofs.Common.{◌≡◌, ℕ, zero, suc, ◌<◌, ◌≤◌, Bool, true, false, not, ◌&&◌, eqb, leb, cond, List, [], ◌∷◌, ◌++◌, map, length, get_or, take, refl, sym, ap, ap₂, ◌∙◌, subst, arith, Option, Some, None, inl, inr, append_assoc, length-append}
+use Rattle.std.proofs.Common.{◌≡◌, ℕ, zero, suc, ◌<◌, ◌≤◌, Bool, true, false, not, ◌&&◌, eqb, leb, cond, List, [], ◌∷◌, ◌++◌, map, length, get_or, take, refl, sym, ap, ap₂, ◌∙◌, subst, arith, Option, Some, None, inl, inr, append_assoc, length-append, append-nil}
 use Rattle.std.specs.List.{slice_get}
-use Rattle.std.proofs.lemmas.Bool.{false≢true}
+use Rattle.std.proofs.lemmas.Bool.{false≢true, and_parts}
 use Rattle.std.proofs.lemmas.Bool.Decides.{nat_tests}
 use Rattle.zi_formula.specs.declared.formula.Lit.{Lit}
 use Rattle.zi_formula.specs.declared.formula.Constraint.{Constraint}
@@ -17,18 +17,9 @@ use Rattle.zi_sat.specs.Trail.{lits_of, learn, known_from, OpenAll, InAll, all_s
 use Rattle.zi_sat.specs.Moves.{Move, Decide, Apply, hinted, entries_of, Applies, Right, Implied, Added, Lawful}
 use Rattle.zi_sat.proofs.TrailLaws.{lits-append, learn-append, known-append}
 use Rattle.zi_sat.proofs.GroupLaws.{lits-hinted}
-
-pub and_left : (a b : Bool) → a && b ≡ true → a ≡ true
-and_left true b h = refl
-and_left false b h = cc
-
-pub and_right : (a b : Bool) → a && b ≡ true → b ≡ true
-and_right true b h = h
-and_right false b h = cc
-
-pub append_nil : (e : List Lemma) → e ++ [] ≡ e
-append_nil [] = refl
-append_nil (m ∷ e) = ap (λ x. m ∷ x) (append_nil e)
+use Rattle.zi_sat.proofs.WatchLaws.{not_twice}
+use Rattle.zi_sat.proofs.EntryLaws.{lits-hinted as lits-apply}
+use Rattle.zi_sat.proofs.FreshStep.{says_open}
 
 -- walking
 
@@ -44,9 +35,6 @@ pub open_weaker : (k g : Known) (ds : List Lit) → ((x : ℕ) → is_open (g x)
 open_weaker k g [] h o = tt
 open_weaker k g (d ∷ ds) h o =
     (h d.variable o.0, open_weaker (put k d) (put g d) ds (λ x p. put_more_case k g d x (eqb x d.variable) (h x) p) o.1)
-
-lits-apply : (h : ℕ) (ls : List Lit) (es : List Entry) → lits_of (hinted h ls ++ es) ≡ ls ++ lits_of es
-lits-apply h ls es = lits-append (hinted h ls) es ∙ ap (λ ms. ms ++ lits_of es) (lits-hinted h ls)
 
 pub open_rest : (k : Known) (h : ℕ) (ls : List Lit) (es : List Entry) → OpenAll k (lits_of (hinted h ls ++ es)) → OpenAll (learn k ls) (lits_of es)
 open_rest k h ls es o = open_split k ls (lits_of es) (subst (OpenAll k) (lits-apply h ls es) o)
@@ -139,22 +127,14 @@ lawful_more cs ms m chooses es (ns, e, r) =
 
 -- lemmas of all decisions
 
-not_not : (b : Bool) → not (not b) ≡ b
-not_not true = refl
-not_not false = refl
-
 pub twice : (ls : List Lit) → map opposite (map opposite ls) ≡ ls
 twice [] = refl
-twice (l ∷ ls) = ap₂ (λ b ms. record { variable = l.variable; positive = b } ∷ ms) (not_not l.positive) (twice ls)
-
-open_not_false : (o : Option Bool) (b : Bool) → is_open o ≡ true → says o b ≡ false
-open_not_false None b h = refl
-open_not_false (Some c) b h = absurd (false≢true h)
+twice (l ∷ ls) = ap₂ (λ b ms. record { variable = l.variable; positive = b } ∷ ms) (not_twice l.positive) (twice ls)
 
 pub assume_open : (k : Known) (ls : List Lit) → OpenAll k ls → assume k ls ≡ Some (learn k ls)
 assume_open k [] o = refl
 assume_open k (l ∷ ls) o =
-    ap (λ b. cond b None (assume (put k l) ls)) (open_not_false (k l.variable) (not l.positive) o.0) ∙ assume_open (put k l) ls o.1
+    ap (λ b. cond b None (assume (put k l) ls)) (says_open (k l.variable) (not l.positive) o.0) ∙ assume_open (put k l) ls o.1
 
 leb_means : (a b : ℕ) → a ≤ b → leb a b ≡ true
 leb_means a b h = grind (arith, nat_tests)
@@ -170,12 +150,12 @@ accepted_by f ms ls hs i o w =
 
 pub follows_push : (f : Formula) (e ms : List Lemma) (m : Lemma) → follows_after f e ms ≡ true → lemma_accepted f (e ++ ms) m ≡ true → follows_after f e (ms ++ m ∷ []) ≡ true
 follows_push f e [] m h a =
-    let b : lemma_accepted f e m ≡ true = ap (λ x. lemma_accepted f x m) (sym (append_nil e)) ∙ a in
+    let b : lemma_accepted f e m ≡ true = ap (λ x. lemma_accepted f x m) (sym (append-nil e)) ∙ a in
     ap (λ c. c && true) b
 follows_push f e (n ∷ ms) m h a =
-    let l : lemma_accepted f e n ≡ true = and_left (lemma_accepted f e n) (follows_after f (e ++ n ∷ []) ms) h in
+    let l : lemma_accepted f e n ≡ true = (and_parts (lemma_accepted f e n) (follows_after f (e ++ n ∷ []) ms) h).0 in
     let b : lemma_accepted f ((e ++ n ∷ []) ++ ms) m ≡ true = ap (λ x. lemma_accepted f x m) (append_assoc e (n ∷ []) ms) ∙ a in
-    ap (λ c. c && follows_after f (e ++ n ∷ []) (ms ++ m ∷ [])) l ∙ follows_push f (e ++ n ∷ []) ms m (and_right (lemma_accepted f e n) (follows_after f (e ++ n ∷ []) ms) h) b
+    ap (λ c. c && follows_after f (e ++ n ∷ []) (ms ++ m ∷ [])) l ∙ follows_push f (e ++ n ∷ []) ms m (and_parts (lemma_accepted f e n) (follows_after f (e ++ n ∷ []) ms) h).1 b
 
 -- one hint more
 
@@ -184,10 +164,6 @@ implied-append all k [] ns i j = j
 implied-append all k (Decide l ∷ ms) ns i j = absurd i
 implied-append all k (Apply h ls ∷ ms) ns i j =
     (i.0, implied-append all (learn k ls) ms ns i.1 (subst (λ g. Implied all g ns) (known-moves k h ls (entries_of ms)) j))
-
-pub nil_after : (es : List Entry) → es ++ [] ≡ es
-nil_after [] = refl
-nil_after (e ∷ es) = ap (λ x. e ∷ x) (nil_after es)
 
 length-hinted : (h : ℕ) (ls : List Lit) → length (hinted h ls) ≡ length ls
 length-hinted h [] = refl
@@ -201,7 +177,7 @@ pub added_more : (all : List Constraint) (es fs gs : List Entry) (h : ℕ) (ls :
 added_more all es fs gs h ls (ms, f, i) g a =
     let now : known_from fs ≡ learn (known_from es) (lits_of (entries_of ms)) = ap known_from f ∙ known-append es (entries_of ms) in
     let last : Implied all (learn (known_from es) (lits_of (entries_of ms))) (Apply h ls ∷ []) = (subst (λ k. Applies all k h ls) now a, tt) in
-    let ends : entries_of (ms ++ Apply h ls ∷ []) ≡ entries_of ms ++ hinted h ls = entries-append ms (Apply h ls ∷ []) ∙ ap (λ x. entries_of ms ++ x) (nil_after (hinted h ls)) in
+    let ends : entries_of (ms ++ Apply h ls ∷ []) ≡ entries_of ms ++ hinted h ls = entries-append ms (Apply h ls ∷ []) ∙ ap (λ x. entries_of ms ++ x) (append-nil (hinted h ls)) in
     (ms ++ Apply h ls ∷ [], g ∙ (ap (λ x. x ++ hinted h ls) f ∙ (append_assoc es (entries_of ms) (hinted h ls) ∙ ap (λ x. es ++ x) (sym ends))), implied-append all (known_from es) ms (Apply h ls ∷ []) i last)
 
 pub added_all : (all : List Constraint) (es fs gs : List Entry) → Added all es fs → Added all fs gs → Added all es gs
@@ -210,4 +186,4 @@ added_all all es fs gs (ms, f, i) (ns, g, j) =
     (ms ++ ns, g ∙ (ap (λ x. x ++ entries_of ns) f ∙ (append_assoc es (entries_of ms) (entries_of ns) ∙ ap (λ x. es ++ x) (sym (entries-append ms ns)))), implied-append all (known_from es) ms ns i (subst (λ k. Implied all k ns) now j))
 
 pub added_none : (all : List Constraint) (es : List Entry) → Added all es es
-added_none all es = ([], sym (nil_after es), tt)
+added_none all es = ([], sym (append-nil es), tt)

@@ -3,7 +3,6 @@ use Rattle.std.proofs.Common.{◌≡◌, ℕ, suc, ◌<◌, ◌≤◌, ◌+◌, 
 use Rattle.std.specs.List.{slice_get}
 use Rattle.std.proofs.lemmas.Bool.{false≢true, cases_eq}
 use Rattle.std.proofs.lemmas.List.{take-append-le}
-use Rattle.zi_sat.proofs.CountLaws.{eqb_self}
 use Rattle.zi_formula.specs.declared.formula.Lit.{Lit}
 use Rattle.zi_formula.specs.declared.formula.Formula.{Formula}
 use Rattle.zi_formula.specs.declared.formula.Constraint.{Constraint}
@@ -22,7 +21,7 @@ use Rattle.zi_sat.specs.Rows.{In, Has}
 use Rattle.zi_sat.specs.Watching.{Watches}
 use Rattle.zi_sat.specs.Guard.{pair_at, HeldPair, Held, Looked, Guard, Each, AllGuard, AllCalm, Firm, ShortSet, Ready}
 use Rattle.zi_sat.proofs.GroupLaws.{In as InGroup}
-use Rattle.zi_sat.proofs.FreshStep.{lit_self, lits_same}
+use Rattle.zi_sat.proofs.FreshStep.{lits_same}
 use Rattle.zi_sat.proofs.FreshLaws.{put_self, learn_extends, open_back}
 use Rattle.zi_sat.proofs.TrailLaws.{known-append, lits-append}
 use Rattle.zi_sat.proofs.LessLaws.{says_within}
@@ -32,6 +31,8 @@ use Rattle.zi_sat.proofs.GuardLaws.{once_at}
 use Rattle.zi_sat.specs.declared.entry.Why.TheVariants.{Decision}
 use Rattle.zi_sat.proofs.VisitLaws.{guard_more, added_inside}
 use Rattle.zi_sat.proofs.CalmLaws.{calm_added, calm_decided}
+use Rattle.zi_proof.proofs.CutLaws.{test_same}
+use Rattle.zi_sat.proofs.CountLaws.{lit_self}
 
 firm_case : (k : Known) (l : Lit) (s t : Bool) → is_true k l ≡ t → fails (by_standing k (cond s [] (l ∷ []))) ≡ true → is_true k l ≡ true
 firm_case k l true t e h = absurd (false≢true h)
@@ -120,7 +121,7 @@ group_in x (y ∷ ys) (inl e) = inl e
 group_in x (y ∷ ys) (inr i) = inr (group_in x ys i)
 
 group_looked : (k : Known) (xs : List ℕ) → Looked k k xs → LookedGroup k k xs
-group_looked k xs l = λ x y i j e n. l x y (group_in x xs i) (group_in y xs j) e (λ same. false≢true (sym n ∙ (ap (λ z. eqb z x) same ∙ eqb_self x)))
+group_looked k xs l = λ x y i j e n. l x y (group_in x xs i) (group_in y xs j) e (λ same. false≢true (sym n ∙ (ap (λ z. eqb z x) same ∙ test_same x)))
 
 held_silent : (h : ℕ → ℕ → Type 0) (k : Known) (all : List Constraint) (n : ℕ) (p : Option Pair) (c : Constraint) → OnceAll all → slice_get all n ≡ Some c → ShortSet k all → Held h n p c → Guard k k p c → silent k c ≡ true
 held_silent h k all n None (Clause ls) o e s d g = firm_silent k ls (s n ls e d)

@@ -1,6 +1,6 @@
 -- Two watched literals: a quiet pair makes its clause silent, and stays quiet at all earlier moments when a watch moves.
 use Rattle.std.proofs.Common.{◌≡◌, ℕ, zero, suc, Bool, true, false, not, eqb, cond, List, [], ◌∷◌, take, refl, sym, ap, ◌∙◌, subst, Option, Some, None, ◌⊎◌, inl, inr}
-use Rattle.std.proofs.lemmas.Bool.{false≢true}
+use Rattle.std.proofs.lemmas.Bool.{false≢true, cases_Bool, eqb-true}
 use Rattle.zi_formula.specs.declared.formula.Lit.{Lit}
 use Rattle.zi_formula.specs.declared.formula.Constraint.TheVariants.{Clause, AtMostOne}
 use Rattle.zi_formula.specs.Truth.{opposite}
@@ -14,9 +14,12 @@ use Rattle.zi_sat.proofs.GroupLaws.{In}
 use Rattle.zi_sat.specs.Fresh.{at_decision}
 use Rattle.zi_sat.specs.Marking.{Inside}
 use Rattle.zi_sat.specs.Watching.{FalseOr, Quiet, QuietBy, Watches, QuietAt}
-use Rattle.zi_sat.proofs.FreshStep.{stands_none, eqb_means, lits_same, lit_self, open_not_false, open_not_true}
+use Rattle.zi_sat.proofs.FreshStep.{stands_none, lits_same, open_not_false, open_not_true}
 use Rattle.zi_sat.proofs.FreshLaws.{put_extends, learn_extends}
-use Rattle.zi_sat.proofs.LessLaws.{says_some, says_within, bool_cases}
+use Rattle.zi_sat.proofs.LessLaws.{says_within, not_false_within}
+use Rattle.zi_sat.proofs.CountLaws.{or_case, head_in, lit_self}
+use Rattle.zi_proof.proofs.Sound.{says_some}
+use Rattle.zi_text.proofs.ListLaws.{heads, tails}
 
 -- what stands of a clause
 
@@ -59,20 +62,12 @@ true_not_false (Some true) false h = absurd (false≢true h)
 true_not_false (Some false) true h = absurd (false≢true h)
 true_not_false (Some false) false h = refl
 
-pub or_first : (b c : Bool) → b ≡ true → cond b true c ≡ true
-or_first true c e = refl
-or_first false c e = absurd (false≢true e)
-
-pub or_later : (b c : Bool) → c ≡ true → cond b true c ≡ true
-or_later true c e = refl
-or_later false c e = e
-
 keep_case : (k : Known) (m a : Lit) (ls : List Lit) (t s : Bool) → same_lit m a ≡ t → is_false k m ≡ s → cond t true (has_lit ls a) ≡ true → is_false k a ≡ false → (has_lit ls a ≡ true → has_lit (standing k ls) a ≡ true) → has_lit (cond s (standing k ls) (m ∷ standing k ls)) a ≡ true
 keep_case k m a ls true true e f h n r =
     absurd (false≢true (sym n ∙ (ap (is_false k) (sym (lits_same m a e)) ∙ f)))
 keep_case k m a ls false true e f h n r = r h
-keep_case k m a ls true false e f h n r = or_first (same_lit m a) (has_lit (standing k ls) a) e
-keep_case k m a ls false false e f h n r = or_later (same_lit m a) (has_lit (standing k ls) a) (r h)
+keep_case k m a ls true false e f h n r = head_in (same_lit m a) (has_lit (standing k ls) a) e
+keep_case k m a ls false false e f h n r = or_case (same_lit m a) (has_lit (standing k ls) a) (r h)
 
 still_there : (k : Known) (a : Lit) (ls : List Lit) → has_lit ls a ≡ true → is_false k a ≡ false → has_lit (standing k ls) a ≡ true
 still_there k a [] h n = h
@@ -113,19 +108,13 @@ quiet_silent k a b ls w (inr (inr n)) = two_silent k a b ls w.first w.second w.a
 
 -- When a watch that is false now moves to a literal that isn't false now, the pair is quiet at every earlier moment at which it was.
 
-pub not_false_before : (k g : Known) (l : Lit) → Inside k g → is_false g l ≡ false → is_false k l ≡ false
-not_false_before k g l i n = elim (bool_cases (is_false k l)) [
-  | inr f ↦ f
-  | inl t ↦ absurd (false≢true (sym n ∙ says_within k g l.variable (not l.positive) i t))
-]
-
 pub true_and_false : (g : Known) (l : Lit) → is_true g l ≡ true → is_false g l ≡ true → ⊥
 true_and_false g l t f = false≢true (sym (true_not_false (g l.variable) l.positive t) ∙ f)
 
 moved : (k g : Known) (a b z : Lit) → Inside k g → is_false g a ≡ true → is_false g z ≡ false → Quiet k a b → Quiet k z b
 moved k g a b z i f n (inl t) = absurd (true_and_false g a (says_within k g a.variable a.positive i t) f)
 moved k g a b z i f n (inr (inl t)) = inr (inl t)
-moved k g a b z i f n (inr (inr p)) = inr (inr (not_false_before k g z i n, p.1))
+moved k g a b z i f n (inr (inr p)) = inr (inr (not_false_within k g z i n, p.1))
 
 moved_why : (w : Why) (k g : Known) (a b z : Lit) → Inside k g → is_false g a ≡ true → is_false g z ≡ false → at_decision w (Quiet k a b) → at_decision w (Quiet k z b)
 moved_why Decision k g a b z i f n q = moved k g a b z i f n q
@@ -151,12 +140,12 @@ pushed q k g a b i (inr (inl t)) = inr (inl (says_within k g b.variable b.positi
 pushed q k g a b i (inr (inr n)) = inr (inr n)
 
 -- the next entry's literal is looked at: a pair that doesn't watch its opposite stays as it is
-says_same : (p b : Bool) → says (Some p) b ≡ true → p ≡ b
+pub says_same : (p b : Bool) → says (Some p) b ≡ true → p ≡ b
 says_same true b e = sym e
 says_same false true e = absurd (false≢true e)
 says_same false false e = refl
 
-not_twice : (b : Bool) → not (not b) ≡ b
+pub not_twice : (b : Bool) → not (not b) ≡ b
 not_twice true = refl
 not_twice false = refl
 
@@ -166,9 +155,9 @@ opposite_by a l e f =
     λ i. record { variable = e i; positive = s i }
 
 pub sign_case : (q : Known) (l a : Lit) (t : Bool) → eqb a.variable l.variable ≡ t → (a ≡ opposite l → ⊥) → is_false q a ≡ false → says (cond t (Some l.positive) (q a.variable)) (not a.positive) ≡ false
-sign_case q l a true e n f = elim (bool_cases (says (Some l.positive) (not a.positive))) [
+sign_case q l a true e n f = elim (cases_Bool (says (Some l.positive) (not a.positive))) [
   | inr g ↦ g
-  | inl g ↦ absurd (n (opposite_by a l (eqb_means a.variable l.variable e) (says_same l.positive (not a.positive) g)))
+  | inl g ↦ absurd (n (opposite_by a l (eqb-true a.variable l.variable e) (says_same l.positive (not a.positive) g)))
 ]
 sign_case q l a false e n f = f
 
@@ -192,7 +181,7 @@ all_case k x xs true e n a = absurd (n refl)
 all_case k x xs false e n a = a
 
 decided_by : (k : Known) (t x : ℕ) (b : Bool) → eqb x t ≡ b → says (k t) true ≡ true → (eqb x t ≡ false → k x ≡ Some false) → is_open (k x) ≡ true → ⊥
-decided_by k t x true e h f o = false≢true (sym (decided_true (k x) (ap (λ z. says (k z) true) (eqb_means x t e) ∙ h)) ∙ o)
+decided_by k t x true e h f o = false≢true (sym (decided_true (k x) (ap (λ z. says (k z) true) (eqb-true x t e) ∙ h)) ∙ o)
 decided_by k t x false e h f o = false≢true (sym (ap is_open (f e)) ∙ o)
 
 decided_all : (k : Known) (t : ℕ) (xs : List ℕ) → says (k t) true ≡ true → ((x : ℕ) → In x xs → eqb x t ≡ false → k x ≡ Some false) → all_decided k xs ≡ true
@@ -219,14 +208,8 @@ not_in : (x u : ℕ) (ys : List ℕ) → has_variable ys x ≡ false → In u ys
 not_in x u [] h i = absurd i
 not_in x u (y ∷ ys) h i = not_in_case y x u ys (eqb y x) refl h i (λ g j. not_in x u ys g j)
 
-head_of : (x t : ℕ) (xs ts : List ℕ) → x ∷ xs ≡ t ∷ ts → x ≡ t
-head_of x t xs ts e = cc
-
-rest_ones : (x t : ℕ) (xs ts : List ℕ) → x ∷ xs ≡ t ∷ ts → xs ≡ ts
-rest_ones x t xs ts e = cc
-
 tail_ones : (x t : ℕ) (xs ts : List ℕ) → x ∷ xs ≡ t ∷ ts → (x ≡ t) × (xs ≡ ts)
-tail_ones x t xs ts e = (head_of x t xs ts e, rest_ones x t xs ts e)
+tail_ones x t xs ts e = (heads x t xs ts e, tails x t xs ts e)
 
 apart_case : (k : Known) (x t u : ℕ) (xs ts : List ℕ) (b : Bool) → cond b (x ∷ true_ones k xs) (true_ones k xs) ≡ t ∷ u ∷ ts → has_variable xs x ≡ false → (true_ones k xs ≡ t ∷ u ∷ ts → eqb u t ≡ false) → eqb u t ≡ false
 apart_case k x t u xs ts true e h r =

@@ -7,6 +7,7 @@ use Rattle.std.proofs.lemmas.List.{drop_all, map-append}
 use Rattle.std.proofs.lemmas.List.Elements.{filter-append}
 use Rattle.std.proofs.lemmas.Grind.{flat_map-append}
 use Rattle.std.proofs.lemmas.Slice.Eq.{bytes_eq-Decides}
+use Rattle.std.specs.Cmp.{both_ways}
 use Rattle.zi_elements.specs.declared.element.Element.{Element}
 use Rattle.zi_elements.specs.Forest.{Elem, elements, element_view, value}
 use Rattle.zi_address.specs.Texts.{same}
@@ -16,30 +17,14 @@ use Rattle.zi_reading.specs.Views.{views}
 use Rattle.zi_reading.proofs.NodeLaws.{drop_turn}
 use Rattle.zi_sels.specs.declared.types.Selection.{Selection}
 use Rattle.zi_sels.specs.Refused.{asks, asks_within, asking_at, asking_in, unmet}
-
-both_ways : (a b : Bool) → (a ≡ true → b ≡ true) → (b ≡ true → a ≡ true) → a ≡ b
-both_ways true b p q = sym (p refl)
-both_ways false true p q = q refl
-both_ways false false p q = refl
-
-pub flip : (x y : List ℕ) → bytes_eq x y ≡ bytes_eq y x
-flip x y = both_ways (bytes_eq x y) (bytes_eq y x)
-    (λ h. (bytes_eq-Decides y x).1 (sym ((bytes_eq-Decides x y).0 h)))
-    (λ h. (bytes_eq-Decides x y).1 (sym ((bytes_eq-Decides y x).0 h)))
-
-last_one : (a : Bool) → (a || false) ≡ cond a true false
-last_one true = refl
-last_one false = refl
-
-later_one : (first last others : Bool) → (first || cond last true others) ≡ cond last true (first || others)
-later_one true true others = refl
-later_one true false others = refl
-later_one false last others = refl
+use Rattle.zi_feed.proofs.LatestLaws.{text_swap}
+use Rattle.zi_faults.proofs.RepeatLaws.{views_next}
+use Rattle.zi_sels.proofs.UsedLemmas.{last_one, later_one}
 
 -- one more is known
 pub among_more : (names : List (List ℕ)) (x q : List ℕ) → is_among (names ++ x ∷ []) q ≡ cond (bytes_eq x q) true (is_among names q)
 unfolding is_among same
-among_more [] x q = ap (λ v. v || false) (flip q x) ∙ last_one (bytes_eq x q)
+among_more [] x q = ap (λ v. v || false) (text_swap q x) ∙ last_one (bytes_eq x q)
 among_more (y ∷ names) x q =
     ap (λ v. bytes_eq q y || v) (among_more names x q) ∙ later_one (bytes_eq q y) (bytes_eq x q) (is_among names q)
 
@@ -67,7 +52,7 @@ fresh_twice contains items i x t h is named old f = sym (turn items i x t.now f.
 
 same_is : (x q : List ℕ) → same q x ≡ bytes_eq x q
 unfolding same
-same_is x q = flip q x
+same_is x q = text_swap q x
 
 pub fresh_next : (before after : Bor (List ℕ) → Bool) (items : List Selection) (i : ℕ) (x : Selection) (t : Bor (List ℕ)) → i < length items → x ≡ get_or items i x → t.now ≡ x.interface
     → before t ≡ false → ((q : Bor (List ℕ)) → after q ≡ (bytes_eq t.now q.now || before q)) → Fresh before items i → Fresh after items (i + 1)
@@ -105,16 +90,13 @@ found (Some z) y x total h e = sym h ∙ e
 
 -- Over elements, where each gives some elements that may ask.
 
-views_turn : (es : List (Bor Element)) (i : ℕ) (x : Bor Element) → i < length es → x ≡ get_or es i x → views (drop i es) ≡ element_view x.now ∷ views (drop (i + 1) es)
-views_turn es i x h is = ap (λ (v : List (Bor Element)). views v) (drop_turn es i x h is)
-
 at_part : (names : List (List ℕ)) (give : List Elem → List Elem) (es : List (Bor Element)) (i : ℕ) (x : Bor Element) (total : Option (List ℕ))
     → ((d : Elem) (ds : List Elem) → give (d ∷ ds) ≡ give (d ∷ []) ++ give ds)
     → i < length es → x ≡ get_or es i x → first (unmet names (give (views (drop i es)))) ≡ total
     → option_or (first (unmet names (give (element_view x.now ∷ [])))) (first (unmet names (give (views (drop (i + 1) es))))) ≡ total
 at_part names give es i x total step h is kept =
     let later : List Elem = views (drop (i + 1) es) in
-    sym (ap (λ v. first (unmet names (give v))) (views_turn es i x h is)
+    sym (ap (λ v. first (unmet names (give v))) (views_next es i x h is)
     ∙ (ap (λ v. first (unmet names v)) (step (element_view x.now) later) ∙ first_unmet names (give (element_view x.now ∷ [])) (give later)))
     ∙ kept
 

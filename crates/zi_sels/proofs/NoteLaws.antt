@@ -164,10 +164,6 @@ neither (Some f) (Some g) h = absurd (one_of (is_first f g) h)
     one_of true e = cc e
     one_of false e = cc e
 
-pub nothing_wrong : (fs : List Fault) → least fs ≡ None → fs ≡ []
-nothing_wrong [] h = refl
-nothing_wrong (f ∷ fs) h = let p : (Some f ≡ None) × (least fs ≡ None) = neither (Some f) (least fs) h in absurd (cc (p.0))
-
 pub all_right : (fault_of : Elem → Option Fault) (es : List Elem) → faults_of fault_of es ≡ [] → right fault_of es ≡ es
 all_right fault_of [] h = refl
 all_right fault_of (e ∷ es) h = by_fault (fault_of e) refl h (λ none. all_right fault_of es none)

@@ -1,5 +1,6 @@
 -- Bytes say one value or have one fault.
 use Rattle.std.proofs.Common.{◌≡◌, ℕ, ◌⊎◌, inl, inr, List, Option, Some, None, Result, Ok, Err, IfOk, IfErr, refl, sym, ap, ◌∙◌}
+use Rattle.std.proofs.lemmas.Option.{same_Some}
 use Rattle.zi_elements.specs.declared.element.Element.{Element}
 use Rattle.zi_elements.specs.Forest.{element_view}
 use Rattle.zi_doc.specs.Documents as doc
@@ -42,14 +43,11 @@ tree_of : (w : List ℕ) → docs.IsSettled w → (t u : Element) (f g : Option 
     → tree_fault (element_view t) ≡ f → tree_fault (element_view u) ≡ g → f ≡ g
 tree_of w one t u f g st su p q = sym p ∙ (ap (λ v. tree_fault (element_view v)) (one.tree t u st su) ∙ q)
 
-some_of : {X : Type 0} {x y : X} → Some x ≡ Some y → x ≡ y
-some_of e = cc
-
 same_fault : (w : List ℕ) → docs.IsSettled w → (f g : SelsFault) → HasFault w f → HasFault w g → f ≡ g
 same_fault w one f g (inl a) (inl b) = let e = one.fault a.0 b.0 a.1 b.1 a.2 b.2 in let p = a.3 in let q = b.3 in p ∙ (ap (λ k. fault.Doc k a.1) e.0 ∙ (ap (λ n. fault.Doc b.0 n) e.1 ∙ sym q))
 same_fault w one f g (inl a) (inr b) = absurd (one.apart b.0 a.0 a.1 b.1 a.2)
 same_fault w one f g (inr a) (inl b) = absurd (one.apart a.0 b.0 b.1 a.1 b.2)
-same_fault w one f g (inr a) (inr b) = some_of (tree_of w one a.0 b.0 (Some f) (Some g) a.1 b.1 a.2 b.2)
+same_fault w one f g (inr a) (inr b) = same_Some _ _ (tree_of w one a.0 b.0 (Some f) (Some g) a.1 b.1 a.2 b.2)
 
 never_both : (w : List ℕ) → docs.IsSettled w → (s : Selections) (f : SelsFault) → Says w s → HasFault w f → ⊥
 never_both w one s f a (inl b) = one.apart a.tree b.0 b.1 a.spells b.2

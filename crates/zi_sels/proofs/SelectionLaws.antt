@@ -13,7 +13,7 @@ use Rattle.zi_parts.specs.Values.{binding_of, dep_of, command_of}
 use Rattle.zi_reading.specs.Reading.{is_unclear}
 use Rattle.zi_faults.specs.Faults.{fault_at, least, lesser_of}
 use Rattle.zi_feed.specs.Feeds.{part_fault}
-use Rattle.zi_feed.specs.IdLaws.{both_empty}
+use Rattle.zi_feed.specs.IdLaws.{both_empty, least_none}
 use Rattle.zi_parts.specs.declared.types.Binding.{Binding}
 use Rattle.zi_parts.specs.declared.types.Command.{Command}
 use Rattle.zi_parts.specs.declared.types.Dep.{Dep}
@@ -29,7 +29,7 @@ use Rattle.zi_sels.specs.Read.{counting, bindings_in, said_in, in_order_of_use, 
 use Rattle.zi_sels.specs.Notes.{right, faults_of, AreRead}
 use Rattle.zi_sels.specs.Refused.{parts_in, second_commands, own_kind, selection_fault}
 use Rattle.zi_sels.specs.Parts.{selection_with, ArePartsOf}
-use Rattle.zi_sels.proofs.NoteLaws.{neither, nothing_wrong, all_right, read_among}
+use Rattle.zi_sels.proofs.NoteLaws.{neither, all_right, read_among}
 
 faults_append : (es fs : List Elem) → faults_of part_fault (es ++ fs) ≡ faults_of part_fault es ++ faults_of part_fault fs
 faults_append es fs = flat_map-append (λ c. optional (part_fault c)) es fs
@@ -124,7 +124,7 @@ value_is e start parts parted =
     let rs : List Elem = counting (codes "requires") e in
     let ks : List Elem = counting (codes "command") e in
     let ms : List Elem = counting (codes "manifest-digest") e in
-    let none : faults_of part_fault (bs ++ rs ++ ks ++ ms) ≡ [] = nothing_wrong _ (neither start (least (faults_of part_fault (bs ++ rs ++ ks ++ ms))) (sym parted.first)).1 in
+    let none : faults_of part_fault (bs ++ rs ++ ks ++ ms) ≡ [] = least_none _ (neither start (least (faults_of part_fault (bs ++ rs ++ ks ++ ms))) (sym parted.first)).1 in
     let m : (faults_of part_fault (bs ++ rs ++ ks) ≡ []) × (faults_of part_fault ms ≡ []) = both_empty _ _ (sym (faults_append (bs ++ rs ++ ks) ms) ∙ none) in
     let k : (faults_of part_fault (bs ++ rs) ≡ []) × (faults_of part_fault ks ≡ []) = both_empty _ _ (sym (faults_append (bs ++ rs) ks) ∙ m.0) in
     let r : (faults_of part_fault bs ≡ []) × (faults_of part_fault rs ≡ []) = both_empty _ _ (sym (faults_append bs rs) ∙ k.0) in

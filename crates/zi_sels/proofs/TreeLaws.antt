@@ -15,7 +15,8 @@ use Rattle.zi_sels.specs.declared.fault.SelsFault.TheVariants as fault
 use Rattle.zi_sels.specs.Read.{selections_in, selection_of, selections_of}
 use Rattle.zi_sels.specs.Notes.{right, faults_of, AreRead}
 use Rattle.zi_sels.specs.Refused.{is_selections, root_faults, item_faults, first_fault, selection_fault, interfaces_in, first_twice, asking, unmet, or_else, closed_fault, tree_fault}
-use Rattle.zi_sels.proofs.NoteLaws.{neither, nothing_wrong, all_right}
+use Rattle.zi_sels.proofs.NoteLaws.{neither, all_right}
+use Rattle.zi_feed.specs.IdLaws.{least_none}
 
 -- a part of the table that the root's test decides, and one that the first fault of a part decides
 by_test : {X : Type 0} (b c : Bool) (x y : X) → b ≡ c → (if not b then x else y) ≡ (if not c then x else y)
@@ -57,7 +58,7 @@ interface_is : (e : Elem) → (selection_of e).interface ≡ value (codes "inter
 unfolding selection_of
 interface_is e = refl
 
-same_interfaces : (es : List Elem) → map (λ (x : Selection). x.interface) (map selection_of es) ≡ map (value (codes "interface")) es
+pub same_interfaces : (es : List Elem) → map (λ (x : Selection). x.interface) (map selection_of es) ≡ map (value (codes "interface")) es
 same_interfaces [] = refl
 same_interfaces (e ∷ es) = ap (λ v. v ∷ map (λ (x : Selection). x.interface) (map selection_of es)) (interface_is e) ∙ ap (λ v. value (codes "interface") e ∷ v) (same_interfaces es)
 
@@ -65,7 +66,7 @@ same_interfaces (e ∷ es) = ap (λ v. v ∷ map (λ (x : Selection). x.interfac
 all_items : (root : Elem) (old : Option Fault) (items : List Selection) → AreRead selection_fault selection_of (selections_in root) [] old items None
     → items ≡ map selection_of (selections_in root)
 all_items root old items r =
-    let none : item_faults root ≡ [] = nothing_wrong _ (neither old (least (item_faults root)) (sym r.first)).1 in
+    let none : item_faults root ≡ [] = least_none _ (neither old (least (item_faults root)) (sym r.first)).1 in
     r.values ∙ ap (map selection_of) (all_right selection_fault (selections_in root) none)
 
 pub items_are : (root : Elem) (old now : Option Fault) (items : List Selection) → AreRead selection_fault selection_of (selections_in root) [] old items now → now ≡ None

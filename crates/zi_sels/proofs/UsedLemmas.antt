@@ -5,11 +5,11 @@ use Rattle.zi_choice.specs.declared.traced.Used.{Used}
 use Rattle.zi_choice.specs.Walk.{is_used}
 use Rattle.zi_sels.specs.Using.{walk_with}
 
-last_one : (a : Bool) → (a || false) ≡ cond a true false
+pub last_one : (a : Bool) → (a || false) ≡ cond a true false
 last_one true = refl
 last_one false = refl
 
-later_one : (first last others : Bool) → (first || cond last true others) ≡ cond last true (first || others)
+pub later_one : (first last others : Bool) → (first || cond last true others) ≡ cond last true (first || others)
 later_one true true others = refl
 later_one true false others = refl
 later_one false last others = refl

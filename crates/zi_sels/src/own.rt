@@ -1,22 +1,20 @@
 //! The faults of a selection itself, and of its repeated commands.
 ghost use Rattle.std.specs.Prelude.{◌≡◌, ◌++◌, ◌∷◌, [], IfOk, OnOk, codes, map, not, ◌&&◌};
 ghost use Rattle.zi_elements.specs.Forest.{element_view, attribute};
-ghost use Rattle.zi_reading.specs.Words.{is_wrong, is_amiss, repeated};
+ghost use Rattle.zi_reading.specs.Words.{is_wrong, is_amiss};
 ghost use Rattle.zi_reading.specs.Forms.{is_version};
 ghost use Rattle.zi_address.specs.Address.{is_local};
 ghost use Rattle.zi_reading.specs.Reading.{is_unclear};
-ghost use Rattle.zi_faults.specs.Faults.{fault_at, least, share};
+ghost use Rattle.zi_faults.specs.Faults.{fault_at, least};
 ghost use Rattle.zi_feed.specs.Means.{counts_as};
 ghost use Rattle.zi_reading.specs.Views.{views};
 ghost use Rattle.zi_faults.specs.declared.fault.FeedKind.TheVariants.{BadPart};
 ghost use Rattle.zi_sels.specs.Refused.{own_kind, clear_among, second_commands};
 
-use crate::faults::{fault_at, lesser_of};
 use crate::parts::children;
 use std::alloc::Global;
-use std::collections::BTreeSet;
 use zi_elements::Element;
-use zi_faults::{Fault, FeedKind};
+use zi_faults::{Fault, FeedKind, least_shared};
 use zi_feed::counts_as;
 use zi_reading::{attribute, is_unclear, is_version, value};
 use zi_text::Memory;
@@ -86,27 +84,6 @@ fn clear_commands<'a>(alloc: Global, parts: &[&'a Element]) -> Result<Vec<&'a El
     let mut found = Vec::new(alloc);
     for e in parts {
         take_clear(alloc, e, &mut found)?;
-    }
-    Ok(found)
-}
-
-// The least fault of this kind at elements that have an attribute alike with an earlier one.
-fn least_shared(
-    alloc: Global,
-    name: &str,
-    elements: &[&Element],
-    kind: FeedKind,
-) -> Result<Option<Fault>, Memory>
-    ensures { IfOk result (λ f. f ≡ least (map (λ r. fault_at r kind) (repeated (share name.now) (views elements.now)))) }
-{
-    let mut values: BTreeSet<&str> = BTreeSet::new(alloc);
-    let mut found = None;
-    for e in elements {
-        if let Some(text) = attribute(e, name) {
-            if !values.insert(text)? {
-                found = lesser_of(found, Some(fault_at(e, kind)));
-            }
-        }
     }
     Ok(found)
 }

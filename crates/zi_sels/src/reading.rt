@@ -13,14 +13,14 @@ ghost use Rattle.zi_sels.specs.Reading.{Says, HasFault, FaultMeans, Gives, Reads
 use crate::closed::{Selected, first_twice, first_unclosed};
 use crate::copies::copied;
 use crate::fault::SelsFault;
-use crate::faults::{fault_at, note};
+use crate::faults::note;
 use crate::laws::one_reading;
 use crate::parts::children;
 use crate::selecting::selection_of;
 use crate::types::{Selection, Selections};
 use std::alloc::Global;
 use zi_elements::{Document, Element};
-use zi_faults::{Fault, FeedKind};
+use zi_faults::{Fault, FeedKind, fault_at};
 use zi_feed::counts_as;
 use zi_reading::{attribute, is, is_unclear, value};
 use zi_text::{List, Memory, Text};

@@ -9,7 +9,6 @@ ghost use Rattle.zi_sels.specs.Refused.{own_kind, selection_fault};
 ghost use Rattle.zi_sels.specs.Parts.{selection_with, ArePartsOf};
 
 use crate::copies::copied;
-use crate::faults::{fault_at, lesser_of};
 use crate::own::{own_kind, second_command};
 use crate::parts::{bindings_in, children, commands_in, deps_in, said_in};
 use crate::said::in_order_of_use;
@@ -17,7 +16,7 @@ use crate::types::Selection;
 use std::alloc::Global;
 use zi_digest::DigestName;
 use zi_elements::Element;
-use zi_faults::{Fault, FeedFault, FeedKind};
+use zi_faults::{Fault, FeedFault, FeedKind, fault_at, lesser_of};
 use zi_parts::{Binding, Command, Dep};
 use zi_reading::{attribute, is_unclear, value};
 use zi_text::{List, Memory, Text};

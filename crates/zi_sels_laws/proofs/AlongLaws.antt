@@ -1,12 +1,13 @@
 -- The elements along the paths of a feed without a fault: each of them is without one, and so is what is read in it.
 use Rattle.std.proofs.Common.{◌≡◌, ℕ, Bool, true, false, List, [], ◌∷◌, ◌++◌, map, refl}
 use Rattle.std.specs.Prelude.{not, if◌then◌else◌}
+use Rattle.std.proofs.lemmas.Bool.{both_ways}
 use Rattle.zi_elements.specs.Forest.{Forest, none, words, child, Elem}
 use Rattle.zi_reading.specs.Ways.{Ways}
 use Rattle.zi_reading.specs.Reading.{stands, is_closed}
 use Rattle.zi_faults.specs.Sites.{Site, here, under, path, sites}
 use Rattle.zi_sels_laws.proofs.LikeLaws.{Each, each_append}
-use Rattle.zi_sels_laws.proofs.FreeLaws.{clash, each_front, IsFree, IsRight, strip}
+use Rattle.zi_sels_laws.proofs.FreeLaws.{each_front, IsFree, IsRight, strip}
 
 -- of all elements on the way to one this holds
 abbrev pub IsRightAlong : Ways → Site → Type 0
@@ -30,7 +31,7 @@ along ways parent (child s n a f p k) h =
         → Each (IsRightAlong ways) (if not b then sites ways parent k else if c then here e ∷ sites ways parent k else here e ∷ (map (under e) (sites ways e.name e.inside) ++ sites ways parent k))
     either e false c shut free within more = more free
     either e true true shut free within more =
-        ((record { said = free.0.0; free = free.0.1; inside = λ open_. absurd (clash (is_closed e) shut open_) }, tt), more free.1)
+        ((record { said = free.0.0; free = free.0.1; inside = λ open_. absurd (both_ways (is_closed e) open_ shut) }, tt), more free.1)
     either e true false shut free within more =
         let both = each_front (IsFree ways) (map (under e) (sites ways e.name e.inside)) (sites ways parent k) free.1 in
         let inner = strip ways e (sites ways e.name e.inside) both.0 in

@@ -8,10 +8,11 @@ use Rattle.zi_address.specs.Texts.{same}
 use Rattle.zi_reading.specs.Words.{repeated, repeated_after, latest}
 use Rattle.zi_feed.specs.Impls.{are_alike, main_command, is_run, with_main}
 use Rattle.zi_parts.specs.declared.types.Command.{Command}
-use Rattle.zi_reading.proofs.TableLaws.{same_text, same_refl}
+use Rattle.zi_reading.proofs.TextLaws.{same_text, same_refl}
 use Rattle.zi_sels_laws.proofs.LikeLaws.{Each}
 use Rattle.zi_sels_laws.proofs.FieldLaws.{app}
 use Rattle.zi_sels_laws.proofs.FreeLaws.{each_map}
+use Rattle.zi_text.proofs.ListLaws.{bytes_itself}
 
 -- none of these has the name of one
 abbrev pub IsOther : Command → Command → Type 0
@@ -146,10 +147,6 @@ unfolding same injector
 found_behind c cs [] h k = tt
 found_behind c cs (d ∷ ds) h k = (ap (λ b. cond b (Some c) (find (λ m. bytes_eq m.name d.name) cs)) h.0 ∙ k.0, found_behind c cs ds h.1 k.1)
 
-name_is : (x : List ℕ) → bytes_eq x x ≡ true
-unfolding same injector
-name_is x = same_refl x x refl
-
 pub each_found : (cs : List Command) → AreApart cs → Each (IsFound cs) cs
 each_found [] h = tt
-each_found (c ∷ cs) h = (ap (λ b. cond b (Some c) (find (λ m. bytes_eq m.name c.name) cs)) (name_is c.name), found_behind c cs cs h.0 (each_found cs h.1))
+each_found (c ∷ cs) h = (ap (λ b. cond b (Some c) (find (λ m. bytes_eq m.name c.name) cs)) (bytes_itself c.name), found_behind c cs cs h.0 (each_found cs h.1))

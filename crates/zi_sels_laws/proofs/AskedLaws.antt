@@ -126,7 +126,7 @@ same_self : same (codes "requires") (codes "requires") ≡ true
 unfolding same injector
 same_self = refl
 
-not_command : same (codes "requires") (codes "command") ≡ false
+pub not_command : same (codes "requires") (codes "command") ≡ false
 unfolding same injector
 not_command = refl
 

@@ -14,7 +14,7 @@ use Rattle.zi_docout.specs.Amiss.{first_amiss}
 use Rattle.zi_address.specs.Texts.{same}
 use Rattle.zi_reading.specs.Words.{is_among}
 use Rattle.zi_parts.specs.declared.types.Dep.{Dep}
-use Rattle.zi_reading.proofs.TableLaws.{same_text, same_refl}
+use Rattle.zi_reading.proofs.TextLaws.{same_text, same_refl}
 use Rattle.zi_universe.specs.declared.types.Requirement.{Requirement}
 use Rattle.zi_universe.specs.declared.types.Candidate.{Candidate}
 use Rattle.zi_universe.specs.declared.types.Interface.{Interface}

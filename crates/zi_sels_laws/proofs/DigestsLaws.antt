@@ -27,6 +27,7 @@ use Rattle.zi_sels_laws.proofs.FieldLaws.{Field, field, fields, looked, app}
 use Rattle.zi_sels_laws.proofs.PlainLaws.{here_is, made_is, condition, IsPlain, free_clear}
 use Rattle.zi_sels_laws.proofs.CleanLaws.{IsClean, clean_inside, tested_faults, quiet_where}
 use Rattle.zi_sels_laws.proofs.BindingLaws.{none_same, empty_repeats}
+use Rattle.zi_version.proofs.VersionBytes.{some-map}
 
 -- by each algorithm one digest or none, in the order of use
 abbrev pub three : Option (List ℕ) → Option (List ℕ) → Option (List ℕ) → List DigestName
@@ -88,10 +89,6 @@ right_digits : (a : Algorithm) (text : Option (List ℕ)) (found : Option Digest
 right_digits a None found h k = refl
 right_digits a (Some t) found h k = ap not (ap is_some h ∙ k)
 
-kept_some : {X Y : Type 0} (f : X → Y) (o : Option X) → is_some (option_map f o) ≡ is_some o
-kept_some f None = refl
-kept_some f (Some x) = refl
-
 -- the digest that an element says
 pub first_said : (g : Elem) (a : Algorithm) → said_digest (g ∷ []) a ≡ option_and_then (digest_by a) (attribute (attribute_by a) g)
 first_said g a = either (attribute (attribute_by a) g) refl
@@ -143,11 +140,11 @@ digest_good n s o f p h =
     let fs = digest_fields n s o in
     app (app (ap {B = Bool → Bool → Bool} (λ x y z. x || (y || (z || false)))
     (ap (is_wrong (λ t. is_some (digest_by Sha256new t))) (looked (codes "sha256new") fs refl)
-    ∙ right_digits Sha256new (option_map base32 n) (option_map (λ b. digest.Sha256new b) n) (new_back n h.new) (kept_some (λ b. digest.Sha256new b) n ∙ sym (kept_some base32 n))))
+    ∙ right_digits Sha256new (option_map base32 n) (option_map (λ b. digest.Sha256new b) n) (new_back n h.new) (some-map (λ b. digest.Sha256new b) n ∙ sym (some-map base32 n))))
     (ap (is_wrong (λ t. is_some (digest_by Sha256 t))) (looked (codes "sha256") fs refl)
-    ∙ right_digits Sha256 (option_map encode_lower s) (option_map (λ b. digest.Sha256 b) s) (middle_back s h.middle) (kept_some (λ b. digest.Sha256 b) s ∙ sym (kept_some encode_lower s))))
+    ∙ right_digits Sha256 (option_map encode_lower s) (option_map (λ b. digest.Sha256 b) s) (middle_back s h.middle) (some-map (λ b. digest.Sha256 b) s ∙ sym (some-map encode_lower s))))
     (ap (is_wrong (λ t. is_some (digest_by Sha1new t))) (looked (codes "sha1new") fs refl)
-    ∙ right_digits Sha1new (option_map encode_lower o) (option_map (λ b. digest.Sha1new b) o) (old_back o h.old) (kept_some (λ b. digest.Sha1new b) o ∙ sym (kept_some encode_lower o)))
+    ∙ right_digits Sha1new (option_map encode_lower o) (option_map (λ b. digest.Sha1new b) o) (old_back o h.old) (some-map (λ b. digest.Sha1new b) o ∙ sym (some-map encode_lower o)))
 
 digest_tested : (v : Said) (n s o : Option (List ℕ)) (f : Forest) (p : ℕ)
     → faults_with AsWritten v (digest_here n s o f p) ≡ tested_faults (digest_here n s o f p) (is_unclear (digest_here n s o f p)) (has_bad_digits (digest_here n s o f p)) false false false

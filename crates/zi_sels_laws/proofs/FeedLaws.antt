@@ -25,12 +25,14 @@ use Rattle.zi_parts.specs.declared.types.Impl.{Impl}
 use Rattle.zi_sels_laws.proofs.LikeLaws.{Each, each_append, each_both}
 use Rattle.zi_sels_laws.proofs.BindingLaws.{IsProperBinding}
 use Rattle.zi_sels_laws.proofs.DigestsLaws.{AreProper}
-use Rattle.zi_sels_laws.proofs.FreeLaws.{empty_both, each_filter, each_weak, each_flat, least_none, IsRight, sound, free_all}
+use Rattle.zi_sels_laws.proofs.FreeLaws.{each_filter, each_weak, each_flat, IsRight, sound, free_all}
 use Rattle.zi_sels_laws.proofs.SoundLaws.{bindings_sound}
 use Rattle.zi_sels_laws.proofs.GivenLaws.{IsGivenDep, IsGivenCommand, deps_given, commands_given}
 use Rattle.zi_sels_laws.proofs.AlongLaws.{IsRightAlong, along}
 use Rattle.zi_sels_laws.proofs.ApartLaws.{AreApart, commands_apart}
 use Rattle.zi_sels_laws.proofs.SpelledLaws.{digests_given}
+use Rattle.zi_feed.specs.IdLaws.{least_none, both_empty}
+use Rattle.zi_feed.proofs.ImplLaws.{not_named}
 
 -- an implementation of a feed
 pub record IsGiven (i : Impl) : Type 0 where
@@ -96,10 +98,6 @@ read_as uri t version =
     let ways : Ways = InFeed uri in
     impl_with ways (said es) (flat_map (deps_of ways) es) (flat_map (commands_of ways) es) (flat_map (bindings_of ways) es) t.element version
 
-no_id : (a b : Bool) → a ≡ true → (a && b) ≡ false → b ≡ false
-no_id true b h k = k
-no_id false b h k = absurd (cc h)
-
 given_with : (uri : List ℕ) (t : Site) → IsRightAlong (InFeed uri) t → is_none (value (codes "id") t.element) ≡ false → (v : List ℕ) → is_version v ≡ true → IsGiven (read_as uri t v)
 given_with uri t right id v version =
     let ways : Ways = InFeed uri in
@@ -119,7 +117,7 @@ unfolding impl_of impl_from
 given_at uri t free right counted i h =
     let s = sound (InFeed uri) (said (path t)) t.element free in
     let is_one = (and_parts (is_impl t.element) (not (is_unclear t.element)) counted).0 in
-    let id = no_id (is_impl t.element) (is_none (value (codes "id") t.element)) is_one s.kinds.1.0 in
+    let id = not_named (is_impl t.element) (is_none (value (codes "id") t.element)) is_one s.kinds.1.0 in
     by_text (version_text (said (path t))) id h
   where
     by_version : (v : List ℕ) (b : Bool) → is_version v ≡ b → is_none (value (codes "id") t.element) ≡ false → option_map (read_as uri t) (if b then Some v else None) ≡ Some i → IsGiven i
@@ -138,7 +136,7 @@ record IsSeen (uri : List ℕ) (t : Site) : Type 0 where
 
 no_faults : (ways : Ways) (ss : List Site) → flat_map (faults_at ways) ss ≡ [] → Each (λ t. faults_at ways t ≡ []) ss
 no_faults ways [] h = tt
-no_faults ways (s ∷ ss) h = let b = empty_both (faults_at ways s) (flat_map (faults_at ways) ss) h in (b.0, no_faults ways ss b.1)
+no_faults ways (s ∷ ss) h = let b = both_empty (faults_at ways s) (flat_map (faults_at ways) ss) h in (b.0, no_faults ways ss b.1)
 
 each_given : (uri : List ℕ) (ts : List Site) → Each (λ t. IsSeen uri t × (counts t.element ≡ true)) ts → Each IsGiven (filter_map (impl_of (InFeed uri)) ts)
 each_given uri [] h = tt
@@ -154,7 +152,7 @@ all_free root uri h =
     let faults = flat_map (faults_at (InFeed uri)) (feed_sites uri root) in
     let twice = same_ids (map (λ t. t.element) (feed_sites uri root)) in
     let none = least_none (all_faults uri root) (is_one (is (codes "interface") root) (least (all_faults uri root)) h) in
-    (empty_both faults twice (empty_both (root_faults uri root) (faults ++ twice) none).1).0
+    (both_empty faults twice (both_empty (root_faults uri root) (faults ++ twice) none).1).0
   where
     is_one : (b : Bool) (o : Option Fault) → (if b then o else Some (fault_at root NotInterface)) ≡ None → o ≡ None
     is_one true o k = k

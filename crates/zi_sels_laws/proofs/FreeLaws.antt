@@ -2,6 +2,7 @@
 use Rattle.std.proofs.Common.{◌≡◌, ℕ, Bool, true, false, cond, ◌&&◌, ◌||◌, List, [], ◌∷◌, ◌++◌, map, Option, Some, None, codes, refl, sym, ap, ◌∙◌}
 use Rattle.std.specs.Prelude.{not, filter, option_map, if◌then◌else◌}
 use Rattle.std.specs.List.{flat_map}
+use Rattle.std.proofs.lemmas.Bool.{both_ways}
 use Rattle.zi_elements.specs.Forest.{Forest, none, words, child, Elem, elements}
 use Rattle.zi_reading.specs.Words.{is_among, listed, optional, first}
 use Rattle.zi_reading.specs.Ways.{Ways, AsWritten}
@@ -15,20 +16,9 @@ use Rattle.zi_faults.specs.declared.fault.FeedKind.{FeedKind}
 use Rattle.zi_faults.specs.declared.fault.FeedKind.TheVariants.{BadRange, BadPart}
 use Rattle.zi_sels_laws.proofs.LikeLaws.{Each, each_append}
 use Rattle.zi_sels_laws.proofs.FieldLaws.{app}
+use Rattle.zi_feed.specs.IdLaws.{least_none, both_empty, map_nil}
 
 -- Small words.
-
-pub clash : (b : Bool) → b ≡ true → b ≡ false → ⊥
-clash true p q = cc q
-clash false p q = cc p
-
-pub empty_both : {A : Type 0} (xs ys : List A) → xs ++ ys ≡ [] → (xs ≡ []) × (ys ≡ [])
-empty_both [] ys e = (refl, e)
-empty_both (x ∷ xs) ys e = absurd (cc e)
-
-pub empty_map : {A B : Type 0} (f : A → B) (xs : List A) → map f xs ≡ [] → xs ≡ []
-empty_map f [] h = refl
-empty_map f (x ∷ xs) h = absurd (cc h)
 
 pub empty_optional : {A B : Type 0} (f : A → B) (o : Option A) → optional (option_map f o) ≡ [] → o ≡ None
 empty_optional f None h = refl
@@ -83,14 +73,6 @@ each_flat P f Q one (x ∷ xs) h = each_append P (f x) (flat_map f xs) (one x h.
 
 -- The first of faults is none.
 
-pub least_none : (fs : List Fault) → least fs ≡ None → fs ≡ []
-least_none [] h = refl
-least_none (f ∷ fs) h = absurd (some (least fs) h)
-  where
-    one : (b : Bool) (f g : Fault) → (if b then Some f else Some g) ≡ None → ⊥
-    one true f g e = cc e
-    one false f g e = cc e
-
     some : (o : Option Fault) → lesser f o ≡ None → ⊥
     some None e = cc e
     some (Some g) e = one (is_first f g) f g e
@@ -103,7 +85,7 @@ IsFree ways t = (s : Said) × (faults_with ways s t.element ≡ [])
 pub free_all : (ways : Ways) (ss : List Site) → flat_map (faults_at ways) ss ≡ [] → Each (IsFree ways) ss
 free_all ways [] h = tt
 free_all ways (s ∷ ss) h =
-    let b = empty_both (faults_at ways s) (flat_map (faults_at ways) ss) h in
+    let b = both_empty (faults_at ways s) (flat_map (faults_at ways) ss) h in
     ((said (path s), b.0), free_all ways ss b.1)
 
 -- what is known of an element without a fault, and of what is read in it
@@ -124,7 +106,7 @@ pub part_right : (e : Elem) → part_fault e ≡ None → IsRight AsWritten e
 unfolding part_fault
 part_right e h =
     let all = least_none (faults_at AsWritten (here e) ++ (if is_unclear e then [] else flat_map (faults_at AsWritten) (sites AsWritten e.name e.inside))) h in
-    let b = empty_both (faults_at AsWritten (here e)) (if is_unclear e then [] else flat_map (faults_at AsWritten) (sites AsWritten e.name e.inside)) all in
+    let b = both_empty (faults_at AsWritten (here e)) (if is_unclear e then [] else flat_map (faults_at AsWritten) (sites AsWritten e.name e.inside)) all in
     let clear = free_clear AsWritten (said (e ∷ [])) e b.0 in record {
       said = said (e ∷ []);
       free = b.0;
@@ -157,7 +139,7 @@ children ways parent (child s n a f p k) h =
     either e false c u is shut unclear free more = more free
     either e true true true is shut unclear free more = more free.1
     either e true true false is shut unclear free more =
-        (record { right = record { said = free.0.0; free = free.0.1; inside = λ open_. absurd (clash (is_closed e) shut open_) }; part = app (ap {B = Bool → Bool} (λ x y. x && not y) is) unclear }, more free.1)
+        (record { right = record { said = free.0.0; free = free.0.1; inside = λ open_. absurd (both_ways (is_closed e) open_ shut) }; part = app (ap {B = Bool → Bool} (λ x y. x && not y) is) unclear }, more free.1)
     either e true false true is shut unclear free more = more (each_front (IsFree ways) (map (under e) (sites ways e.name e.inside)) (sites ways parent k) free.1).1
     either e true false false is shut unclear free more =
         let parts_ = each_front (IsFree ways) (map (under e) (sites ways e.name e.inside)) (sites ways parent k) free.1 in
@@ -192,10 +174,10 @@ unfolding faults_with kinds_at
 sound ways s e h =
     let clear = free_clear ways s e h in
     let rest = sym (ap (λ b. if b then fault_at e BadRange ∷ [] else map (fault_at e) (kinds_at ways s e) ++ map (λ r. fault_at r BadPart) (repeats_in ways e)) clear) ∙ h in
-    let b = empty_both (map (fault_at e) (kinds_at ways s e)) (map (λ r. fault_at r BadPart) (repeats_in ways e)) rest in record {
+    let b = both_empty (map (fault_at e) (kinds_at ways s e)) (map (λ r. fault_at r BadPart) (repeats_in ways e)) rest in record {
       clear = clear;
-      kinds = none_kept (λ k. has_fault ways s k e) all_kinds (empty_map (fault_at e) (kinds_at ways s e) b.0);
-      repeats = empty_map (λ r. fault_at r BadPart) (repeats_in ways e) b.1;
+      kinds = none_kept (λ k. has_fault ways s k e) all_kinds (map_nil (fault_at e) (kinds_at ways s e) b.0);
+      repeats = map_nil (λ r. fault_at r BadPart) (repeats_in ways e) b.1;
     }
 
 pub right_sound : (ways : Ways) (e : Elem) (h : IsRight ways e) → IsSound ways h.said e

@@ -12,6 +12,7 @@ use Rattle.zi_docout.specs.Amiss.{alone}
 use Rattle.zi_docout.specs.Elements as made
 use Rattle.zi_docout.specs.Same.{has_child, bare, unplaced, IsSame}
 use Rattle.zi_docout.proofs.ForestLemmas.{child_view, words_view}
+use Rattle.zi_docout.proofs.ToldLemmas.{child_bare}
 
 -- A tree whose view is this.
 
@@ -93,15 +94,6 @@ same_inside n a es r s = subst (λ v. AreSame v (elements r.inside)) (made_insid
 
 -- A text that stands alone is read as it was written.
 
-pub no_child : (b : Bool) (f : Forest) → has_child (bare b f) ≡ has_child f
-no_child b none = refl
-no_child b (words t k) = either (b && list_all is_white t) (no_child b k)
-  where
-    either : (c : Bool) → has_child (bare b k) ≡ has_child k → has_child (if c then bare b k else words t (bare b k)) ≡ has_child k
-    either true h = h
-    either false h = h
-no_child b (child s n a f p k) = refl
-
 bare_text : (f : Forest) → text_in (bare false f) ≡ text_in f
 bare_text none = refl
 bare_text (words t k) = ap (λ v. t ++ v) (bare_text k)
@@ -110,7 +102,7 @@ bare_text (child s n a f p k) = bare_text k
 -- where nothing but texts was written
 pub same_text : (f g : Forest) → has_child g ≡ false → bare (has_child f) f ≡ g → text_in f ≡ text_in g
 same_text f g alone h =
-    let childless : has_child f ≡ false = sym (no_child (has_child f) f) ∙ (ap has_child h ∙ alone) in
+    let childless : has_child f ≡ false = sym (child_bare (has_child f) f) ∙ (ap has_child h ∙ alone) in
     sym (bare_text f) ∙ (ap (λ b. text_in (bare b f)) (sym childless) ∙ ap text_in h)
 
 -- Of all in a list something is so.

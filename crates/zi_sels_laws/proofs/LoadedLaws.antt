@@ -80,12 +80,12 @@ read_given told root uri f h = by h.held h.means
     by (Some bytes) k = let says = k.1 in subst IsGivenFeed (sym says.3) (feed_given (element_view says.0) uri says.2)
 
 -- each of some addresses is listed among them
-each_listed : (xs : Uris) → Each (λ y. listed y xs ≡ true) xs
+pub each_listed : (xs : Uris) → Each (λ y. listed y xs ≡ true) xs
 each_listed [] = tt
 each_listed (x ∷ xs) =
     (ap (λ b. b || list_any (bytes_eq x) xs) (bytes_eq-refl x), each_weak (λ y. listed y xs ≡ true) (λ y. listed y (x ∷ xs) ≡ true) (λ y h. listed-cons y x xs h) xs (each_listed xs))
 
-each_reached : (groups : List Uris) → Each (λ g. Each (λ y. listed y (reached groups) ≡ true) g) groups
+pub each_reached : (groups : List Uris) → Each (λ g. Each (λ y. listed y (reached groups) ≡ true) g) groups
 each_reached groups =
     each_of_flat (λ y. listed y (reached groups) ≡ true) (λ xs. xs) groups
     (each_weak (λ y. listed y (all_of groups) ≡ true) (λ y. listed y (reached groups) ≡ true) (λ y h. listed-without_repeats y (all_of groups) ∙ h) (all_of groups) (each_listed (all_of groups)))

@@ -11,7 +11,7 @@ use Rattle.zi_reading.specs.Ways.{AsWritten}
 use Rattle.zi_reading.specs.Words.{is_among, listed}
 use Rattle.zi_reading.specs.Reading.{is, is_unclear, is_left_out, is_unbuilt, is_closed, is_part, stands, read_in, parts, is_refused_by, binding_names, those}
 use Rattle.zi_feed.specs.Means.{counts_as, counts_as_binding}
-use Rattle.zi_reading.proofs.TableLaws.{same_text}
+use Rattle.zi_reading.proofs.TextLaws.{same_text}
 use Rattle.zi_sels_laws.proofs.LikeLaws.{Each, if_all, sifted}
 
 -- an element of the namespace of feeds

@@ -1,7 +1,7 @@
 -- What a document says is as it may be written, and so is read again where it was written.
 use Rattle.std.proofs.Common.{◌≡◌, ℕ, Bool, true, false, cond, ◌&&◌, List, [], ◌∷◌, ◌++◌, map, Option, Some, None, codes, refl, sym, ap, subst, ◌∙◌}
 use Rattle.std.specs.Prelude.{not, filter, option_and_then, unwrap_or, if◌then◌else◌}
-use Rattle.std.proofs.lemmas.Bool.{or_left, or_right}
+use Rattle.std.proofs.lemmas.Bool.{or_left, or_right, both_ways}
 use Rattle.zi_elements.specs.Forest.{Elem, elements, attribute, value, element_view}
 use Rattle.zi_elements.specs.Namespace.{injector}
 use Rattle.zi_docout.specs.Amiss.{first_amiss}
@@ -14,7 +14,7 @@ use Rattle.zi_feed.specs.Means.{counts_as}
 use Rattle.zi_faults.specs.declared.fault.Fault.{Fault}
 use Rattle.zi_parts.specs.declared.types.DepKind.{DepKind}
 use Rattle.zi_parts.specs.declared.types.DepKind.TheVariants.{Essential, Recommended, Restricts}
-use Rattle.zi_reading.proofs.TableLaws.{same_text}
+use Rattle.zi_reading.proofs.TextLaws.{same_text}
 use Rattle.zi_sels.specs.declared.types.Selection.{Selection}
 use Rattle.zi_sels.specs.declared.types.Selections.{Selections}
 use Rattle.zi_sels.specs.declared.fault.SelsFault.{SelsFault}
@@ -27,11 +27,13 @@ use Rattle.zi_sels.specs.Reading.{Says}
 use Rattle.zi_sels_laws.proofs.LikeLaws.{Each, each_both}
 use Rattle.zi_sels_laws.proofs.FieldLaws.{app}
 use Rattle.zi_sels_laws.proofs.CommandLaws.{runner_names}
-use Rattle.zi_sels_laws.proofs.AskedLaws.{IsMet, IsMetRunner, IsMetCommand, IsMetItem, IsMetWhole, IsIn}
+use Rattle.zi_sels_laws.proofs.AskedLaws.{IsMet, IsMetRunner, IsMetCommand, IsMetItem, IsMetWhole, IsIn, not_command}
 use Rattle.zi_sels_laws.proofs.RootLaws.{IsProper, IsWritten, written_says}
-use Rattle.zi_sels_laws.proofs.FreeLaws.{clash, empty_both, empty_option, empty_first, each_filter, each_weak, each_map, each_first, each_of_flat, sub_filter, least_none, IsRight, IsChild, right_parts}
-use Rattle.zi_sels_laws.proofs.SoundLaws.{only_name, is_of_name, asked_names, dep_child}
+use Rattle.zi_sels_laws.proofs.FreeLaws.{empty_option, empty_first, each_filter, each_weak, each_map, each_first, each_of_flat, sub_filter, IsRight, IsChild, right_parts}
+use Rattle.zi_sels_laws.proofs.SoundLaws.{only_name, is_of_name, asked_names, dep_child, not_restricts}
 use Rattle.zi_sels_laws.proofs.SaidLaws.{IsCounted, IsSound, selection_sound, item_proper}
+use Rattle.zi_feed.specs.IdLaws.{least_none, both_empty}
+use Rattle.zi_sels.proofs.TreeLaws.{same_interfaces}
 
 -- What is asked for is among those that are selected for.
 
@@ -49,17 +51,13 @@ of_filter P test (x ∷ xs) h = either (test x) refl h (of_filter P test xs)
   where
     either : (b : Bool) → test x ≡ b → Each P (cond b (x ∷ filter test xs) (filter test xs)) → (Each P (filter test xs) → Each (λ y. test y ≡ true → P y) xs) → Each (λ y. test y ≡ true → P y) (x ∷ xs)
     either true k l more = ((λ e. l.0), more l.1)
-    either false k l more = ((λ e. absurd (clash (test x) e k)), more l)
+    either false k l more = ((λ e. absurd (both_ways (test x) k e)), more l)
 
 -- Dependencies.
 
 plain_address : (o : Option (List ℕ)) → unwrap_or (option_and_then (meaning AsWritten) o) [] ≡ unwrap_or o []
 plain_address None = refl
 plain_address (Some t) = refl
-
-not_restricts : same (codes "requires") (codes "restricts") ≡ false
-unfolding same injector
-not_restricts = refl
 
 recommends : importance_of (codes "recommended") ≡ Some Recommended
 unfolding importance_of same injector
@@ -99,10 +97,6 @@ not_recommended o h = either (same (unwrap_or o []) (codes "recommended")) refl
 -- one that counts and is essential asks
 dep_asks : (c : Elem) → counts_as (codes "requires") c ≡ true → c.name ≡ codes "requires" → (dep_of AsWritten c).kind ≡ Essential → asks c ≡ true
 dep_asks c h name k = app (ap {B = Bool → Bool} (λ x y. x && not y) h) (not_recommended (attribute (codes "importance") c) (sym (dep_kind c name) ∙ k))
-
-not_command : same (codes "requires") (codes "command") ≡ false
-unfolding same injector
-not_command = refl
 
 not_counted : (name other : List ℕ) (c : Elem) → c.name ≡ name → same name other ≡ false → counts_as other c ≡ false
 not_counted name other c h k = ends (is_ours c) (same c.name other) (not (is_left_out c)) (ap (λ n. same n other) h ∙ k)
@@ -203,7 +197,7 @@ item_met is e h k =
 each_sound : (rs : List Elem) → faults_of selection_fault rs ≡ [] → Each IsSound rs
 each_sound [] h = tt
 each_sound (r ∷ rs) h =
-    let b = empty_both (optional (selection_fault r)) (faults_of selection_fault rs) h in
+    let b = both_empty (optional (selection_fault r)) (faults_of selection_fault rs) h in
     (selection_sound r (empty_option (selection_fault r) b.0), each_sound rs b.1)
 
 -- The whole.
@@ -223,7 +217,7 @@ root_whole : (root : Elem) → tree_fault root ≡ None → IsWhole root
 unfolding tree_fault first_fault
 root_whole root h =
     let table = no_fault (λ (g : Fault). fault.Feed g.kind g.place) (first_fault root) (closed_fault (interfaces_in root) root) (is_one (is_selections root) _ h) in
-    let faults = empty_both (root_faults root) (item_faults root) (least_none (root_faults root ++ item_faults root) table.0) in
+    let faults = both_empty (root_faults root) (item_faults root) (least_none (root_faults root ++ item_faults root) table.0) in
     let twice = no_fault fault.Twice (first_twice (interfaces_in root)) _ table.1 in
     let rooted = is_rooted (is_among (interfaces_in root) (value (codes "interface") root)) _ twice.1 in
     let closed = no_fault fault.Unclosed (first (unmet (interfaces_in root) (asking root))) None rooted.1 in record {
@@ -241,11 +235,6 @@ root_whole root h =
     is_rooted true o k = (refl, k)
     is_rooted false o k = absurd (cc k)
 
-said_interfaces : (rs : List Elem) → map (λ (x : Selection). x.interface) (map selection_of rs) ≡ map (value (codes "interface")) rs
-unfolding selection_of
-said_interfaces [] = refl
-said_interfaces (r ∷ rs) = ap (λ v. value (codes "interface") r ∷ v) (said_interfaces rs)
-
 -- what a tree without a fault says is proper
 pub said_proper : (root : Elem) → tree_fault root ≡ None → IsProper (selections_of root)
 unfolding selections_of
@@ -253,7 +242,7 @@ said_proper root h =
     let w = root_whole root h in
     let rs = selections_in root in
     let is = interfaces_in root in
-    let same_is = said_interfaces rs in
+    let same_is = same_interfaces rs in
     let sound = each_sound rs w.items in
     let met = each_of_flat (IsIn is) asking_in rs (each_in is (asking root) w.closed) in record {
       items = subst (λ v. Each (IsMetWhole v) (map selection_of rs)) (sym same_is)

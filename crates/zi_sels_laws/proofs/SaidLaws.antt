@@ -36,15 +36,16 @@ use Rattle.zi_sels_laws.proofs.DepLaws.{IsProperDep}
 use Rattle.zi_sels_laws.proofs.CommandLaws.{IsProperCommand}
 use Rattle.zi_sels_laws.proofs.DigestsLaws.{AreProper, three, used_are, first_said}
 use Rattle.zi_sels_laws.proofs.ItemLaws.{IsProperItem, AreNamed, any_shares}
-use Rattle.zi_sels_laws.proofs.FreeLaws.{empty_both, empty_map, empty_optional, empty_option, each_filter, each_weak, each_map, each_front, each_true, least_none, IsRight, part_right, right_part, right_clear}
+use Rattle.zi_sels_laws.proofs.FreeLaws.{empty_optional, empty_option, each_filter, each_weak, each_map, each_front, each_true, IsRight, part_right, right_part, right_clear}
 use Rattle.zi_sels_laws.proofs.SoundLaws.{is_name, is_of_name, second_cause, binding_sound, dep_sound, command_sound}
+use Rattle.zi_feed.specs.IdLaws.{least_none, both_empty, map_nil}
 
 -- Parts without a fault.
 
 each_right : (es : List Elem) → faults_of part_fault es ≡ [] → Each (IsRight AsWritten) es
 each_right [] h = tt
 each_right (e ∷ es) h =
-    let b = empty_both (optional (part_fault e)) (faults_of part_fault es) h in
+    let b = both_empty (optional (part_fault e)) (faults_of part_fault es) h in
     (part_right e (empty_option (part_fault e) b.0), each_right es b.1)
 
 -- an element that counts, and has no fault
@@ -309,14 +310,14 @@ selection_sound e h =
     let seconds = map (λ c. fault_at c BadPart) (second_commands e) in
     let faults = faults_of part_fault (parts_in e) in
     let all = least_none (kinds ++ seconds ++ faults) (clear (is_unclear e) (least (kinds ++ seconds ++ faults)) h) in
-    let b = empty_both (kinds ++ seconds) faults all in
-    let c = empty_both kinds seconds b.0 in
+    let b = both_empty (kinds ++ seconds) faults all in
+    let c = both_empty kinds seconds b.0 in
     let right = each_right (parts_in e) b.1 in
     let p3 = each_front (IsRight AsWritten) (bindings_in e ++ counting (codes "requires") e ++ counting (codes "command") e) (counting (codes "manifest-digest") e) right in
     let p2 = each_front (IsRight AsWritten) (bindings_in e ++ counting (codes "requires") e) (counting (codes "command") e) p3.0 in
     let p1 = each_front (IsRight AsWritten) (bindings_in e) (counting (codes "requires") e) p2.0 in record {
       own = own_right e (empty_optional (fault_at e) (own_kind e) c.0);
-      seconds = empty_map (λ c. fault_at c BadPart) (second_commands e) c.1;
+      seconds = map_nil (λ c. fault_at c BadPart) (second_commands e) c.1;
       bindings = p1.0;
       deps = all_counted (codes "requires") (elements e.inside) p1.1;
       commands = all_counted (codes "command") (elements e.inside) p2.1;

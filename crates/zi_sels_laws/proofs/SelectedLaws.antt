@@ -7,7 +7,7 @@ use Rattle.zi_elements.specs.Namespace.{injector}
 use Rattle.zi_address.specs.Texts.{same}
 use Rattle.zi_reading.specs.Words.{is_among}
 use Rattle.zi_parts.specs.declared.types.Dep.{Dep}
-use Rattle.zi_reading.proofs.TableLaws.{same_text}
+use Rattle.zi_reading.proofs.TextLaws.{same_text}
 use Rattle.zi_universe.specs.declared.types.Candidate.{Candidate}
 use Rattle.zi_universe.specs.declared.types.Interface.{Interface}
 use Rattle.zi_universe.specs.Whole.{uris_of}

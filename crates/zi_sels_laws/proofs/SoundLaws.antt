@@ -15,7 +15,7 @@ use Rattle.zi_parts.specs.declared.types.Binding.TheVariants.{Env, Unbuilt}
 use Rattle.zi_parts.specs.declared.types.Mode.TheVariants.{Prepend}
 use Rattle.zi_parts.specs.declared.types.Word.TheVariants.{Arg, ForEach}
 use Rattle.zi_parts.specs.declared.types.DepKind.TheVariants.{Essential, Recommended, Restricts}
-use Rattle.zi_reading.proofs.TableLaws.{same_text, same_refl}
+use Rattle.zi_reading.proofs.TextLaws.{same_text, same_refl}
 use Rattle.zi_sels_laws.proofs.LikeLaws.{Each}
 use Rattle.zi_sels_laws.proofs.FieldLaws.{app}
 use Rattle.zi_sels_laws.proofs.BindingLaws.{IsProperBinding, other_names}
@@ -115,7 +115,7 @@ asked (Some t) = either (same t (codes "essential")) (same t (codes "recommended
     either false true = tt
     either false false = tt
 
-not_restricts : same (codes "requires") (codes "restricts") ≡ false
+pub not_restricts : same (codes "requires") (codes "restricts") ≡ false
 unfolding same injector
 not_restricts = refl
 

@@ -8,7 +8,7 @@ use Rattle.zi_reading.specs.Words.{is_among, optional}
 use Rattle.zi_parts.specs.declared.types.Dep.{Dep}
 use Rattle.zi_parts.specs.declared.types.Runner.{Runner}
 use Rattle.zi_parts.specs.declared.types.Command.{Command}
-use Rattle.zi_reading.proofs.TableLaws.{same_text}
+use Rattle.zi_reading.proofs.TextLaws.{same_text}
 use Rattle.zi_universe.specs.declared.types.Candidate.{Candidate}
 use Rattle.zi_universe.specs.declared.types.Interface.{Interface}
 use Rattle.zi_choice.specs.Choice.{Choice, chosen, command_of, command_at, needs_of, with_runner}
@@ -25,14 +25,11 @@ use Rattle.zi_sels_laws.proofs.ApartLaws.{IsFound, each_found}
 use Rattle.zi_sels_laws.proofs.FeedLaws.{IsGiven}
 use Rattle.zi_sels_laws.proofs.EachLaws.{all_each}
 use Rattle.zi_sels_laws.proofs.MadeLaws.{met_among}
+use Rattle.zi_xml.proofs.Backward.{same_list}
 
 -- what the commands need that are used is met
 abbrev pub AreUsesMet : List Interface → Choice → Walk → Type 0
 AreUsesMet u s w = All (λ (x : Use). IfSome (command_at u s x.interface x.command) (λ m. AreMet u s (needs_of m))) w.used
-
-text_is : (x y : List ℕ) → bytes_eq x y ≡ true → x ≡ y
-unfolding same injector
-text_is x y h = same_text x y h
 
 -- what a command needs that is used is met
 pub needs_met : (u : List Interface) (s : Choice) (w : Walk) (i : ℕ) (name : List ℕ) (m : Command) → AreUsesMet u s w → is_used w i name ≡ true → command_at u s i name ≡ Some m → AreMet u s (needs_of m)
@@ -41,7 +38,7 @@ needs_met u s w i name m h used at =
     let x = f.1 in
     let b = and_parts (x.interface == i) (bytes_eq x.command name) f.3 in
     let here : command_at u s x.interface x.command ≡ Some m =
-    ap (λ (j : ℕ). command_at u s j x.command) (eqb-true x.interface i b.0) ∙ (ap (λ (n : List ℕ). command_at u s i n) (text_is x.command name b.1) ∙ at) in
+    ap (λ (j : ℕ). command_at u s j x.command) (eqb-true x.interface i b.0) ∙ (ap (λ (n : List ℕ). command_at u s i n) (same_list x.command name b.1) ∙ at) in
     if_some_at (λ m. AreMet u s (needs_of m)) (command_at u s x.interface x.command) m here
     (all_at (λ (x : Use). IfSome (command_at u s x.interface x.command) (λ m. AreMet u s (needs_of m))) w.used f.0 x h f.2)
 

@@ -11,7 +11,7 @@ use Rattle.zi_parts.specs.declared.types.Dep.{Dep}
 use Rattle.zi_parts.specs.declared.types.DepKind.TheVariants.{Essential}
 use Rattle.zi_parts.specs.declared.types.Runner.{Runner}
 use Rattle.zi_parts.specs.declared.types.Command.{Command}
-use Rattle.zi_reading.proofs.TableLaws.{same_text, same_refl}
+use Rattle.zi_reading.proofs.TextLaws.{same_text, same_refl}
 use Rattle.zi_universe.specs.declared.types.Requirement.{Requirement}
 use Rattle.zi_universe.specs.declared.types.Candidate.{Candidate}
 use Rattle.zi_universe.specs.declared.types.Interface.{Interface}
@@ -23,7 +23,7 @@ use Rattle.zi_choice.specs.Choice.{Choice, chosen, number, command_of, command_a
 use Rattle.zi_choice.specs.Walk.{Walk, is_used, leads_to, wanted}
 use Rattle.zi_choice.specs.Valid.{Has, Suits, AreMet, IsValid}
 use Rattle.zi_choice.specs.Valid.{IsMet as IsMetBy}
-use Rattle.zi_choice.proofs.Base.{some_of, if_some_at, if_some_from, stands_at}
+use Rattle.zi_choice.proofs.Base.{if_some_at, if_some_from, stands_at}
 use Rattle.zi_choice.proofs.ThereLaws.{In}
 use Rattle.zi_choice.proofs.WalkFacts.{Item, Need, LeadsBy, Leads, deps_after, closed, cover_each}
 use Rattle.zi_choice.proofs.WalkLaws.{walk_one}
@@ -42,6 +42,7 @@ use Rattle.zi_sels_laws.proofs.LoadedLaws.{AreGivenIn, loaded_given}
 use Rattle.zi_sels_laws.proofs.SelectedLaws.{placed, each_selected, so_selected}
 use Rattle.zi_sels_laws.proofs.UsedLaws.{AreUsesMet, needs_met, command_is}
 use Rattle.zi_sels_laws.proofs.ChosenLaws.{sorted_other, chosen_given}
+use Rattle.zi_text.proofs.ListLaws.{bytes_itself, some_of}
 
 -- Each selection is found by its interface.
 
@@ -57,10 +58,6 @@ first_behind x items [] h k = tt
 first_behind x items (y ∷ ys) h k =
     (ap (λ b. cond b (Some x) (find (λ (z : Selection). bytes_eq z.interface y.interface) items)) h.0 ∙ k.0, first_behind x items ys h.1 k.1)
 
-itself : (x : List ℕ) → bytes_eq x x ≡ true
-unfolding same injector
-itself x = same_refl x x refl
-
 apart_from : (x : Selection) (items : List Selection) → Each (λ (m : List ℕ). same x.interface m ≡ false) (map (λ (y : Selection). y.interface) items) → Each (IsApart x) items
 apart_from x [] h = tt
 apart_from x (y ∷ items) h = (h.0, apart_from x items h.1)
@@ -68,7 +65,7 @@ apart_from x (y ∷ items) h = (h.0, apart_from x items h.1)
 each_first : (items : List Selection) → AreOther (map (λ (x : Selection). x.interface) items) → Each (IsFirst items) items
 each_first [] h = tt
 each_first (x ∷ items) h = (
-  ap (λ b. cond b (Some x) (find (λ (z : Selection). bytes_eq z.interface x.interface) items)) (itself x.interface),
+  ap (λ b. cond b (Some x) (find (λ (z : Selection). bytes_eq z.interface x.interface) items)) (bytes_itself x.interface),
   first_behind x items items (apart_from x items h.0) (each_first items h.1),
 )
 

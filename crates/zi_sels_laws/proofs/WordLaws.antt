@@ -16,11 +16,12 @@ use Rattle.zi_faults.specs.Faults.{faults_with, kinds_at, is_bad_part, repeats_i
 use Rattle.zi_parts.specs.declared.types.Word.{Word}
 use Rattle.zi_parts.specs.declared.types.Word.TheVariants.{Arg, ForEach}
 use Rattle.zi_sels.specs.Written.{attr_of, attr_unless, text_node, arg_elem, word_elem}
-use Rattle.zi_sels_laws.proofs.LikeLaws.{AreSame, same_inside, Each, each_read, values_back, no_child, same_text}
+use Rattle.zi_sels_laws.proofs.LikeLaws.{AreSame, same_inside, Each, each_read, values_back, same_text}
 use Rattle.zi_sels_laws.proofs.FieldLaws.{Field, field, fields, looked, unless, unless_field, unless_back, app}
 use Rattle.zi_sels_laws.proofs.PlainLaws.{here_is, made_is, condition, IsPlain, IsOf, of_parts, of_those, free_clear, stood, plain_open, all_parts}
 use Rattle.zi_sels_laws.proofs.CleanLaws.{IsClean, clean_inside, tested_faults, quiet_where}
 use Rattle.zi_sels_laws.proofs.BindingLaws.{no_repeats, empty_repeats, good_part}
+use Rattle.zi_docout.proofs.ToldLemmas.{child_bare}
 
 -- an argument, or a loop, as it may be read
 abbrev pub IsProperWord : Word → Type 0
@@ -55,7 +56,7 @@ unfolding arg_elem
 arg_inside text r s = s.inside ∙ text_unplaced text
 
 arg_empty : (text : List ℕ) (r : Elem) → IsSame (arg_elem text) r → elements r.inside ≡ []
-arg_empty text r s = childless r.inside (sym (no_child (has_child r.inside) r.inside) ∙ (ap has_child (arg_inside text r s) ∙ text_alone text))
+arg_empty text r s = childless r.inside (sym (child_bare (has_child r.inside) r.inside) ∙ (ap has_child (arg_inside text r s) ∙ text_alone text))
 
 pub arg_text : (text : List ℕ) (r : Elem) → IsSame (arg_elem text) r → text_in r.inside ≡ text
 arg_text text r s = same_text r.inside (text_node text) (text_alone text) (arg_inside text r s) ∙ text_again text

@@ -26,11 +26,12 @@ use Rattle.zi_session.specs.declared.phase.Phase.TheVariants as in_phase
 use Rattle.zi_session.specs.declared.session.Session.{Session}
 use Rattle.zi_session.specs.declared.step.Step.{Step}
 use Rattle.zi_session.specs.declared.step.Step.TheVariants.{More, Stored as SaysStored, Present as SaysPresent, Crowded as SaysCrowded, Fault as SaysFault, Memory as SaysMemory}
-use Rattle.zi_session.proofs.MapsLemmas.{put-same, put-other, same_or_not, some_none}
+use Rattle.zi_session.proofs.MapsLemmas.{put-same, put-other, some_none}
 use Rattle.zi_session.proofs.CallsLemmas.{fill_is, made_none, made_more, not_lt}
 use Rattle.zi_session.proofs.FittingLemmas.{left_along}
 use Rattle.zi_session.proofs.TiedLemmas.{no_tmp}
 use Rattle.zi_session.proofs.Remade.{rebuilds}
+use Rattle.zi_shelf.proofs.TopsLemmas.{same_or_not}
 
 -- a temporary name that was free holds what so many of the calls make, with the mark or without it, and all else is as it was
 record Holding (before : Tops) (its : List Work) (n k : ℕ) (mark : Bool) (now : Tops) : Type 0 where

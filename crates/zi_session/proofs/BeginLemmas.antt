@@ -15,6 +15,7 @@ use Rattle.zi_manifest.specs.Manifest.{own_name, has_newline, is_bad, leaf_bad, 
 use Rattle.zi_manifest.specs.Walk.{after}
 use Rattle.zi_manifest.proofs.Walks.{after_step}
 use Rattle.zi_session.specs.Walk.{is_leaf}
+use Rattle.zi_text.proofs.ListLaws.{first_none}
 
 plain_name : (m n : List ℕ) → is_name m ≡ true → Some m ≡ Some n → is_plain n ≡ true
 plain_name m n h k = let e : m ≡ n = cc k in ap is_plain (sym e) ∙ (and_parts (is_utf8 m) (is_plain m) h).1
@@ -67,10 +68,6 @@ read_good (AFile n b e t rest) h = let q = bad_own n (Some n) (leaf_bad [] rest)
 read_good (ALink n t rest) h = let q = bad_own n (Some n) (leaf_bad [] rest) h (λ x. cc x) in ap (ALink n t) (read_good rest q.1)
 read_good (AFolder n inside rest) h = ap (AFolder n inside) (read_good rest h)
 
-none_first : (o p : Option (List ℕ)) → option_or o p ≡ None → o ≡ None
-none_first None p h = refl
-none_first (Some x) p h = absurd (cc h)
-
 none_second : (o p : Option (List ℕ)) → option_or o p ≡ None → p ≡ None
 none_second None p h = h
 none_second (Some x) p h = absurd (cc h)
@@ -85,7 +82,7 @@ free_of (AFolder n inside rest) p h k =
     rw q.0 (free_of rest p h (none_second (folder_bad (joined p n) inside) (folder_bad p rest) (none_second (leaf_bad (joined p n) inside) (option_or (folder_bad (joined p n) inside) (folder_bad p rest)) q.1)))
 
 pub own_free : (d : Dir) → first_bad d ≡ None → node_in own_name (items d) ≡ None
-own_free d h = free_of d [] (none_first (leaf_bad [] d) (folder_bad [] d) h) (none_second (leaf_bad [] d) (folder_bad [] d) h)
+own_free d h = free_of d [] (first_none (leaf_bad [] d) (folder_bad [] d) h) (none_second (leaf_bad [] d) (folder_bad [] d) h)
 
 -- the first bad name of all is the first one among the top files and links, if there is one
 pub first_leaf : (d : Dir) (p : List ℕ) → leaf_bad [] d ≡ Some p → first_bad d ≡ Some p

@@ -14,8 +14,9 @@ use Rattle.zi_session.specs.Standing.{Standing}
 use Rattle.zi_session.specs.Stepping.{Holds, IsAsLeft, Calls, Lead}
 use Rattle.zi_session.specs.declared.step.Step.{Step}
 use Rattle.zi_session.specs.declared.step.Step.TheVariants.{More}
-use Rattle.zi_session.proofs.MapsLemmas.{put-same, is_some_of}
+use Rattle.zi_session.proofs.MapsLemmas.{put-same}
 use Rattle.zi_session.proofs.CallsLemmas.{fill_is, made_none, made_more, not_lt}
+use Rattle.zi_text.proofs.ListLaws.{some_is}
 
 next_fits : {T W : Type 0} (t : Trees T W) (ws : List W) (k : ℕ) (w : W) (x y : T) → is_some (made t ws (length ws) x) ≡ true → slice_get ws k ≡ Some w → made t ws k x ≡ Some y → IsSome (t.filled w y)
 next_fits t [] k w x y all at m = absurd (cc at)
@@ -34,7 +35,7 @@ fits_known : (s : Shelved Dir) (call other : Call Work) → other ≡ call → F
 fits_known s call other e f = subst (λ c. Fits trees s c) e f
 
 there_at : (works : List Work) (s : Shelved Dir) (n k : ℕ) (mark : Bool) → Holds works s n k mark → IsSome (s.tops (tmp_name n))
-there_at works s n k mark (part, is, there) = is_some_of (s.tops (tmp_name n)) (record { tree = part; settled = mark }) there
+there_at works s n k mark (part, is, there) = some_is (s.tops (tmp_name n)) (record { tree = part; settled = mark }) there
 
 -- the next call fits
 pub next_call_fits : (works : List Work) (name : Name) (p : Phase) (s : Shelved Dir) (call : Call Work) → is_some (made trees works (length works) trees.empty) ≡ true

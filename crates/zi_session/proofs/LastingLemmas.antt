@@ -6,14 +6,8 @@ use Rattle.zi_session.specs.Machine.{Rules, Adder, World, Phase, Making, Ended, 
 use Rattle.zi_session.specs.Law.{IsLawful, HasAdded}
 use Rattle.zi_session.specs.Invariant.{Inv}
 use Rattle.zi_session.specs.Lasting.{Lasts}
-use Rattle.zi_session.proofs.MapsLemmas.{some_of}
 use Rattle.zi_session.proofs.KeptLemmas.{event_keeps, start_inv, run_keeps, added_fits, keeps_there, keeps_through}
-
--- what stood in a list stands in it after a push
-pushed : {V : Type 0} (xs ys : List V) (i : ℕ) (a : V) → slice_get xs i ≡ Some a → slice_get (xs ++ ys) i ≡ Some a
-pushed [] ys i a h = absurd (cc h)
-pushed (x ∷ xs) ys zero a h = h
-pushed (x ∷ xs) ys (suc i) a h = pushed xs ys i a h
+use Rattle.zi_text.proofs.ListLaws.{at_front, some_of}
 
 -- after a write it stands there, or it was written over
 written : {V : Type 0} (xs : List V) (i j : ℕ) (a v : V) → slice_get xs i ≡ Some a
@@ -52,7 +46,7 @@ module _ {T W : Type 0} (r : Rules T W) (lawful : IsLawful r) where
 
   answer_stays : (old new : World T) (e : Event T) (i : ℕ) (name : Name) → Leads r old e new → HasAdded old i name → HasAdded new i name
   answer_stays old new (Begin n t) i name (digest, begins, same, added) (a, is, named, ended) =
-      (a, along _ new.adders i a added (pushed old.adders (record { name = n; tree = t; phase = Making 0 } ∷ []) i a is), named, ended)
+      (a, along _ new.adders i a added (at_front old.adders (record { name = n; tree = t; phase = Making 0 } ∷ []) i a is), named, ended)
   answer_stays old new (Step j) i name st (a, is, named, ended) =
       let moved = record st.adder { phase = next_phase r.tries (length (r.works st.adder.name st.adder.tree)) st.adder.phase st.reply } in
       elim (written old.adders i j a moved is) [

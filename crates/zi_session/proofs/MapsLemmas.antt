@@ -3,41 +3,23 @@ use Rattle.std.proofs.Common.{◌≡◌, ◌≢◌, ℕ, zero, suc, true, false,
 use Rattle.std.proofs.lemmas.Slice.Eq.{bytes_eq-Decides}
 use mathlib.Core.Path.{fun_ext}
 use Rattle.zi_shelf.specs.Names.{Name, put, IsIn}
-
-pub name_eq_refl : (n : Name) → bytes_eq n n ≡ true
-name_eq_refl n = (bytes_eq-Decides n n).1 refl
-
-pub name_eq_false : (k n : Name) → k ≢ n → bytes_eq k n ≡ false
-name_eq_false k n ne =
-    elim (bytes_eq k n) as (λ b. (b ≡ true → k ≡ n) → b ≡ false) [ true ↦ λ h. absurd (ne (h refl)) | false ↦ λ h. refl ] (bytes_eq-Decides k n).0
-
-pub same_or_not : (k n : Name) → (k ≡ n) ⊎ (k ≢ n)
-same_or_not k n =
-    elim (bytes_eq k n) as (λ b. (b ≡ true → k ≡ n) → (k ≡ n → b ≡ true) → (k ≡ n) ⊎ (k ≢ n)) [ true ↦ λ h g. inl (h refl) | false ↦ λ h g. inr (λ e. cc (g e)) ]
-    (bytes_eq-Decides k n).0 (bytes_eq-Decides k n).1
+use Rattle.zi_shelf.proofs.TopsLemmas.{test_refl, test_false}
 
 pub is_in_along : {X : Type 0} (x : X) (xs ys : List X) → xs ≡ ys → IsIn x xs → IsIn x ys
 is_in_along x xs ys e i = subst (λ l. IsIn x l) e i
 
 pub put-same : {V : Type 0} (at : Name → Option V) (n : Name) (v : Option V) → put at n v n ≡ v
 unfolding put
-put-same at n v = rw (name_eq_refl n) refl
+put-same at n v = rw (test_refl n) refl
 
 pub put-other : {V : Type 0} (at : Name → Option V) (n : Name) (v : Option V) (k : Name) → k ≢ n → put at n v k ≡ at k
 unfolding put
-put-other at n v k ne = rw (name_eq_false k n ne) refl
+put-other at n v k ne = rw (test_false k n ne) refl
 
 -- a second change under one name hides the first
 pub put-put : {V : Type 0} (at : Name → Option V) (n : Name) (v w : Option V) → put (put at n v) n w ≡ put at n w
 unfolding put
 put-put at n v w = fun_ext (λ k. elim (bytes_eq k n) as (λ t. (if t then w else (if t then v else at k)) ≡ (if t then w else at k)) [ true ↦ refl | false ↦ refl ])
-
-pub some_of : {V : Type 0} (o : Option V) → IsSome o → (v : V) × (o ≡ Some v)
-some_of None h = absurd (cc h)
-some_of (Some v) h = (v, refl)
-
-pub is_some_of : {V : Type 0} (o : Option V) (v : V) → o ≡ Some v → IsSome o
-is_some_of o v e = rw e refl
 
 pub some_none : {V A : Type 0} (o : Option V) (v : V) → o ≡ Some v → o ≡ None → A
 some_none o v e f = absurd (cc (e, f))

@@ -2,43 +2,32 @@
 use Rattle.std.proofs.Common.{◌≡◌, Bool, true, false, ◌&&◌, List, [], ◌∷◌, Some, None, refl, sym, ◌∙◌, ap, bytes_eq, if◌then◌else◌}
 use Rattle.std.specs.Ordering.{is_lt}
 use Rattle.std.proofs.lemmas.Slice.Eq.{bytes_eq-Decides}
-use Rattle.std.proofs.lemmas.Bool.{and_parts, and_from}
+use Rattle.std.proofs.lemmas.Bool.{and_parts, and_from, both_ways}
 use Rattle.zi_tree.specs.Dir.{Dir}
 use Rattle.zi_tree.specs.declared.tree.TreeNode.{TreeNode}
 use Rattle.zi_tree.specs.declared.tree.TreeNode.TheVariants.{File, Link, Folder}
 use Rattle.zi_tree.specs.Views.{Item, entry_of, dir, node_is_tree}
 use Rattle.zi_tree.specs.Paths.{node_in, placed, replaced}
 use Rattle.zi_tree.specs.Order.{is_name, is_before, is_tree}
-use Rattle.zi_tree.proofs.Order.{Name, cmp, lt_flip, lt_trans, parts, whole}
-
-pub name_eq_refl : (n : Name) → bytes_eq n n ≡ true
-name_eq_refl n = (bytes_eq-Decides n n).1 refl
-
-both : (b : Bool) → b ≡ true → b ≡ false → ⊥
-both b h k = cc (h, k)
+use Rattle.zi_tree.proofs.Order.{Name, cmp, lt_flip, lt_trans, parts, whole, before_entry, before_parts, before_whole}
+use Rattle.zi_shelf.proofs.TopsLemmas.{test_refl}
 
 pub differ_flip : (n m : Name) → bytes_eq n m ≡ false → bytes_eq m n ≡ false
 differ_flip n m h =
     elim (bytes_eq m n) as (λ b. (b ≡ true → m ≡ n) → b ≡ false) [
-      | true ↦ λ d. absurd (both (bytes_eq n m) ((bytes_eq-Decides n m).1 (sym (d refl))) h)
+      | true ↦ λ d. absurd (both_ways (bytes_eq n m) h ((bytes_eq-Decides n m).1 (sym (d refl))))
       | false ↦ λ d. refl
     ] (bytes_eq-Decides m n).0
 
-pub and_first : (a b : Bool) → (a && b) ≡ true → a ≡ true
-and_first a b h = (and_parts a b h).0
-
-pub and_second : (a b : Bool) → (a && b) ≡ true → b ≡ true
-and_second a b h = (and_parts a b h).1
-
 -- what stands under a name that was free, once a node is placed there
 pub node_placed : (n : Name) (x : TreeNode) (is : List Item) → node_in n is ≡ None → node_in n (placed n x is) ≡ Some x
-node_placed n x [] h = rw (name_eq_refl n) refl
+node_placed n x [] h = rw (test_refl n) refl
 node_placed n x (i ∷ is) h0 =
     elim (bytes_eq i.0 n) as (λ t. bytes_eq i.0 n ≡ t → (if t then Some i.1 else node_in n is) ≡ None → node_in n (placed n x (i ∷ is)) ≡ Some x) [
       | true ↦ λ e h. absurd (cc h)
       | false ↦ λ e h.
           elim (is_lt (cmp n i.0)) as (λ l. node_in n (if l then (n, x) ∷ i ∷ is else i ∷ placed n x is) ≡ Some x) [
-            | true ↦ rw (name_eq_refl n) refl
+            | true ↦ rw (test_refl n) refl
             | false ↦ rw e (node_placed n x is h)
           ]
     ] refl h0
@@ -54,13 +43,13 @@ node_placed_other m n x (i ∷ is) ne =
 
 -- a node that is placed and then replaced
 pub replaced_placed : (n : Name) (x y : TreeNode) (is : List Item) → node_in n is ≡ None → replaced n y (placed n x is) ≡ placed n y is
-replaced_placed n x y [] h = rw (name_eq_refl n) refl
+replaced_placed n x y [] h = rw (test_refl n) refl
 replaced_placed n x y (i ∷ is) h0 =
     elim (bytes_eq i.0 n) as (λ t. bytes_eq i.0 n ≡ t → (if t then Some i.1 else node_in n is) ≡ None → replaced n y (placed n x (i ∷ is)) ≡ placed n y (i ∷ is)) [
       | true ↦ λ e h. absurd (cc h)
       | false ↦ λ e h.
           elim (is_lt (cmp n i.0)) as (λ l. replaced n y (if l then (n, x) ∷ i ∷ is else i ∷ placed n x is) ≡ (if l then (n, y) ∷ i ∷ is else i ∷ placed n y is)) [
-            | true ↦ rw (name_eq_refl n) refl
+            | true ↦ rw (test_refl n) refl
             | false ↦ rw e (ap (λ (l : List Item). i ∷ l) (replaced_placed n x y is h))
           ]
     ] refl h0
@@ -69,18 +58,6 @@ replaced_placed n x y (i ∷ is) h0 =
 pub free_behind : (n : Name) (i : Item) (is : List Item) → node_in n (i ∷ is) ≡ None → (bytes_eq i.0 n ≡ false) × (node_in n is ≡ None)
 free_behind n i is h0 =
     elim (bytes_eq i.0 n) as (λ t. (if t then Some i.1 else node_in n is) ≡ None → (t ≡ false) × (node_in n is ≡ None)) [ true ↦ λ h. absurd (cc h) | false ↦ λ h. (refl, h) ] h0
-
--- a tree stays one with one more entry
-before_entry : (m n : Name) (x : TreeNode) (rest : Dir) → is_before m (entry_of n x rest) ≡ (is_lt (cmp m n) && is_before m rest)
-before_entry m n (File b e t) rest = refl
-before_entry m n (Link t) rest = refl
-before_entry m n (Folder d) rest = refl
-
-before_parts : (m n : Name) (x : TreeNode) (rest : Dir) → is_before m (entry_of n x rest) ≡ true → (is_lt (cmp m n) ≡ true) × (is_before m rest ≡ true)
-before_parts m n x rest h = and_parts (is_lt (cmp m n)) (is_before m rest) (sym (before_entry m n x rest) ∙ h)
-
-before_whole : (m n : Name) (x : TreeNode) (rest : Dir) → is_lt (cmp m n) ≡ true → is_before m rest ≡ true → is_before m (entry_of n x rest) ≡ true
-before_whole m n x rest h k = before_entry m n x rest ∙ and_from (is_lt (cmp m n)) (is_before m rest) h k
 
 before_more : (m n : Name) (x : TreeNode) (is : List Item) → is_lt (cmp m n) ≡ true → is_before m (dir is) ≡ true → is_before m (dir (placed n x is)) ≡ true
 before_more m n x [] h k = before_whole m n x (dir []) h refl

@@ -9,7 +9,7 @@ use Rattle.zi_tree.specs.Views.{Item}
 use Rattle.zi_tree.specs.Paths.{items, node_in, placed}
 use Rattle.zi_tree.specs.Order.{is_before, is_tree}
 use Rattle.zi_tree.proofs.Order.{Name, cmp, lt_less, lt_apart, parts}
-use Rattle.zi_session.proofs.Placed.{differ_flip, and_first, and_second, node_placed_other}
+use Rattle.zi_session.proofs.Placed.{differ_flip, node_placed_other}
 
 -- the files and links of a folder, placed one after another
 abbrev pub leaves_on : Dir → List Item → List Item
@@ -34,13 +34,13 @@ before_placed n m x [] h k = and_from (is_lt (cmp n m)) true h refl
 before_placed n m x (i ∷ is) h k =
     elim (is_lt (cmp m i.0)) as (λ l. before_all n (if l then (m, x) ∷ i ∷ is else i ∷ placed m x is) ≡ true) [
       | true ↦ and_from (is_lt (cmp n m)) (before_all n (i ∷ is)) h k
-      | false ↦ and_from (is_lt (cmp n i.0)) (before_all n (placed m x is)) (and_first (is_lt (cmp n i.0)) (before_all n is) k) (before_placed n m x is h (and_second (is_lt (cmp n i.0)) (before_all n is) k))
+      | false ↦ and_from (is_lt (cmp n i.0)) (before_all n (placed m x is)) (and_parts (is_lt (cmp n i.0)) (before_all n is) k).0 (before_placed n m x is h (and_parts (is_lt (cmp n i.0)) (before_all n is) k).1)
     ]
 
 -- one that stands before all goes to the front
 pub placed_front : (n : Name) (x : TreeNode) (is : List Item) → before_all n is ≡ true → placed n x is ≡ (n, x) ∷ is
 placed_front n x [] h = refl
-placed_front n x (i ∷ is) h = rw (and_first (is_lt (cmp n i.0)) (before_all n is) h) refl
+placed_front n x (i ∷ is) h = rw (and_parts (is_lt (cmp n i.0)) (before_all n is) h).0 refl
 
 -- one that stands after the first goes behind it
 placed_behind : (n : Name) (x : TreeNode) (i : Item) (is : List Item) → is_lt (cmp i.0 n) ≡ true → placed n x (i ∷ is) ≡ i ∷ placed n x is
@@ -54,7 +54,7 @@ before_leaves (AFile m b e t rest) n is h k =
 before_leaves (ALink m t rest) n is h k =
     let p = and_parts (is_lt (cmp n m)) (is_before n rest) h in
     before_leaves rest n (placed m (Link t) is) p.1 (before_placed n m (Link t) is p.0 k)
-before_leaves (AFolder m inside rest) n is h k = before_leaves rest n is (and_second (is_lt (cmp n m)) (is_before n rest) h) k
+before_leaves (AFolder m inside rest) n is h k = before_leaves rest n is (and_parts (is_lt (cmp n m)) (is_before n rest) h).1 k
 
 -- the first entry stays in front of what is placed later
 leaves_behind : (d : Dir) (i : Item) (is : List Item) → is_before i.0 d ≡ true → leaves_on d (i ∷ is) ≡ i ∷ leaves_on d is
@@ -65,12 +65,12 @@ leaves_behind (AFile m b e t rest) i is h =
 leaves_behind (ALink m t rest) i is h =
     let p = and_parts (is_lt (cmp i.0 m)) (is_before i.0 rest) h in
     ap (leaves_on rest) (placed_behind m (Link t) i is p.0) ∙ leaves_behind rest i (placed m (Link t) is) p.1
-leaves_behind (AFolder m inside rest) i is h = leaves_behind rest i is (and_second (is_lt (cmp i.0 m)) (is_before i.0 rest) h)
+leaves_behind (AFolder m inside rest) i is h = leaves_behind rest i is (and_parts (is_lt (cmp i.0 m)) (is_before i.0 rest) h).1
 
 folders_behind : (d : Dir) (i : Item) (is : List Item) → is_before i.0 d ≡ true → folders_on d (i ∷ is) ≡ i ∷ folders_on d is
 folders_behind Nothing i is h = refl
-folders_behind (AFile m b e t rest) i is h = folders_behind rest i is (and_second (is_lt (cmp i.0 m)) (is_before i.0 rest) h)
-folders_behind (ALink m t rest) i is h = folders_behind rest i is (and_second (is_lt (cmp i.0 m)) (is_before i.0 rest) h)
+folders_behind (AFile m b e t rest) i is h = folders_behind rest i is (and_parts (is_lt (cmp i.0 m)) (is_before i.0 rest) h).1
+folders_behind (ALink m t rest) i is h = folders_behind rest i is (and_parts (is_lt (cmp i.0 m)) (is_before i.0 rest) h).1
 folders_behind (AFolder m inside rest) i is h =
     let p = and_parts (is_lt (cmp i.0 m)) (is_before i.0 rest) h in
     ap (folders_on rest) (placed_behind m (Folder inside) i is p.0) ∙ folders_behind rest i (placed m (Folder inside) is) p.1
@@ -127,8 +127,8 @@ FoldersFree (AFolder n inside rest) is = (node_in n is ≡ None) × FoldersFree 
 
 pub folders_free_after : (d : Dir) (n : Name) (x : TreeNode) (is : List Item) → is_before n d ≡ true → FoldersFree d is → FoldersFree d (placed n x is)
 folders_free_after Nothing n x is h f = tt
-folders_free_after (AFile m b e t rest) n x is h f = folders_free_after rest n x is (and_second (is_lt (cmp n m)) (is_before n rest) h) f
-folders_free_after (ALink m t rest) n x is h f = folders_free_after rest n x is (and_second (is_lt (cmp n m)) (is_before n rest) h) f
+folders_free_after (AFile m b e t rest) n x is h f = folders_free_after rest n x is (and_parts (is_lt (cmp n m)) (is_before n rest) h).1 f
+folders_free_after (ALink m t rest) n x is h f = folders_free_after rest n x is (and_parts (is_lt (cmp n m)) (is_before n rest) h).1 f
 folders_free_after (AFolder m inside rest) n x is h f =
     let p = and_parts (is_lt (cmp n m)) (is_before n rest) h in (one_more n m x is p.0 f.0, folders_free_after rest n x is p.1 f.1)
 
@@ -141,7 +141,7 @@ still_free (AFile m b e t rest) n is h f =
 still_free (ALink m t rest) n is h f =
     let p = and_parts (is_lt (cmp n m)) (is_before n rest) h in
     still_free rest n (placed m (Link t) is) p.1 (node_placed_other n m (Link t) is (differ_flip n m (lt_apart n m p.0)) ∙ f)
-still_free (AFolder m inside rest) n is h f = still_free rest n is (and_second (is_lt (cmp n m)) (is_before n rest) h) f
+still_free (AFolder m inside rest) n is h f = still_free rest n is (and_parts (is_lt (cmp n m)) (is_before n rest) h).1 f
 
 pub folders_free : (d : Dir) (is : List Item) → is_tree d ≡ true → AreFree d is → FoldersFree d (leaves_on d is)
 folders_free Nothing is o f = tt

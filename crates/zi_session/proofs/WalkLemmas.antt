@@ -14,6 +14,7 @@ use Rattle.zi_session.specs.Works.{pieces, below, leaf_works, folder_works, node
 use Rattle.zi_session.specs.Walk.{calls, leaf_at, frame_works, frame_steps, frames_works, frames_steps, Moves}
 use Rattle.zi_session.specs.declared.work.Work.{Work as Kept}
 use Rattle.zi_session.specs.declared.walk.Frame.{Frame}
+use Rattle.zi_manifest.proofs.Opened.{steps_last, steps_leaves, steps_inner, after_next, steps_entry}
 
 -- a call in a folder of a folder
 below_twice : (p q : List (List ℕ)) (w : Work) → below p (below q w) ≡ below (p ++ q) w
@@ -58,10 +59,6 @@ leaf_entry n (Folder i) d = refl
 works_last : (fs : List Frame) (f : Frame) → frames_works (fs ++ f ∷ []) ≡ frame_works f ++ frames_works fs
 works_last [] f = sym (append-nil (frame_works f))
 works_last (g ∷ fs) f = ap (λ l. l ++ frame_works g) (works_last fs f) ∙ append_assoc (frame_works f) (frames_works fs) (frame_works g)
-
-steps_last : (fs : List Frame) (f : Frame) → frames_steps (fs ++ f ∷ []) ≡ frames_steps fs + frame_steps f
-steps_last [] f = refl
-steps_last (g ∷ fs) f = omega (arith, steps_last fs f)
 
 -- from one state of the last open folder to the next, with these calls
 pub record Goes (f : Frame) (now : List Work) (g : Frame) : Type 0 where
@@ -109,15 +106,6 @@ works_leaves f h = rw h refl
 works_inner : (f : Frame) → f.leaves ≡ false → frame_works f ≡ map (below f.path) (folder_works (after f.next f.tree.now))
 works_inner f h = rw h refl
 
-steps_leaves : (f : Frame) → f.leaves ≡ true → frame_steps f ≡ (length (items f.tree.now) - f.next) + 1 + folder_steps f.tree.now
-steps_leaves f h = rw h refl
-
-steps_inner : (f : Frame) → f.leaves ≡ false → frame_steps f ≡ folder_steps (after f.next f.tree.now)
-steps_inner f h = rw h refl
-
-after_next : (d : Dir) (i : ℕ) (n : List ℕ) (x : TreeNode) → name_in (items d) i ≡ Some n → node_of (items d) i ≡ Some x → after i d ≡ entry_of n x (after (i + 1) d)
-after_next d i n x h k = after_step d i n x h k ∙ ap (λ j. entry_of n x (after j d)) (sym (add-one i))
-
 -- the name of an entry, from the path to it
 name_of_path : (p q : List (List ℕ)) (o : Option (List ℕ)) → option_map (λ n. p ++ n ∷ []) o ≡ Some q → (n : List ℕ) × (o ≡ Some n) × (q ≡ p ++ n ∷ [])
 name_of_path p q None h = absurd (cc h)
@@ -163,12 +151,6 @@ node_steps : TreeNode → ℕ
 node_steps (File b e t) = 1
 node_steps (Link t) = 1
 node_steps (Folder d) = 1 + (length (items d) + 1 + folder_steps d)
-
-steps_entry : (n : List ℕ) (x : TreeNode) (d : Dir) → folder_steps (entry_of n x d) ≡ node_steps x + folder_steps d
-unfolding node_steps
-steps_entry n (File b e t) d = refl
-steps_entry n (Link t) d = refl
-steps_entry n (Folder i) d = refl
 
 folder_takes : (d : Dir) → node_steps (Folder d) ≡ 1 + (length (items d) + 1 + folder_steps d)
 unfolding node_steps

@@ -11,10 +11,7 @@ use Rattle.zi_shelf.specs.Told.{change_call}
 use Rattle.zi_shelf.specs.Memory.{top_of, tops_of, later_of, told_of, IsAt}
 use Rattle.zi_shelf.proofs.TopsLemmas.{found_at, at_name, tops_set}
 use Rattle.zi_shelf.proofs.DoingLemmas.{Led, shelved, does, same_shelf, calls_more}
-
--- the entry that was found is the shelf's
-there_is : (es : List TopEntry) (n : Name) (i : ℕ) (x : TopEntry) → IsAt n es i → x ≡ get_or es i x → tops_of es n ≡ Some (top_of x)
-there_is es n i x at is = found_at es n i x at ∙ ap (λ (t : TopEntry). Some (top_of t)) (sym is)
+use Rattle.zi_shelf.proofs.ReadingLemmas.{top_at}
 
 pub name_is : (es : List TopEntry) (n : Name) (i : ℕ) (x y : TopEntry) → IsAt n es i → x ≡ get_or es i x → y.name ≡ x.name → y.name ≡ n
 name_is es n i x y at is e = e ∙ ap (λ (t : TopEntry). t.name) is ∙ at_name es n i x at
@@ -27,13 +24,13 @@ filled_does es ps cs cs' c n work i x y at is en em ef e f =
     let new : Top Dir = record { tree = y.tree; settled = false } in
     let map_is : tops_of (slice_set es i y) ≡ put (tops_of es) n (Some new) =
     tops_set es n i y at (name_is es n i x y at is en) ∙ ap (λ b. put (tops_of es) n (Some (record { tree = y.tree; settled = b }))) em in
-    does es (slice_set es i y) ps ps cs cs' (Fill n work) Did (top_of x, y.tree, there_is es n i x at is, ef, same_shelf (map later_of (reverse ps)) (tops_of (slice_set es i y)) (put (tops_of es) n (Some new)) map_is) (calls_more cs cs' c (change_call (Fill n work)) e f)
+    does es (slice_set es i y) ps ps cs cs' (Fill n work) Did (top_of x, y.tree, top_at es n i x at is, ef, same_shelf (map later_of (reverse ps)) (tops_of (slice_set es i y)) (put (tops_of es) n (Some new)) map_is) (calls_more cs cs' c (change_call (Fill n work)) e f)
 
 -- a call that doesn't fit the tree doesn't fit the shelf
 pub misfits : (es : List TopEntry) (ps : List Later) (n : Name) (work : Work) (i : ℕ) (x : TopEntry) → IsAt n es i → x ≡ get_or es i x → is_some (filled work x.tree) ≡ false
     → Fits trees (shelved es ps) (Fill n work) → ⊥
 misfits es ps n work i x at is misfit fit =
-    let tree : x.tree ≡ fit.0.tree = same_tree (top_of x) fit.0 (tops_of es n) (there_is es n i x at is) fit.1 in
+    let tree : x.tree ≡ fit.0.tree = same_tree (top_of x) fit.0 (tops_of es n) (top_at es n i x at is) fit.1 in
     no_tree (is_some (filled work x.tree)) misfit (ap (λ t. is_some (filled work t)) tree ∙ fit.2)
   where
     same_tree : (a b : Top Dir) (o : Option (Top Dir)) → o ≡ Some a → o ≡ Some b → a.tree ≡ b.tree

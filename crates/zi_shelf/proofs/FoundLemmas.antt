@@ -10,7 +10,9 @@ use Rattle.zi_text.proofs.Searched.{Rise, IsNamed, IsGap, searched}
 use Rattle.zi_shelf.specs.declared.top_entry.TopEntry.{TopEntry}
 use Rattle.zi_shelf.specs.Memory.{tops_of, are_apart, is_before, IsAt, IsPlace}
 use Rattle.zi_shelf.proofs.TopsLemmas.{none_from_all, at_from_first, order_parts}
-use Rattle.zi_tree.proofs.Order.{cmp, greater_flip, less_of, lt_apart, lt_less}
+use Rattle.zi_tree.proofs.Order.{cmp, greater_flip, lt_apart, lt_less}
+use Rattle.zi_tree.proofs.Found.{apart_flip}
+use Rattle.zi_text.proofs.ListLaws.{is_less}
 
 place_from_first : (es : List TopEntry) (n : List ℕ) (i : ℕ) (e : TopEntry) → i < length es → ((k : ℕ) (d : TopEntry) → k < i → is_lt (slice_cmp nat_cmp n (get_or es k d).name) ≡ false) → is_lt (slice_cmp nat_cmp n (get_or es i e).name) ≡ true → IsPlace n es i
 place_from_first [] n i e lt h t = absurd (omega arith)
@@ -44,13 +46,6 @@ at_name es n at tree named = at_from_first es n at (first es at named.within) na
     before : (k : ℕ) (d : TopEntry) → k < at → bytes_eq (get_or es k d).name n ≡ false
     before k d lt = lt_apart (get_or es k d).name n (subst (λ (y : List ℕ). is_lt (cmp (get_or es k d).name y) ≡ true) (named.same d) (rises es k at d tree lt named.within))
 
-apart_flip : (x y : List ℕ) → bytes_eq y x ≡ false → bytes_eq x y ≡ false
-apart_flip x y h = by_test (bytes_eq x y) refl
-  where
-    by_test : (t : Bool) → bytes_eq x y ≡ t → bytes_eq x y ≡ false
-    by_test false e = e
-    by_test true e = absurd (true≢false (sym ((bytes_eq-Decides y x).1 (sym ((bytes_eq-Decides x y).0 e))) ∙ h))
-
 none_in_gap : (es : List TopEntry) (n : List ℕ) (at : ℕ) → IsGap (λ (e : TopEntry). e.name) es n at → tops_of es n ≡ None
 none_in_gap es n at gap = none_from_all es n (λ k d lt. by_place k d lt (cases_lt k at))
   where
@@ -74,7 +69,7 @@ pub top_found : (es : List TopEntry) → are_apart es ≡ true → (n : List ℕ
 top_found es tree n r in_range answer = by_result r (searched (λ (e : TopEntry). e.name) es rising n r in_range answer)
   where
     rising : Rise (λ (e : TopEntry). e.name) es
-    rising i j d lt in_range = less_of _ (rises es i j d tree lt in_range)
+    rising i j d lt in_range = is_less _ (rises es i j d tree lt in_range)
 
     by_result : (r : Result ℕ ℕ) → MatchResult r (IsNamed (λ (e : TopEntry). e.name) es n) (IsGap (λ (e : TopEntry). e.name) es n)
         → MatchResult r (λ i. (i < length es) × IsAt n es i) (λ i. (i ≤ length es) × IsPlace n es i × (tops_of es n ≡ None))

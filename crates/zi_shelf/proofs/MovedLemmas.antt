@@ -1,5 +1,5 @@
 -- The trees that a crash moves to the entries that are left.
-use Rattle.std.proofs.Common.{◌≡◌, ◌<◌, ℕ, zero, suc, Bool, true, false, ◌&&◌, List, [], ◌∷◌, ◌++◌, map, reverse, length, Some, refl, sym, ◌∙◌, ap, subst, slice_get, get_or, arith}
+use Rattle.std.proofs.Common.{◌≡◌, ◌<◌, ℕ, zero, suc, Bool, true, false, ◌&&◌, List, [], ◌∷◌, ◌++◌, map, reverse, length, Some, refl, sym, ◌∙◌, ap, subst, slice_get, get_or, arith, append-nil}
 use Rattle.std.proofs.lemmas.List.{reverse-append}
 use Rattle.zi_tree.specs.Order.{is_tree}
 use Rattle.zi_shelf.specs.Names.{Name}
@@ -68,12 +68,8 @@ removed_more sources sources' whole left rest l split is made =
     ap (λ s. s ++ removed_tops (reverse rest)) is ∙ append_three sources (removed_tops (l ∷ [])) (removed_tops (reverse rest))
     ∙ ap (λ t. sources ++ t) (sym (removed_first l (reverse rest)) ∙ ap removed_tops (sym (reverse-append rest (l ∷ [])) ∙ ap reverse (sym split))) ∙ made
 
-nothing_behind : {X : Type 0} (xs : List X) → xs ++ [] ≡ xs
-nothing_behind [] = refl
-nothing_behind (x ∷ xs) = ap (λ l. x ∷ l) (nothing_behind xs)
-
 pub all_made : (f : Name × Comer → TopEntry) (left whole : List TopEntry) (es : List (Name × Comer)) → es ≡ [] → left ++ map f es ≡ whole → left ≡ whole
-all_made f left whole es none made = sym (nothing_behind left) ∙ ap (λ xs. left ++ map f xs) (sym none) ∙ made
+all_made f left whole es none made = sym (append-nil left) ∙ ap (λ xs. left ++ map f xs) (sym none) ∙ made
 
 pub all_removed : (sources whole : List TopEntry) (left : List Later) → left ≡ [] → sources ++ removed_tops (reverse left) ≡ whole → sources ≡ whole
-all_removed sources whole left none made = sym (nothing_behind sources) ∙ ap (λ xs. sources ++ removed_tops (reverse xs)) (sym none) ∙ made
+all_removed sources whole left none made = sym (append-nil sources) ∙ ap (λ xs. sources ++ removed_tops (reverse xs)) (sym none) ∙ made

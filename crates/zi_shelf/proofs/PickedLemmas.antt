@@ -2,7 +2,7 @@
 use Rattle.std.proofs.Common.{◌≡◌, ◌+◌, ◌<◌, ◌≤◌, ℕ, zero, suc, Bool, true, false, not, List, [], ◌∷◌, ◌++◌, map, reverse, length, Option, Some, None, ◌⊎◌, inl, inr, refl, sym, ◌∙◌, ap, subst, nat_le, bytes_eq, slice_get, get_or, option_map, if◌then◌else◌, ◌&&◌, arith}
 use Rattle.std.proofs.lemmas.Bool.{leb-true, leb-false, and_from, and_parts}
 use Rattle.std.proofs.lemmas.Option.{slice_get_within, slice_get-map, get_or_from_slice_get}
-use Rattle.std.proofs.lemmas.List.{reverse-append, reverse-reverse, length-reverse}
+use Rattle.std.proofs.lemmas.List.{reverse-append, reverse-reverse, length-reverse, length-map}
 use Rattle.zi_tree.specs.Dir.{Dir}
 use Rattle.zi_shelf.specs.Names.{Name, IsIn}
 use Rattle.zi_shelf.specs.Shelved.{Top, Pending, Renamed, Removed, Shelved}
@@ -15,6 +15,7 @@ use Rattle.zi_shelf.specs.declared.crash.Pick.{Pick}
 use Rattle.zi_shelf.specs.declared.crash.Comer.{Comer}
 use Rattle.zi_shelf.proofs.TopsLemmas.{test_true, test_refl, apart_parts}
 use Rattle.zi_shelf.proofs.FirstLemmas.{name_back, goes_back, goes_there, first_is}
+use Rattle.zi_text.proofs.ListLaws.{at_front, at_last, reverse_cons}
 
 -- of two numbers
 is_le : (a b : ℕ) → nat_le a b ≡ true → a ≤ b
@@ -95,22 +96,9 @@ pub stays_so : (p : Pick) (settled : Bool) → (p.unsettled ≡ true → settled
 stays_so p true h = refl
 stays_so p false h = elim p.unsettled as (λ t. (t ≡ true → false ≡ true) → not t ≡ true) [ true ↦ λ k. absurd (cc (k refl)) | false ↦ λ k. refl ] h
 
--- what is last in a list that was turned round
-last_there : {X : Type 0} (xs : List X) (x : X) → slice_get (xs ++ x ∷ []) (length xs) ≡ Some x
-last_there [] x = refl
-last_there (y ∷ xs) x = last_there xs x
-
-more_there : {X : Type 0} (xs ys : List X) (i : ℕ) (x : X) → slice_get xs i ≡ Some x → slice_get (xs ++ ys) i ≡ Some x
-more_there [] ys i x h = absurd (cc h)
-more_there (y ∷ xs) ys zero x h = h
-more_there (y ∷ xs) ys (suc i) x h = more_there xs ys i x h
-
-turned_more : {X : Type 0} (x : X) (xs : List X) → reverse (x ∷ xs) ≡ reverse xs ++ x ∷ []
-turned_more x xs = reverse-append (x ∷ []) xs
-
 turned : {X : Type 0} (x : X) (xs : List X) → slice_get (reverse (x ∷ xs)) (length xs) ≡ Some x
 turned x xs =
-    ap (λ ys. slice_get ys (length xs)) (turned_more x xs) ∙ subst (λ k. slice_get (reverse xs ++ x ∷ []) k ≡ Some x) (length-reverse xs) (last_there (reverse xs) x)
+    ap (λ ys. slice_get ys (length xs)) (reverse_cons x xs) ∙ subst (λ k. slice_get (reverse xs ++ x ∷ []) k ≡ Some x) (length-reverse xs) (at_last (reverse xs) x)
 
 -- the trees of the removed entries, the oldest first
 abbrev pub removed_trees : List (Pending Dir) → List (Top Dir)
@@ -132,12 +120,8 @@ said_comer p place n older = (name_back p.renames n (names_before n older), reco
 pub comer_said : (p : Pick) (place : ℕ) (n : Name) (older : List (Pending Dir)) → comer (first_or (first_at p.renames n older) n (length older)) place ≡ said_comer p place n older
 comer_said p place n older = ap (λ f. comer f place) (first_is p.renames n older)
 
-length-map : {X Y : Type 0} (f : X → Y) (xs : List X) → length (map f xs) ≡ length xs
-length-map f [] = refl
-length-map f (x ∷ xs) = ap suc (length-map f xs)
-
 newest_removed : (m : Name) (e : Top Dir) (older : List (Pending Dir)) → slice_get (removed_trees (Removed m e ∷ older)) (length (removed older)) ≡ Some e
-newest_removed m e older = subst (λ k. slice_get (removed_trees (Removed m e ∷ older)) k ≡ Some e) (length-map (λ (s : Source Dir). s.top) (removed older)) (turned e (map (λ (s : Source Dir). s.top) (removed older)))
+newest_removed m e older = subst (λ k. slice_get (removed_trees (Removed m e ∷ older)) k ≡ Some e) (length-map (removed older) (λ (s : Source Dir). s.top)) (turned e (map (λ (s : Source Dir). s.top) (removed older)))
 
 pub removed_sound : (p : Pick) (base : ℕ) (ps : List (Pending Dir)) (c : Name × Comer) → IsIn c (removed_comers p base ps) → IsRemoved p base ps c
 removed_sound p base [] c i = absurd i
@@ -162,7 +146,7 @@ removed_sound p base (Removed m e ∷ older) c i =
           )
       | inr j ↦
           let (k, was, q, at, goes, may, back, age, place, number, tree) = removed_sound p base older c j in
-          (suc k, was, q, at, goes, may, back, age, place, omega (arith, number), ap (λ ts. slice_get ts q) (turned_more e (map (λ (s : Source Dir). s.top) (removed older))) ∙ more_there (removed_trees older) (e ∷ []) q was.top tree)
+          (suc k, was, q, at, goes, may, back, age, place, omega (arith, number), ap (λ ts. slice_get ts q) (reverse_cons e (map (λ (s : Source Dir). s.top) (removed older))) ∙ at_front (removed_trees older) (e ∷ []) q was.top tree)
     ]
 
 -- a removed entry that comes back is a comer
@@ -195,7 +179,7 @@ standing_sound p pending (e ∷ es) others c i =
     elim (in_added (may_stay p e.settled) (comer (first_or (first_at p.renames e.name pending) e.name (length pending)) (length es)) c (standing_comers p pending es others) i) [
       | inl (t, same) ↦ inl (e, length es, turned e es, same ∙ comer_said p (length es) e.name pending, t)
       | inr k ↦ elim (standing_sound p pending es others c k) [
-        | inl (x, j, at, is, may) ↦ inl (x, j, ap (λ ts. slice_get ts j) (turned_more e es) ∙ more_there (reverse es) (e ∷ []) j x at, is, may)
+        | inl (x, j, at, is, may) ↦ inl (x, j, ap (λ ts. slice_get ts j) (reverse_cons e es) ∙ at_front (reverse es) (e ∷ []) j x at, is, may)
         | inr l ↦ inr l
       ]
     ]
@@ -250,7 +234,7 @@ in_back x (y ∷ xs) ys i = inr (in_back x xs ys i)
 
 in_turned : {X : Type 0} (x : X) (xs : List X) → IsIn x xs → IsIn x (reverse xs)
 in_turned x [] i = absurd i
-in_turned x (y ∷ xs) i = subst (IsIn x) (sym (turned_more y xs)) (elim i [ inl e ↦ in_back x (reverse xs) (y ∷ []) (inl e) | inr j ↦ in_front x (reverse xs) (y ∷ []) (in_turned x xs j) ])
+in_turned x (y ∷ xs) i = subst (IsIn x) (sym (reverse_cons y xs)) (elim i [ inl e ↦ in_back x (reverse xs) (y ∷ []) (inl e) | inr j ↦ in_front x (reverse xs) (y ∷ []) (in_turned x xs j) ])
 
 behind : {X : Type 0} (xs ys : List X) (j : ℕ) → slice_get (xs ++ ys) (length xs + j) ≡ slice_get ys j
 behind [] ys j = let e : 0 + j ≡ j = omega arith in ap (slice_get ys) e
@@ -307,7 +291,7 @@ module _ (p : Pick) (es : List TopEntry) (pend : List (Pending Dir)) (apart : ar
           stays = stays p e.settled may;
         },
         sym older,
-        ap (slice_get trees_at) place ∙ more_there (map top_of es) (removed_trees pend) j (top_of e) (slice_get-map top_of es j ∙ ap (option_map top_of) here),
+        ap (slice_get trees_at) place ∙ at_front (map top_of es) (removed_trees pend) j (top_of e) (slice_get-map top_of es j ∙ ap (option_map top_of) here),
       )
 
   from_removed : (n : Name) (c : Comer) → IsRemoved p (length es) pend (n, c) → IsFrom n c
@@ -323,7 +307,7 @@ module _ (p : Pick) (es : List TopEntry) (pend : List (Pending Dir)) (apart : ar
       stays = may;
     },
     age,
-    ap (slice_get trees_at) (place ∙ ap (λ i. i + j) (sym (length-map top_of es))) ∙ behind (map top_of es) (removed_trees pend) j ∙ tree,
+    ap (slice_get trees_at) (place ∙ ap (λ i. i + j) (sym (length-map es top_of))) ∙ behind (map top_of es) (removed_trees pend) j ∙ tree,
   )
 
   pub comer_from : (n : Name) (c : Comer) → IsIn (n, c) all → IsFrom n c

@@ -22,7 +22,7 @@ test_false a b ne =
 pub is_apart : (a b : Name) → bytes_eq a b ≡ false → a ≢ b
 is_apart a b h e = let t = (bytes_eq-Decides a b).1 e in cc (t, h)
 
-same_or_not : (k n : Name) → (k ≡ n) ⊎ (k ≢ n)
+pub same_or_not : (k n : Name) → (k ≡ n) ⊎ (k ≢ n)
 same_or_not k n =
     elim (bytes_eq k n) as (λ b. bytes_eq k n ≡ b → (k ≡ n) ⊎ (k ≢ n)) [ true ↦ λ h. inl (test_true k n h) | false ↦ λ h. inr (is_apart k n h) ] refl
 

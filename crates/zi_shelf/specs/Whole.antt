@@ -2,6 +2,7 @@
 use Rattle.std.specs.Prelude.{◌≡◌, Bool, true, false, ◌&&◌, List, [], ◌∷◌, Option, Some, None, if◌then◌else◌, refl}
 use Rattle.std.specs.Str.{bytes_eq}
 use Rattle.std.proofs.Common.{subst}
+use Rattle.std.proofs.lemmas.Bool.{and_parts}
 use Rattle.zi_tree.specs.Dir.{Dir}
 use Rattle.zi_tree.specs.Order.{is_tree}
 use Rattle.zi_shelf.specs.Names.{Name}
@@ -12,17 +13,6 @@ use Rattle.zi_shelf.specs.declared.top_entry.TopEntry.{TopEntry}
 use Rattle.zi_shelf.specs.declared.top_entry.Later.{Later}
 use Rattle.zi_shelf.specs.Memory.{top_of, tops_of, told_of, are_trees}
 
--- the first of two tests that both hold
-pub first_of_both : (a b : Bool) → (a && b) ≡ true → a ≡ true
-first_of_both true b h = refl
-first_of_both false b h = h
-
--- the second one
-pub second_of_both : (a b : Bool) → (a && b) ≡ true → b ≡ true
-second_of_both true b h = h
-second_of_both false true h = refl
-second_of_both false false h = h
-
 -- where an entry stands, it holds a tree
 abbrev IsWhole : Option (Top Dir) → Type 0
 IsWhole None = Unit {0}
@@ -32,8 +22,8 @@ whole_top : (es : List TopEntry) (n : Name) → are_trees es ≡ true → IsWhol
 whole_top [] n w = tt
 whole_top (x ∷ es) n w =
     elim (bytes_eq x.name n) as (λ t. IsWhole (if t then Some (top_of x) else tops_of es n)) [
-      | true ↦ first_of_both (is_tree x.tree) (are_trees es) w
-      | false ↦ whole_top es n (second_of_both (is_tree x.tree) (are_trees es) w)
+      | true ↦ (and_parts (is_tree x.tree) (are_trees es) w).0
+      | false ↦ whole_top es n (and_parts (is_tree x.tree) (are_trees es) w).1
     ]
 
 -- what is told is that of a shelf that holds trees

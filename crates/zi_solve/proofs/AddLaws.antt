@@ -4,13 +4,15 @@ use Rattle.std.specs.Prelude.{slice_get}
 use Rattle.std.specs.List.{All}
 use Rattle.std.proofs.Math.Seq.{drop-cons, take-append_seam}
 use Rattle.std.proofs.lemmas.List.{take_all, drop_all, append-nil, length-append}
+use Rattle.std.proofs.lemmas.Option.{same_Some}
+use Rattle.std.proofs.lemmas.Bool.{and_parts}
 use Rattle.zi_formula.specs.declared.formula.Lit.{Lit}
 use Rattle.zi_formula.specs.declared.formula.Formula.{Formula}
 use Rattle.zi_proof.specs.declared.proof.Lemma.{Lemma}
 use Rattle.zi_proof.specs.declared.proof.Block.{Block}
 use Rattle.zi_proof.specs.Accepted.{accepted, citable, assume, walk_from, lits_within, lemmas_within}
 use Rattle.zi_proof.specs.Known.{nothing}
-use Rattle.zi_proof.proofs.Cites.{and_left, lits_all}
+use Rattle.zi_proof.proofs.Cites.{lits_all}
 use Rattle.zi_sat.specs.declared.entry.Entry.{Entry}
 use Rattle.zi_universe.specs.declared.types.Interface.{Interface}
 use Rattle.zi_universe.specs.declared.types.Candidate.{Candidate}
@@ -18,7 +20,6 @@ use Rattle.zi_choice.specs.Walk.{Place as APlace}
 use Rattle.zi_choice.specs.Traces.{as_place}
 use Rattle.zi_choice.specs.declared.traced.Place.{Place}
 use Rattle.zi_choice.specs.Vars.{Cand, candidates_of, var_number}
-use Rattle.zi_choice.proofs.WalkLaws.{none_some, some_same}
 use Rattle.zi_build.specs.Clauses.{each, keep}
 use Rattle.zi_build.proofs.WriteLaws.{item_at, each_more}
 use Rattle.zi_certificate.specs.Certificates.{Asked, is_passed, is_so, is_not, asked_one, asked_from, said_at, AreBlocks}
@@ -26,6 +27,7 @@ use Rattle.zi_solve.specs.declared.blocks.Making.{Making}
 use Rattle.zi_solve.specs.Laws.{AreGiven}
 use Rattle.zi_solve.specs.Replays.{Knows}
 use Rattle.zi_solve.specs.Making.{universe_of, formula_of, lemmas_of, entries_of, Adds, asked_at}
+use Rattle.zi_feed.specs.IdLaws.{none_some}
 
 pub blocks_both : (f : Formula) (ms : List Lemma) (xs ys : List Asked) (bs cs : List Block) → AreBlocks f ms xs bs → AreBlocks f ms ys cs → AreBlocks f ms (xs ++ ys) (bs ++ cs)
 blocks_both f ms [] ys [] cs h g = g
@@ -56,7 +58,7 @@ given_at : (f : Formula) (ms : List Lemma) (es : List Entry) (n : ℕ) (g : ℕ 
 given_at f ms es n g [] c k e h = absurd (none_some e)
 given_at f ms es n g (y ∷ ks) zero k e h =
     let z : n ≡ n + 0 = omega arith in
-    subst (λ m. AreGiven f ms es (g m k)) z (subst (λ a. AreGiven f ms es (g n a)) (some_same e) (given_left f ms es (g n y) (each (suc n) g ks) h))
+    subst (λ m. AreGiven f ms es (g m k)) z (subst (λ a. AreGiven f ms es (g n a)) (same_Some _ _ e) (given_left f ms es (g n y) (each (suc n) g ks) h))
 given_at f ms es n g (y ∷ ks) (suc c) k e h =
     let z : suc n + c ≡ n + suc c = omega arith in
     subst (λ m. AreGiven f ms es (g m k)) z (given_at f ms es (suc n) g ks c k e (given_right f ms es (g n y) (each (suc n) g ks) h))
@@ -101,7 +103,7 @@ knows_same f ms lent marks after e k l = record {
 -- what is accepted is within the formula
 pub given_within : (f : Formula) (ms : List Lemma) (assumed : List Lit) (hints : List ℕ) (m : ℕ) → m ≡ f.variables + 1 → accepted f ms assumed hints ≡ true → All (λ l. (1 ≤ l.variable) × (l.variable < m)) assumed
 given_within f ms assumed hints m e h =
-    lits_all f.variables m assumed e (and_left (lits_within f.variables assumed) (walk_from (citable f.constraints ms) (assume nothing assumed) hints) h)
+    lits_all f.variables m assumed e (and_parts (lits_within f.variables assumed) (walk_from (citable f.constraints ms) (assume nothing assumed) hints) h).0
 
 -- the block of one candidate
 asked_so : (on : Making) (n : ℕ) (before : List Lit) (p : APlace) (c : ℕ) (b : Bool) (so : Lit) (assumed : List Lit) → b ≡ is_passed p.pick c → b ≡ true → so ≡ record { variable = var_number (universe_of on) (Cand p.interface c); positive = true } → assumed ≡ before ++ so ∷ [] → ◌≡◌ {A = List Asked} (record { place = n; candidate = so.variable; assumed = assumed } ∷ []) (asked_at (universe_of on) n before p c)

@@ -5,22 +5,23 @@ use Rattle.std.specs.List.{AllByRecursion, IsDistinct}
 use Rattle.std.proofs.lemmas.Bool.{false_from_ne_true}
 use Rattle.std.proofs.lemmas.List.{length-map}
 use Rattle.std.proofs.lemmas.Map.Steps.{length-le_from_distinct_below}
+use Rattle.std.proofs.lemmas.Option.{same_Some}
 use Rattle.zi_parts.specs.declared.types.Dep.{Dep}
 use Rattle.zi_universe.specs.declared.types.Requirement.{Requirement}
 use Rattle.zi_universe.specs.declared.types.Interface.{Interface}
 use Rattle.zi_choice.specs.Choice.{Choice, pick}
 use Rattle.zi_choice.specs.Walk.{Place, Walk, Walks, Visits, Needs, NeedsEach, Follows, listed, comes, lacks, again, uses, no_more, one_more, ends, passes, goes, leads_to}
-use Rattle.zi_choice.proofs.WalkLaws.{none_some, some_same}
 use Rattle.zi_choice.proofs.TaskLaws.{number_within}
 use Rattle.zi_choice.proofs.Base.{any_found}
 use Rattle.zi_build.proofs.MeansValid.{led_where}
 use Rattle.zi_walk.proofs.Stops.{AreOnce, walk_once}
+use Rattle.zi_feed.specs.IdLaws.{none_some}
 
 abbrev AreIn : ℕ → List Place → Type 0
 AreIn n ps = (m : ℕ) (x : Place) → slice_get ps m ≡ Some x → x.interface < n
 
 in_last : (n : ℕ) (ps : List Place) (p : Place) → p.interface < n → AreIn n ps → AreIn n (ps ++ p ∷ [])
-in_last n [] p l h zero x e = subst (λ (y : Place). y.interface < n) (some_same e) l
+in_last n [] p l h zero x e = subst (λ (y : Place). y.interface < n) (same_Some _ _ e) l
 in_last n [] p l h (suc m) x e = absurd (none_some e)
 in_last n (q ∷ ps) p l h zero x e = h 0 x e
 in_last n (q ∷ ps) p l h (suc m) x e = in_last n ps p l (λ k y f. h (suc k) y f) m x e
@@ -52,7 +53,7 @@ numbers ps = map (λ (p : Place). p.interface) ps
 
 number_at : (ps : List Place) (n i : ℕ) → slice_get (numbers ps) n ≡ Some i → (p : Place) × (slice_get ps n ≡ Some p) × (p.interface ≡ i)
 number_at [] n i e = absurd (none_some e)
-number_at (p ∷ ps) zero i e = (p, refl, some_same e)
+number_at (p ∷ ps) zero i e = (p, refl, same_Some _ _ e)
 number_at (p ∷ ps) (suc n) i e = number_at ps n i e
 
 apart : (p : Place) (ps : List Place) → ((n : ℕ) (y : Place) → slice_get ps n ≡ Some y → p.interface ≡ y.interface → ⊥) → AllByRecursion (λ j. eqb p.interface j ≡ false) (numbers ps)

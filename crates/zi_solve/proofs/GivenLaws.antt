@@ -3,7 +3,7 @@ use Rattle.std.proofs.Common.{◌≡◌, ℕ, zero, suc, ◌+◌, ◌<◌, ◌�
 use Rattle.std.specs.Prelude.{slice_get, nat_le, nat_lt}
 use Rattle.std.proofs.lemmas.Bool.{false≢true, false_from_ne_true}
 use Rattle.std.proofs.lemmas.Bool.Decides.{nat_tests}
-use Rattle.std.proofs.lemmas.Option.{slice_get_within}
+use Rattle.std.proofs.lemmas.Option.{slice_get_within, same_Some}
 use Rattle.zi_formula.specs.declared.formula.Lit.{Lit}
 use Rattle.zi_formula.specs.declared.formula.Formula.{Formula}
 use Rattle.zi_formula.specs.Truth.{lit_true}
@@ -22,21 +22,23 @@ use Rattle.zi_universe.specs.declared.types.Candidate.{Candidate}
 use Rattle.zi_universe.specs.declared.types.Interface.{Interface}
 use Rattle.zi_choice.specs.Choice.{Choice, pick}
 use Rattle.zi_choice.specs.Walk.{Place, Walk, Walks}
-use Rattle.zi_choice.proofs.WalkLaws.{none_some, some_same}
 use Rattle.zi_choice.specs.Vars.{Var, Cand, candidates_of, var_number, var_count}
 use Rattle.zi_build.specs.Clauses.{each, keep, no, lit_of, formula}
 use Rattle.zi_choice.proofs.ThereLaws.{In}
-use Rattle.zi_choice.proofs.WalkFacts.{faithful}
+use Rattle.zi_choice.proofs.WalkFacts.{faithful, push_case}
 use Rattle.zi_build.proofs.Meaning.{IsAt}
 use Rattle.zi_build.proofs.Numbers.{one_number, number_low, number_high}
 use Rattle.zi_walk.specs.Rule.{walk_picks}
-use Rattle.zi_walk.proofs.Passed.{IsOf, the_place, not_open}
+use Rattle.zi_walk.proofs.Passed.{IsOf, the_place}
 use Rattle.zi_walk.proofs.Ways.{IsPassed}
 use Rattle.zi_walk.proofs.Replay.{replay, replay_walks}
 use Rattle.zi_walk.proofs.Stops.{walk_once, assume_is, assumed_true, stops}
 use Rattle.zi_walk.proofs.Found.{values_agree, of_r, r_walks, r as r_of}
 use Rattle.zi_certificate.specs.Certificates.{Asked, is_passed, is_so, is_not, said_at, asked_one, asked_from}
 use Rattle.zi_solve.specs.Laws.{AreGiven, BlocksAreThere}
+use Rattle.zi_sat.proofs.ReachLaws.{some_of}
+use Rattle.zi_feed.specs.IdLaws.{none_some}
+use Rattle.zi_text.proofs.ListLaws.{at_front}
 
 -- lists
 in_left : {A : Type 0} (y : A) (xs ys : List A) → In y xs → In y (xs ++ ys)
@@ -53,20 +55,9 @@ in_split y [] ys h = inr h
 in_split y (x ∷ xs) ys (inl e) = inl (inl e)
 in_split y (x ∷ xs) ys (inr h) = elim (in_split y xs ys h) [ inl a ↦ inl (inr a) | inr b ↦ inr b ]
 
-front_get : {A : Type 0} (xs ys : List A) (n : ℕ) (x : A) → slice_get xs n ≡ Some x → slice_get (xs ++ ys) n ≡ Some x
-front_get [] ys n x e = absurd (none_some e)
-front_get (y ∷ xs) ys zero x e = e
-front_get (y ∷ xs) ys (suc n) x e = front_get xs ys n x e
-
 mid_get : {A : Type 0} (xs : List A) (y : A) (ys : List A) → slice_get (xs ++ y ∷ ys) (length xs) ≡ Some y
 mid_get [] y ys = refl
 mid_get (x ∷ xs) y ys = mid_get xs y ys
-
-push_case : {A : Type 0} (xs : List A) (y x : A) (n : ℕ) → slice_get (xs ++ y ∷ []) n ≡ Some x → (slice_get xs n ≡ Some x) ⊎ (y ≡ x)
-push_case [] y x zero e = inr (some_same e)
-push_case [] y x (suc n) e = absurd (none_some e)
-push_case (z ∷ xs) y x zero e = inl e
-push_case (z ∷ xs) y x (suc n) e = push_case xs y x n e
 
 in_nots : (u : List Interface) (j n : ℕ) (ks : List Candidate) (l : Lit) → In l (each n (is_not u j) ks) → (c : ℕ) × (k : Candidate) × (slice_get ks c ≡ Some k) × (lit_of u (no (Cand j (n + c))) ≡ l)
 in_nots u j n [] l h = absurd h
@@ -162,7 +153,7 @@ module _ (u : List Interface) (req : Requirement) (ms : List Lemma) (es : List E
     place_at = ap (λ ps. slice_get ps (length pre)) is_w ∙ mid_get pre (the_place i q) other
 
     earlier_at : (m : ℕ) (p : Place) → slice_get pre m ≡ Some p → slice_get w.places m ≡ Some p
-    earlier_at m p f = ap (λ ps. slice_get ps m) is_w ∙ front_get pre (the_place i q ∷ other) m p f
+    earlier_at m p f = ap (λ ps. slice_get ps m) is_w ∙ at_front pre (the_place i q ∷ other) m p f
 
     second : {a c b d : ℕ} → ◌≡◌ {A = Var} (Cand a b) (Cand c d) → a ≡ c
     second f = cc
@@ -204,7 +195,7 @@ module _ (u : List Interface) (req : Requirement) (ms : List Lemma) (es : List E
 
     -- the candidate is false in the end
     false_end : known_from es ne ≡ Some false
-    false_end = at (not_open (known_from es ne) (full ne (number_low u (Cand i e)) (number_high u (Cand i e) (item, at_e))))
+    false_end = at (some_of (known_from es ne) (full ne (number_low u (Cand i e)) (number_high u (Cand i e) (item, at_e))))
       where
         not_chosen : x ne ≡ true → ⊥
         not_chosen t = never_itself e (subst (λ o. is_passed o e ≡ true) (sym (pick_at (length pre) i q place_at) ∙ of.full i e item at_e t) passed)
@@ -228,7 +219,7 @@ module _ (u : List Interface) (req : Requirement) (ms : List Lemma) (es : List E
 
   carry_on : (pre : List Place) (before : List Lit) (p : Place) → Carries pre before → Carries (pre ++ p ∷ []) (before ++ said_at u p.interface p.pick)
   carry_on pre before p c = (
-    λ l h. elim (in_split l before (said_at u p.interface p.pick) h) [ inl a ↦ let s = c.0 l a in (s.0, s.1, front_get pre (p ∷ []) s.0 s.1 s.2, s.3) | inr b ↦ (length pre, p, mid_get pre p [], b) ],
+    λ l h. elim (in_split l before (said_at u p.interface p.pick) h) [ inl a ↦ let s = c.0 l a in (s.0, s.1, at_front pre (p ∷ []) s.0 s.1 s.2, s.3) | inr b ↦ (length pre, p, mid_get pre p [], b) ],
     λ m y l f h. elim (push_case pre p y m f) [
       | inl g ↦ in_left l before (said_at u p.interface p.pick) (c.1 m y l g h)
       | inr g ↦ in_right l before (said_at u p.interface p.pick) (subst (λ (z : Place). In l (said_at u z.interface z.pick)) (sym g) h)

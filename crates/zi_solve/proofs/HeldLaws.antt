@@ -2,6 +2,7 @@
 use Rattle.std.proofs.Common.{◌≡◌, ℕ, zero, suc, ◌+◌, ◌<◌, Bool, true, false, cond, List, [], ◌∷◌, length, map, refl, sym, ap, ◌∙◌, subst, arith, Option, Some, None}
 use Rattle.std.specs.Prelude.{slice_get, All}
 use Rattle.std.proofs.lemmas.Bool.{false≢true}
+use Rattle.std.proofs.lemmas.Option.{same_Some}
 use Rattle.zi_formula.specs.Truth.{Models}
 use Rattle.zi_proof.specs.Known.{Known}
 use Rattle.zi_sat.specs.declared.entry.Entry.{Entry}
@@ -15,9 +16,8 @@ use Rattle.zi_choice.specs.Walk.{Walk, Walks, is_listed}
 use Rattle.zi_choice.specs.Traces.{as_place}
 use Rattle.zi_choice.specs.declared.traced.Place.{Place}
 use Rattle.zi_choice.specs.Vars.{Cand, candidates_of, var_number}
-use Rattle.zi_choice.proofs.Base.{candidate_is, some_of, is_some_of, all_from, if_some_from}
+use Rattle.zi_choice.proofs.Base.{candidate_is, all_from, if_some_from}
 use Rattle.zi_choice.proofs.WalkFacts.{faithful, same_walk}
-use Rattle.zi_choice.proofs.WalkLaws.{none_some, some_same}
 use Rattle.zi_build.specs.Clauses.{formula}
 use Rattle.zi_build.proofs.Meaning.{IsAt, Means}
 use Rattle.zi_build.proofs.Central.{by_var, models_mean}
@@ -26,6 +26,8 @@ use Rattle.zi_walk.specs.Laws.{IsHeld}
 use Rattle.zi_walk.proofs.Passed.{IsOf, candidate_below}
 use Rattle.zi_walk.proofs.Rules.{first_is, first_none, so_far_picks}
 use Rattle.zi_solve.specs.Making.{IsCut, IsWithin}
+use Rattle.zi_feed.specs.IdLaws.{none_some}
+use Rattle.zi_text.proofs.ListLaws.{some_is, some_of}
 
 within_length : {A : Type 0} (xs : List A) (n : ℕ) (x : A) → slice_get xs n ≡ Some x → n < length xs
 within_length [] n x e = absurd (none_some e)
@@ -85,11 +87,11 @@ module _ (u : List Interface) (req : Requirement) (es : List Entry) (model : Mod
     held = record {
       fits = record {
         each = is_cut.each ∙ chosen_length u k 0 u;
-        there = λ i c p. let x = of_r.sound i c (kept i c p).1 in is_some_of (candidate_at u i c) x.0 (candidate_is u i c ∙ x.1);
+        there = λ i c p. let x = of_r.sound i c (kept i c p).1 in some_is (candidate_at u i c) x.0 (candidate_is u i c ∙ x.1);
       };
       walk = w;
       walks = same_walk u r s w same req walks;
-      are_true = λ i c p. let q = kept i c p in let x = of_r.sound i c q.1 in (q.0, is_some_of (candidate_at u i c) x.0 (candidate_is u i c ∙ x.1), x.2);
+      are_true = λ i c p. let q = kept i c p in let x = of_r.sound i c q.1 in (q.0, some_is (candidate_at u i c) x.0 (candidate_is u i c ∙ x.1), x.2);
       are_chosen = λ i c on there t. let x = some_of (candidate_at u i c) there in sym (same i on) ∙ of_r.full i c x.0 (sym (candidate_is u i c) ∙ x.1) t;
     }
 
@@ -103,5 +105,5 @@ module _ (u : List Interface) (req : Requirement) (es : List Entry) (model : Mod
     where
       mapped : (ps : List Place) (n : ℕ) (p : Place) → slice_get ps n ≡ Some p → slice_get (map as_place ps) n ≡ Some (as_place p)
       mapped [] n p e = absurd (none_some e)
-      mapped (q ∷ ps) zero p e = ap (λ x. Some (as_place x)) (some_same e)
+      mapped (q ∷ ps) zero p e = ap (λ x. Some (as_place x)) (same_Some _ _ e)
       mapped (q ∷ ps) (suc n) p e = mapped ps n p e

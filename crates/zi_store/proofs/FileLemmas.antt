@@ -30,8 +30,9 @@ use Rattle.zi_store.specs.Entries.{Fits, ReadsBytes}
 use Rattle.zi_store.specs.FileAnswers.{bytes_in, bytes_under, file_at, Leads}
 use Rattle.zi_store.specs.declared.files.Way.{Way}
 use Rattle.zi_store.specs.declared.files.Way.TheVariants as way
-use Rattle.zi_store.proofs.KeepingLemmas.{stands_later, some_of}
+use Rattle.zi_store.proofs.KeepingLemmas.{stands_later}
 use Rattle.zi_store.proofs.StandingLemmas.{found_more}
+use Rattle.zi_text.proofs.ListLaws.{some_is, some_of}
 
 -- the first folders of the path are there, and what is left of it leads on from the last of them
 abbrev pub Reaches : Name → List Name → ℕ → Shelved Dir → Type 0
@@ -145,9 +146,6 @@ none_left top path i s h reaches = by_top (s.tops top) refl
     by_top : (o : Option (Top Dir)) → s.tops top ≡ o → false ≡ is_some (file_at top path s)
     by_top None is = sym (ap (λ (o : Option (Top Dir)). is_some (bytes_under path o)) is)
     by_top (Some e) is = sym (ap (λ (o : Option (Top Dir)). is_some (bytes_under path o)) is ∙ ap is_some ((reaches e is).2 ∙ ap (λ (p : List Name). bytes_in (found p (reaches e is).0)) (drop_all i path h)))
-
-some_is : {X : Type 0} (o : Option X) (x : X) → o ≡ Some x → IsSome o
-some_is o x e = rw e refl
 
 -- the listing of the next folder fits
 pub fits_next : {kinds : CallKind → Bool} {before after : Shelving} (top : Name) (path : List Name) (i : ℕ) (folder : List Name)

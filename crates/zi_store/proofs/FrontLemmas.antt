@@ -15,6 +15,8 @@ use Rattle.zi_tree.proofs.Replaced.{dir_items}
 use Rattle.zi_manifest.specs.Manifest.{own_name, as_read}
 use Rattle.zi_manifest.specs.Walk.{shown}
 use Rattle.zi_store.specs.Entries.{bare, emptied}
+use Rattle.zi_manifest.proofs.Listed.{before_read, tree_read}
+use Rattle.zi_text.proofs.ListLaws.{bytes_itself}
 
 -- the name stands behind each of these
 abbrev pub IsBehind : List ℕ → List Item → Type 0
@@ -29,15 +31,12 @@ pub placed_behind : (n : List ℕ) (x : TreeNode) (is : List Item) → IsBehind 
 placed_behind n x [] h = refl
 placed_behind n x (i ∷ is) h = rw (lt_less i.0 n h.0) (ap (λ (l : List Item). i ∷ l) (placed_behind n x is h.1))
 
-same_name : (n : List ℕ) → bytes_eq n n ≡ true
-same_name n = (bytes_eq-Decides n n).1 refl
-
 pub node_there : (n : List ℕ) (x : TreeNode) (is rest : List Item) → IsBehind n is → node_in n (is ++ (n, x) ∷ rest) ≡ Some x
-node_there n x [] rest h = rw (same_name n) refl
+node_there n x [] rest h = rw (bytes_itself n) refl
 node_there n x (i ∷ is) rest h = rw (lt_apart i.0 n h.0) (node_there n x is rest h.1)
 
 pub replaced_there : (n : List ℕ) (x y : TreeNode) (is rest : List Item) → IsBehind n is → replaced n y (is ++ (n, x) ∷ rest) ≡ is ++ (n, y) ∷ rest
-replaced_there n x y [] rest h = rw (same_name n) refl
+replaced_there n x y [] rest h = rw (bytes_itself n) refl
 replaced_there n x y (i ∷ is) rest h = rw (lt_apart i.0 n h.0) (ap (λ (l : List Item). i ∷ l) (replaced_there n x y is rest h.1))
 
 before_entry : (m n : List ℕ) (x : TreeNode) (rest : Dir) → is_before m (entry_of n x rest) ≡ true → (is_lt (slice_cmp nat_cmp m n) ≡ true) × (is_before m rest ≡ true)
@@ -92,36 +91,6 @@ before_node m n x (i ∷ is) h e =
 
 before_is : (m : List ℕ) (d : Dir) → is_before m d ≡ true → is_before m (dir (items d)) ≡ true
 before_is m d h = subst (λ z. is_before m z ≡ true) (sym (dir_items d)) h
-
-before_read : (m : List ℕ) (d : Dir) → is_before m d ≡ true → is_before m (as_read d) ≡ true
-before_read m Nothing h = h
-before_read m (AFile n b e t rest) h =
-    let p = and_parts (is_lt (slice_cmp nat_cmp m n)) (is_before m rest) h in
-    elim (bytes_eq n own_name) as (λ o. is_before m (if o then as_read rest else AFile n b e t (as_read rest)) ≡ true) [
-      | true ↦ before_read m rest p.1
-      | false ↦ and_from (is_lt (slice_cmp nat_cmp m n)) (is_before m (as_read rest)) p.0 (before_read m rest p.1)
-    ]
-before_read m (ALink n t rest) h =
-    let p = and_parts (is_lt (slice_cmp nat_cmp m n)) (is_before m rest) h in
-    and_from (is_lt (slice_cmp nat_cmp m n)) (is_before m (as_read rest)) p.0 (before_read m rest p.1)
-before_read m (AFolder n inside rest) h =
-    let p = and_parts (is_lt (slice_cmp nat_cmp m n)) (is_before m rest) h in
-    and_from (is_lt (slice_cmp nat_cmp m n)) (is_before m (as_read rest)) p.0 (before_read m rest p.1)
-
-tree_read : (d : Dir) → is_tree d ≡ true → is_tree (as_read d) ≡ true
-tree_read Nothing h = h
-tree_read (AFile n b e t rest) h =
-    let p = parts n (File b e t) rest h in
-    elim (bytes_eq n own_name) as (λ o. is_tree (if o then as_read rest else AFile n b e t (as_read rest)) ≡ true) [
-      | true ↦ tree_read rest p.rest_
-      | false ↦ whole n (File b e t) (as_read rest) (record { node = p.node; name = p.name; before = before_read n rest p.before; rest_ = tree_read rest p.rest_ })
-    ]
-tree_read (ALink n t rest) h =
-    let p = parts n (Link t) rest h in
-    whole n (Link t) (as_read rest) (record { node = p.node; name = p.name; before = before_read n rest p.before; rest_ = tree_read rest p.rest_ })
-tree_read (AFolder n inside rest) h =
-    let p = parts n (Folder inside) rest h in
-    whole n (Folder inside) (as_read rest) (record { node = p.node; name = p.name; before = before_read n rest p.before; rest_ = tree_read rest p.rest_ })
 
 pub tree_shown : (top : Bool) (d : Dir) → is_tree d ≡ true → is_tree (shown top d) ≡ true
 tree_shown true d h = tree_read d h

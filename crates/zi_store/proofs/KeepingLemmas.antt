@@ -15,6 +15,7 @@ use Rattle.zi_shelf.specs.declared.call.CallKind.{CallKind}
 use Rattle.zi_store.specs.Keeping.{Grows, Keeps}
 use Rattle.zi_store.specs.Standing.{Stands, StandsNode}
 use Rattle.zi_store.specs.Entries.{Fits}
+use Rattle.zi_text.proofs.ListLaws.{some_of}
 
 all_append : {X : Type 0} (p : X → Bool) (xs ys : List X) → list_all p xs ≡ true → list_all p ys ≡ true → list_all p (xs ++ ys) ≡ true
 all_append p [] ys h k = k
@@ -91,10 +92,6 @@ count_call question Did answer reads h = reads.cause.did refl
 count_call question Exists answer reads h = reads.cause.exists refl
 count_call question Memory answer reads h = reads.cause.memory refl
 count_call question Failed answer reads h = absurd (h refl)
-
-pub some_of : {X : Type 0} (o : Option X) → IsSome o → (x : X) × (o ≡ Some x)
-some_of None h = absurd (cc h)
-some_of (Some x) h = (x, refl)
 
 not_risen : (f0 f1 : ℕ) → f1 ≡ f0 → f1 < 2 ^ 64 - 1 → Rose f0 f1 → ⊥
 not_risen f0 f1 e h (inl r) = absurd (omega (arith, e, r))

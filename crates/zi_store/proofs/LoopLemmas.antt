@@ -26,11 +26,6 @@ use Rattle.zi_store.proofs.FrontLemmas.{bared, bared_append, IsBehind, behind_ba
 use Rattle.zi_store.proofs.StandingLemmas.{node_below}
 use Rattle.zi_store.proofs.WalkLemmas.{leaves_entry, folders_entry, passes_none, passes_then, stops_then, stops_early}
 
-items_entry : (n : List ℕ) (x : TreeNode) (rest : Dir) → items (entry_of n x rest) ≡ (n, x) ∷ items rest
-items_entry n (File b e t) rest = refl
-items_entry n (Link t) rest = refl
-items_entry n (Folder d) rest = refl
-
 -- A folder's entries, of which so many are left: those so far, and the rest.
 pub record Split (s : Dir) (left : List Entry) : Type 0 where
   pub done : List Item

@@ -20,7 +20,9 @@ use Rattle.zi_store.specs.declared.written.Written.{Written}
 use Rattle.zi_store.specs.declared.manifests.ManifestRead.{ManifestRead}
 use Rattle.zi_store.specs.declared.manifests.ManifestRead.TheVariants as read
 use Rattle.zi_store.specs.declared.stop.Stop.{Stop}
-use Rattle.zi_store.proofs.WritingLemmas.{or_none, adds_nothing, adds_then, text_split, bad_split, inner_split, inner_bad_split, adds_inner, line_then}
+use Rattle.zi_store.proofs.WritingLemmas.{adds_nothing, adds_then, text_split, bad_split, inner_split, inner_bad_split, adds_inner, line_then}
+use Rattle.zi_manifest.proofs.Opened.{or_none}
+use Rattle.zi_text.proofs.ListLaws.{first_none}
 
 adds_as : (old new : Written) (l m : List ℕ) (b c : Option (List ℕ)) → l ≡ m → b ≡ c → Adds old new l b → Adds old new m c
 adds_as old new l m b c lines bad adds = record { text = adds.text ∙ ap (λ t. old.text.items ++ t) lines; first = adds.first ∙ ap (option_or old.bad) bad }
@@ -203,10 +205,6 @@ good_read p (AFile n b e t rest) h =
     ap (λ c. if c then as_read rest else AFile n b e t (as_read rest)) good.0 ∙ ap (λ (z : Dir). AFile n b e t z) (good_read p rest good.1)
 good_read p (ALink n t rest) h = ap (λ (z : Dir). ALink n t z) (good_read p rest (good_one (has_newline n) (bytes_eq n own_name) (joined p n) (leaf_bad p rest) h).1)
 good_read p (AFolder n inside rest) h = ap (λ (z : Dir). AFolder n inside z) (good_read p rest h)
-
-first_none : (o b : Option (List ℕ)) → option_or o b ≡ None → o ≡ None
-first_none None b h = refl
-first_none (Some x) b h = absurd (cc h)
 
 -- a tree with links in the place of the files in its top folder has the same bad names, and is read whole
 abbrev linked : Dir → Dir

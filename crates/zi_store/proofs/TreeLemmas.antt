@@ -14,8 +14,8 @@ use Rattle.zi_store.specs.Entries.{Walks}
 use Rattle.zi_store.specs.TreeAnswers.{ReadsWhole}
 use Rattle.zi_store.specs.declared.stop.Stop.{Stop}
 use Rattle.zi_store.specs.declared.stop.Stop.TheVariants as stop
-use Rattle.zi_store.proofs.KeepingLemmas.{some_of}
 use Rattle.zi_store.proofs.WalkLemmas.{passed_none, passed_some}
+use Rattle.zi_text.proofs.ListLaws.{some_of}
 
 -- what stands under a name of an honest shelf that tells what it holds
 pub record Whole (honest : Type 0) (told : Option Told) (top : Name) (path : List Name) (s : Told) : Type 0 where

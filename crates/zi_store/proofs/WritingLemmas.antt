@@ -35,10 +35,7 @@ use Rattle.zi_store.proofs.FrontLemmas.{tree_shown}
 use Rattle.zi_store.proofs.StandingLemmas.{folder_there}
 use Rattle.zi_store.proofs.WalkLemmas.{leaves_entry, folders_entry, passes_none, passes_then, stops_nodes, stops_size}
 use Rattle.zi_store.proofs.LoopLemmas.{Split, turn, turn_listed, split_more, split_end, leaves_split, leaves_more, folders_split, folders_more, stops_in}
-
-pub or_none : (o : Option (List ℕ)) → option_or o None ≡ o
-or_none None = refl
-or_none (Some x) = refl
+use Rattle.zi_manifest.proofs.Opened.{or_none}
 
 -- nothing is added, and one after the other
 pub adds_nothing : (w : Written) → Adds w w [] None

@@ -1,1 +1,4 @@
+pub mod ListLaws
+pub mod NumeralLaws
+pub mod PieceLaws
 pub mod Searched

@@ -26,7 +26,7 @@ pub record IsGap {X : Type 0} (name : X → List ℕ) (xs : List X) (n : List �
   pub greater : (j : ℕ) (d : X) → at ≤ j → j < length xs → slice_cmp nat_cmp (name (get_or xs j d)) n ≡ Greater
 
 -- two texts that compare as equal are one
-same_equal : (a b : List ℕ) → slice_cmp nat_cmp a b ≡ Equal → a ≡ b
+pub same_equal : (a b : List ℕ) → slice_cmp nat_cmp a b ≡ Equal → a ≡ b
 same_equal a b e = slice_cmp-IsAntisymmetric nat_cmp-IsAntisymmetric a b e
 
 -- the comparisons with a name rise, as a binary search asks

@@ -10,9 +10,11 @@
 mod bytes;
 mod list;
 mod memory;
+mod numeral;
 mod text;
 
 pub use bytes::Bytes;
 pub use list::List;
 pub use memory::Memory;
+pub use numeral::numeral;
 pub use text::Text;

@@ -13,7 +13,8 @@ use Rattle.zi_tree.specs.Paths.{node_in}
 use Rattle.zi_tree.specs.Places.{IsAt, IsPlace}
 use Rattle.zi_tree.specs.Order.{is_tree}
 use Rattle.zi_tree.proofs.Items.{none_from_all, at_from_first, place_from_first, place_at_end}
-use Rattle.zi_tree.proofs.Order.{cmp, greater_flip, less_of, lt_apart, lt_less, rises}
+use Rattle.zi_tree.proofs.Order.{cmp, greater_flip, lt_apart, lt_less, rises}
+use Rattle.zi_text.proofs.ListLaws.{is_less}
 
 -- the first of entries that are more than none
 first : (es : List Entry) (k : ℕ) → k < length es → Entry
@@ -26,7 +27,7 @@ at_name es n at tree named = at_from_first es n at (first es at named.within) na
     before : (k : ℕ) (d : Entry) → k < at → bytes_eq (get_or es k d).name n ≡ false
     before k d lt = lt_apart (get_or es k d).name n (subst (λ (y : List ℕ). is_lt (cmp (get_or es k d).name y) ≡ true) (named.same d) (rises es k at d tree lt named.within))
 
-apart_flip : (x y : List ℕ) → bytes_eq y x ≡ false → bytes_eq x y ≡ false
+pub apart_flip : (x y : List ℕ) → bytes_eq y x ≡ false → bytes_eq x y ≡ false
 apart_flip x y h = by_test (bytes_eq x y) refl
   where
     by_test : (t : Bool) → bytes_eq x y ≡ t → bytes_eq x y ≡ false
@@ -56,7 +57,7 @@ pub entry_found : (es : List Entry) → is_tree (dir_of es) ≡ true → (n : Li
 entry_found es tree n r in_range answer = by_result r (searched (λ (e : Entry). e.name) es rising n r in_range answer)
   where
     rising : Rise (λ (e : Entry). e.name) es
-    rising i j d lt in_range = less_of _ (rises es i j d tree lt in_range)
+    rising i j d lt in_range = is_less _ (rises es i j d tree lt in_range)
 
     by_result : (r : Result ℕ ℕ) → MatchResult r (IsNamed (λ (e : Entry). e.name) es n) (IsGap (λ (e : Entry). e.name) es n)
         → MatchResult r (λ i. (i < length es) × IsAt n es i) (λ i. (i ≤ length es) × IsPlace n es i × (node_in n (items_of es) ≡ None))

@@ -11,7 +11,7 @@ use Rattle.std.specs.Cmp.Lexicographic.{slice_cmp}
 use Rattle.zi_tree.specs.Paths.{items, node_in, placed, replaced, is_last, inserted}
 use Rattle.zi_tree.specs.Places.{IsAt, IsPlace}
 
-items_of_entry : (n : List ℕ) (x : TreeNode) (rest : Dir) → items (entry_of n x rest) ≡ (n, x) ∷ items rest
+pub items_of_entry : (n : List ℕ) (x : TreeNode) (rest : Dir) → items (entry_of n x rest) ≡ (n, x) ∷ items rest
 items_of_entry n (File b e t) rest = refl
 items_of_entry n (Link t) rest = refl
 items_of_entry n (Folder d) rest = refl

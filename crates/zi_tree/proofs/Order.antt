@@ -6,6 +6,7 @@ use Rattle.std.specs.Cmp.Lexicographic.{slice_cmp}
 use Rattle.std.proofs.lemmas.Cmp.{nat_list_cmp_total}
 use Rattle.std.specs.FinMap.{slice_cmp-IsAntisymmetric, nat_cmp-IsAntisymmetric}
 use Rattle.std.proofs.lemmas.Slice.Eq.{bytes_eq-Decides}
+use Rattle.std.proofs.lemmas.Bool.{and_parts, and_from}
 use Rattle.zi_tree.specs.Dir.{Dir}
 use Rattle.zi_tree.specs.declared.tree.Entry.{Entry}
 use Rattle.zi_tree.specs.declared.tree.TreeNode.{TreeNode}
@@ -14,6 +15,7 @@ use Rattle.zi_tree.specs.Views.{entry_of, items_of, dir_of, node_is_tree}
 use Rattle.zi_tree.specs.Paths.{node_in}
 use Rattle.zi_tree.specs.Places.{IsPlace}
 use Rattle.zi_tree.specs.Order.{is_name, is_before, is_tree}
+use Rattle.zi_text.proofs.ListLaws.{is_less}
 
 abbrev pub Name : Type 0
 Name = List ℕ
@@ -21,13 +23,8 @@ Name = List ℕ
 abbrev pub cmp : Name → Name → Ordering
 cmp = slice_cmp nat_cmp
 
-pub less_of : (o : Ordering) → is_lt o ≡ true → o ≡ Less
-less_of Less h = refl
-less_of Equal h = absurd (cc h)
-less_of Greater h = absurd (cc h)
-
 pub lt_trans : (a b c : Name) → is_lt (cmp a b) ≡ true → is_lt (cmp b c) ≡ true → is_lt (cmp a c) ≡ true
-lt_trans a b c h k = ap is_lt (nat_list_cmp_total.trans a b c (less_of (cmp a b) h) (less_of (cmp b c) k))
+lt_trans a b c h k = ap is_lt (nat_list_cmp_total.trans a b c (is_less (cmp a b) h) (is_less (cmp b c) k))
 
 pub lt_flip : (n m : Name) → is_lt (cmp n m) ≡ false → n ≢ m → is_lt (cmp m n) ≡ true
 lt_flip n m h ne = by_case (cmp n m) refl h
@@ -45,25 +42,18 @@ less_not e = absurd (cc e)
 
 -- and the other doesn't stand before it
 pub lt_less : (n m : Name) → is_lt (cmp n m) ≡ true → is_lt (cmp m n) ≡ false
-lt_less n m h = ap is_lt (nat_list_cmp_total.antisymm m n ∙ ap ordering_reverse (less_of (cmp n m) h))
+lt_less n m h = ap is_lt (nat_list_cmp_total.antisymm m n ∙ ap ordering_reverse (is_less (cmp n m) h))
 
 -- a name that stands before another isn't that one
 pub lt_apart : (n m : Name) → is_lt (cmp n m) ≡ true → bytes_eq n m ≡ false
 lt_apart n m h = by_test (bytes_eq n m) refl
   where
     same : n ≡ m → ⊥
-    same e = let l : cmp n n ≡ Less = ap (cmp n) e ∙ less_of (cmp n m) h in absurd (less_not (sym l ∙ nat_list_cmp_total.antisymm n n ∙ ap ordering_reverse l))
+    same e = let l : cmp n n ≡ Less = ap (cmp n) e ∙ is_less (cmp n m) h in absurd (less_not (sym l ∙ nat_list_cmp_total.antisymm n n ∙ ap ordering_reverse l))
 
     by_test : (b : Bool) → bytes_eq n m ≡ b → bytes_eq n m ≡ false
     by_test false e = e
     by_test true e = absurd (same ((bytes_eq-Decides n m).0 e))
-
-and_parts : (a b : Bool) → (a && b) ≡ true → (a ≡ true) × (b ≡ true)
-and_parts true b h = (refl, h)
-and_parts false b h = absurd (cc h)
-
-and_whole : (a b : Bool) → a ≡ true → b ≡ true → (a && b) ≡ true
-and_whole a b h k = rw (h, k) refl
 
 -- one entry in front
 tree_entry : (n : Name) (x : TreeNode) (rest : Dir) → is_tree (entry_of n x rest) ≡ (node_is_tree x && (is_name n && (is_before n rest && is_tree rest)))
@@ -71,7 +61,7 @@ tree_entry n (File b e t) rest = refl
 tree_entry n (Link t) rest = refl
 tree_entry n (Folder d) rest = refl
 
-before_entry : (m n : Name) (x : TreeNode) (rest : Dir) → is_before m (entry_of n x rest) ≡ (is_lt (cmp m n) && is_before m rest)
+pub before_entry : (m n : Name) (x : TreeNode) (rest : Dir) → is_before m (entry_of n x rest) ≡ (is_lt (cmp m n) && is_before m rest)
 before_entry m n (File b e t) rest = refl
 before_entry m n (Link t) rest = refl
 before_entry m n (Folder d) rest = refl
@@ -91,14 +81,13 @@ parts n x rest h =
 
 pub whole : (n : Name) (x : TreeNode) (rest : Dir) → IsFirst n x rest → is_tree (entry_of n x rest) ≡ true
 whole n x rest f =
-    tree_entry n x rest ∙ and_whole (node_is_tree x) (is_name n && (is_before n rest && is_tree rest)) f.node
-    (and_whole (is_name n) (is_before n rest && is_tree rest) f.name (and_whole (is_before n rest) (is_tree rest) f.before f.rest_))
+    tree_entry n x rest ∙ and_from (node_is_tree x) (is_name n && (is_before n rest && is_tree rest)) f.node (and_from (is_name n) (is_before n rest && is_tree rest) f.name (and_from (is_before n rest) (is_tree rest) f.before f.rest_))
 
-before_parts : (m n : Name) (x : TreeNode) (rest : Dir) → is_before m (entry_of n x rest) ≡ true → (is_lt (cmp m n) ≡ true) × (is_before m rest ≡ true)
+pub before_parts : (m n : Name) (x : TreeNode) (rest : Dir) → is_before m (entry_of n x rest) ≡ true → (is_lt (cmp m n) ≡ true) × (is_before m rest ≡ true)
 before_parts m n x rest h = and_parts (is_lt (cmp m n)) (is_before m rest) (sym (before_entry m n x rest) ∙ h)
 
-before_whole : (m n : Name) (x : TreeNode) (rest : Dir) → is_lt (cmp m n) ≡ true → is_before m rest ≡ true → is_before m (entry_of n x rest) ≡ true
-before_whole m n x rest h k = before_entry m n x rest ∙ and_whole (is_lt (cmp m n)) (is_before m rest) h k
+pub before_whole : (m n : Name) (x : TreeNode) (rest : Dir) → is_lt (cmp m n) ≡ true → is_before m rest ≡ true → is_before m (entry_of n x rest) ≡ true
+before_whole m n x rest h k = before_entry m n x rest ∙ and_from (is_lt (cmp m n)) (is_before m rest) h k
 
 before_all : (a b : Name) (es : List Entry) → is_lt (cmp a b) ≡ true → is_before b (dir_of es) ≡ true → is_before a (dir_of es) ≡ true
 before_all a b [] h k = refl

@@ -4,21 +4,14 @@ use Rattle.std.specs.List.{list_any, list_all, onto_first}
 use Rattle.std.specs.Str.{is_utf8}
 use Rattle.std.proofs.lemmas.List.Folds.{list_all-append, list_any-append}
 use Rattle.std.proofs.lemmas.List.Elements.{filter-append}
+use Rattle.std.proofs.lemmas.Bool.{and_parts, not-true, or_parts}
 use Rattle.zi_tree.specs.Order.{has_byte, is_plain, is_name}
 use Rattle.zi_tree.specs.Parts.{is_up, is_kept, is_absolute, between_slashes, parts_of}
-
-and_parts : (a b : Bool) → (a && b) ≡ true → (a ≡ true) × (b ≡ true)
-and_parts true b h = (refl, h)
-and_parts false b h = absurd (cc h)
-
-not_true : (b : Bool) → not b ≡ true → b ≡ false
-not_true true h = absurd (cc h)
-not_true false h = refl
 
 pub name_from : (part : List ℕ) → is_utf8 part ≡ true → is_kept part ≡ true → is_up part ≡ false → has_byte 47 part ≡ false → has_byte 0 part ≡ false → is_name part ≡ true
 name_from part u k d s z =
     let p = and_parts (not (bytes_eq part (codes ""))) (not (bytes_eq part (codes "."))) k in
-    rw (u, not_true (bytes_eq part (codes "")) p.0, not_true (bytes_eq part (codes ".")) p.1, d, s, z) refl
+    rw (u, not-true (bytes_eq part (codes "")) p.0, not-true (bytes_eq part (codes ".")) p.1, d, s, z) refl
 
 pub plain_name : (part : List ℕ) → is_utf8 part ≡ true → is_plain part ≡ true → is_name part ≡ true
 plain_name part u p = rw (u, p) refl
@@ -30,10 +23,6 @@ names_more parts n h k = list_all-append is_name parts (n ∷ []) ∙ rw (h, k) 
 -- a byte that the text hasn't is in no part
 abbrev none_has : ℕ → List (List ℕ) → Bool
 none_has c parts = list_all (λ part. not (has_byte c part)) parts
-
-pub or_parts : (a b : Bool) → (a || b) ≡ false → (a ≡ false) × (b ≡ false)
-or_parts true b h = absurd (cc h)
-or_parts false b h = (refl, h)
 
 onto_free : (c x : ℕ) (parts : List (List ℕ)) → nat_eq x c ≡ false → none_has c parts ≡ true → none_has c (onto_first x parts) ≡ true
 onto_free c x [] n h = rw n refl
@@ -58,7 +47,7 @@ parts_no_slash (x ∷ xs) =
 
 free_at : (c : ℕ) (parts : List (List ℕ)) (i : ℕ) (d : List ℕ) → i < length parts → none_has c parts ≡ true → has_byte c (get_or parts i d) ≡ false
 free_at c [] i d lt h = absurd (omega arith)
-free_at c (x ∷ xs) zero d lt h = not_true (has_byte c x) (and_parts (not (has_byte c x)) (none_has c xs) h).0
+free_at c (x ∷ xs) zero d lt h = not-true (has_byte c x) (and_parts (not (has_byte c x)) (none_has c xs) h).0
 free_at c (x ∷ xs) (suc i) d lt h = free_at c xs i d (omega arith) (and_parts (not (has_byte c x)) (none_has c xs) h).1
 
 -- this part of the text is a name

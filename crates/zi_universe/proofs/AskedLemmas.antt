@@ -1,6 +1,6 @@
 -- What the parts of a loading ask for, put together.
 use Rattle.std.proofs.Common.{◌≡◌, ℕ, ◌+◌, ◌<◌, ◌≤◌, inl, inr, Bool, true, false, List, [], ◌∷◌, ◌++◌, length, Some, Option, slice_get, refl, sym, ap, subst, ◌∙◌, arith, append_assoc, length-append, if◌then◌else◌}
-use Rattle.std.proofs.lemmas.List.{append-nil}
+use Rattle.std.proofs.lemmas.List.{append-nil, length-map}
 use Rattle.zi_policy.specs.declared.types.Policy.{Policy}
 use Rattle.zi_policy.specs.Platform.{listed}
 use Rattle.zi_feed.specs.declared.feed.Feed.{Feed}
@@ -14,7 +14,6 @@ use Rattle.zi_universe.specs.Loading.{AreAsked}
 use Rattle.zi_universe.specs.Tables.{addresses}
 use Rattle.zi_universe.specs.Stages.{RefusesBytes, StopsOnce, GetsOnce, HasListed}
 use Rattle.zi_universe.specs.Asked.{unless_there, StopsAt, GetsMore, EndsNext, RefusesAt, LeavesNext, RefusesListing, EndsListing, LeavesListing}
-use Rattle.zi_universe.proofs.NamingLemmas.{length-map}
 use Rattle.zi_universe.proofs.ListingLemmas.{listed_begins}
 
 pub asked_none : (seen : Feeding) → AreAsked [] seen seen
@@ -97,8 +96,8 @@ module _ (told : Option Holding) (root : Uri) (place : ℕ) (here : Uris) (fs : 
         where
           fewer : addresses gs ≡ addresses fs ++ uri ∷ [] → length fs < most_feeds
           fewer grown =
-              let m : length (addresses gs) ≡ length gs = length-map (λ (x : Feed). x.uri) gs in
-              let n : length (addresses fs) ≡ length fs = length-map (λ (x : Feed). x.uri) fs in
+              let m : length (addresses gs) ≡ length gs = length-map gs (λ (x : Feed). x.uri) in
+              let n : length (addresses fs) ≡ length fs = length-map fs (λ (x : Feed). x.uri) in
               let k : length (addresses gs) ≡ length (addresses fs) + 1 = ap length grown ∙ length-append (addresses fs) (uri ∷ []) in
               let most : length gs ≤ most_feeds = g.few few in
               omega (arith, m, n, k, most)

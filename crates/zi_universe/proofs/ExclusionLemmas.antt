@@ -2,8 +2,8 @@
 use Rattle.std.proofs.Common.{◌≡◌, ◌≢◌, ℕ, zero, suc, ◌+◌, ◌<◌, ◌≤◌, Bool, true, false, List, [], ◌∷◌, ◌++◌, length, map, take, get_or, true≢false, Option, Some, None, Contains, slice_get, refl, sym, ap, subst, ◌∙◌, arith, add-one, append_assoc, length-append, if◌then◌else◌}
 use Rattle.std.specs.Prelude.{IsSomeAnd, MatchOption}
 use Rattle.std.specs.List.{AllZip}
-use Rattle.std.proofs.lemmas.List.{take_all, take-map, take_more_same}
-use Rattle.std.proofs.lemmas.Option.{slice_get_within}
+use Rattle.std.proofs.lemmas.List.{take_all, take-map, take_more_same, length-map}
+use Rattle.std.proofs.lemmas.Option.{slice_get_within, none-some}
 use Rattle.std.proofs.lemmas.List.Sums.{sum_by-append, sum_by_push}
 use Rattle.std.proofs.lemmas.List.Sorted.{length_permutation}
 use Rattle.std.proofs.lemmas.List.Elements.{Contains-append_left}
@@ -26,7 +26,7 @@ use Rattle.zi_universe.specs.Candidates.{Store, imports_of, admitted, AreCandida
 use Rattle.zi_universe.specs.Whole.{uris_of, candidates_in, most_feeds, most_interfaces, most_candidates, feed_limit}
 use Rattle.zi_universe.specs.Loading.{Says, HasFault, no_feed, IsRead, Reading, AreRead, IsInterface, reached, HasCome, Loads, ComesTo, Finds}
 use Rattle.zi_universe.specs.Laws.{UniverseExcludes}
-use Rattle.zi_universe.proofs.NamingLemmas.{begins, at_stage, closed_once, joined-append, joined_behind, all_of-append, length-map, map-append, listed-Contains, Contains-listed, listed-append_left, listed-without_repeats}
+use Rattle.zi_universe.proofs.NamingLemmas.{begins, at_stage, closed_once, joined-append, joined_behind, all_of-append, map-append, listed-Contains, Contains-listed, listed-append_left, listed-without_repeats}
 use Rattle.zi_universe.proofs.OnceLemmas.{map_same, here, later, later_all, each_over, IsOne, each_one, same_one, asked_at, finds_asked, asks_next, both, read_once, listed-behind}
 
 -- Fronts.
@@ -44,7 +44,7 @@ cut_at (y ∷ ys) (suc k) x e = let r = cut_at ys k x e in (r.0, ap (λ q. y ∷
 -- A list that is named so far, the first k of whose members were asked, is a front of the closed one.
 module _ (first : Uri) (next : Uri → Uris) (whole part : Uris) (k : ℕ) (m : IsClosed first next whole) (n : IsNamed first (map next (take k part)) part) (le : k ≤ length part) where
   as_long : length (map next (take k part)) ≡ k
-  as_long = length-map next (take k part) ∙ length_taken k part le
+  as_long = length-map (take k part) next ∙ length_taken k part le
     where
       length_taken : (j : ℕ) (xs : Uris) → j ≤ length xs → length (take j xs) ≡ j
       length_taken zero xs h = refl
@@ -69,7 +69,7 @@ module _ (first : Uri) (next : Uri → Uris) (whole part : Uris) (k : ℕ) (m : 
       let e : take j part ≡ take j whole = same_so_far j (omega (arith, lj)) in
       let long : j < length whole = long_stage j (omega (arith, lj)) e in
       let lt : j < length (map next (take k part)) = omega (arith, as_long, lj) in
-      let lu : j < length (map next whole) = omega (arith, length-map next whole, long) in
+      let lu : j < length (map next whole) = omega (arith, length-map whole next, long) in
       let same : get_or part j first ≡ get_or whole j first =
       at_stage first (map next (take k part)) part j first n lt
       ∙ ap (λ q. get_or (without_repeats (first ∷ all_of q)) j first) (same_named j (omega (arith, lj)) e)
@@ -189,7 +189,7 @@ module _ (strict : RanksAreStrict) (one : (w : List ℕ) → IsSettled w) (holds
   few_done : length done ≤ length names
   few_done =
       let l : length names ≡ length (take (length done) names) + length (interface ∷ name_cut.0) = ap length name_cut.1 ∙ length-append (take (length done) names) (interface ∷ name_cut.0) in
-      let k : length (uris_of done) ≡ length done = length-map (λ (i : Interface). i.uri) done in
+      let k : length (uris_of done) ≡ length done = length-map done (λ (i : Interface). i.uri) in
       let t : length (uris_of done) ≡ length (take (length done) names) = ap length come.in_turn in
       omega (arith, l, k, t)
 
@@ -210,9 +210,6 @@ module _ (strict : RanksAreStrict) (one : (w : List ℕ) → IsSettled w) (holds
 
   pub closed_group : IsClosed interface (λ u. imports_of p (now u)) group.0
   closed_group = let P : Uri → Type 0 = λ q. IsNamed q (map (λ u. imports_of p (now u)) group.0) group.0 in subst P item.3 group.3.closed
-
-pub no_some : {X : Type 0} (x : X) → None ≡ Some x → ⊥
-no_some x e = cc
 
 regroup : (g t ys zs m : Uris) (u : Uri) → g ++ (((t ++ u ∷ ys) ++ zs) ++ m) ≡ (g ++ t) ++ u ∷ (ys ++ (zs ++ m))
 regroup g t ys zs m u = simp append_assoc
@@ -300,7 +297,7 @@ module _ (strict : RanksAreStrict) (one : (w : List ℕ) → IsSettled w) (holds
       let s = says_now bytes e in
       let same : h.0 ≡ s.1.0 = (one bytes).tree h.0 s.1.0 h.1 s.1.1 in
       let n : feed_fault (element_view h.0) uri ≡ None = ap (λ t. feed_fault (element_view t) uri) same ∙ s.1.2 in
-      no_some (record { kind = kind; place = place }) (sym n ∙ h.2)
+      none-some (record { kind = kind; place = place }) (sym n ∙ h.2)
 
   not_long : IsSomeAnd (holds uri) (λ bytes. feed_limit < length bytes) → ⊥
   not_long h = by (holds uri) refl h

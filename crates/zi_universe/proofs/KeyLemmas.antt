@@ -5,6 +5,7 @@ use Rattle.std.proofs.lemmas.Option.{slice_get_within, slice_get-get_or}
 use Rattle.std.proofs.lemmas.List.Elements.{All-head, All-tail, All-nil, All-cons, All-push, All-weaker}
 use Rattle.std.proofs.lemmas.Bool.Decides.{nat_tests}
 use Rattle.std.proofs.lemmas.List.{map-append}
+use Rattle.std.proofs.lemmas.Bool.{and_parts, eqb-true}
 use Rattle.zi_policy.specs.declared.types.Policy.{Policy}
 use Rattle.zi_rank.specs.declared.rating.Rating.{Rating}
 use Rattle.zi_rank.specs.Ratings.{rating_of}
@@ -19,21 +20,14 @@ use Rattle.zi_universe.specs.declared.ranking.RatedCandidate.{RatedCandidate}
 use Rattle.zi_universe.specs.Offering.{IsNumbered, version_at, langs_at, deps_of, HasLevel, found_at, StandsAt, FindsVersions, IsPlacedIn, ArePlacedIn, rated_one}
 
 -- Keys that are alike are one.
-both_true : (a b : Bool) → (a && b) ≡ true → (a ≡ true) × (b ≡ true)
-both_true true true e = (refl, refl)
-both_true true false e = (cc)
-both_true false b e = (cc)
-
-same_number : (m n : ℕ) → eqb m n ≡ true → m ≡ n
-same_number m n e = grind (arith, nat_tests)
 
 abbrev key : ℕ → ℕ → Key
 key f n = record { feed = f; number = n }
 
 pub same_key : (k q : Key) → (eqb k.feed q.feed && eqb k.number q.number) ≡ true → k ≡ q
 same_key k q e =
-    let h = both_true (eqb k.feed q.feed) (eqb k.number q.number) e in
-    ap (λ f. key f k.number) (same_number k.feed q.feed h.0) ∙ ap (λ n. key q.feed n) (same_number k.number q.number h.1)
+    let h = and_parts (eqb k.feed q.feed) (eqb k.number q.number) e in
+    ap (λ f. key f k.number) (eqb-true k.feed q.feed h.0) ∙ ap (λ n. key q.feed n) (eqb-true k.number q.number h.1)
 
 pub one_value : {X : Type 0} (o : Option X) (x y : X) → o ≡ Some x → o ≡ Some y → x ≡ y
 one_value o x y e f = cc

@@ -67,11 +67,6 @@ one_named feeds key deps before after old new at more grown h k has ds e = by (e
 level_deps : (ls : List Level) (n : ℕ) (l : Level) (ds : List Dep) → slice_get ls n ≡ Some l → deps_at ls n ≡ Some ds → l.deps ≡ ds
 level_deps ls n l ds at e = let same : Some l.deps ≡ Some ds = sym (ap (option_map (λ (q : Level). q.deps)) at) ∙ e in cc
 
-pub level_within : (ls : List Level) (n : ℕ) (ds : List Dep) → deps_at ls n ≡ Some ds → n < length ls
-level_within [] n ds e = (cc)
-level_within (l ∷ ls) zero ds e = omega arith
-level_within (l ∷ ls) (suc n) ds e = let r = level_within ls n ds e in omega (arith, r)
-
 pub outer_level : (feeds : List Shares) (k : Key) (l : Level) (h : HasLevel feeds k) → IsLevelAt feeds k l → ¬ (l.around ≡ 0) → HasLevel feeds (record { feed = k.feed; number = l.outer })
 outer_level feeds k l h is some =
     let r = h.levels k.number l (is h.shares h.there) (omega (arith, some)) in

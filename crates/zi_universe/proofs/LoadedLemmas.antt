@@ -1,7 +1,7 @@
 -- The interfaces, one after the other.
 use Rattle.std.proofs.Common.{Option, ◌≡◌, ℕ, ◌+◌, ◌<◌, ◌≤◌, true, List, [], ◌∷◌, ◌++◌, length, map, take, get_or, All, refl, sym, ap, subst, ◌∙◌, arith, length-append}
 use Rattle.std.specs.List.{AllZip}
-use Rattle.std.proofs.lemmas.List.{take_all}
+use Rattle.std.proofs.lemmas.List.{take_all, length-map}
 use Rattle.std.proofs.lemmas.List.Elements.{Contains-get_or}
 use Rattle.std.proofs.lemmas.List.Sums.{sum_by_push}
 use Rattle.zi_policy.specs.declared.types.Policy.{Policy}
@@ -17,7 +17,7 @@ use Rattle.zi_universe.specs.Whole.{uris_of, candidates_in, most_feeds, most_can
 use Rattle.zi_universe.specs.Loading.{Reading, AreRead, IsInterface, reached, HasCome, Loads}
 use Rattle.zi_universe.specs.Tables.{addresses, Agrees, AllRead}
 use Rattle.zi_universe.specs.Stages.{HasListed, HasLoaded}
-use Rattle.zi_universe.proofs.NamingLemmas.{joined-append, all_of-append, named_begins, named_more, map-append, length-map, without_repeats_apart, closes, take_joined, Contains-listed, listed-joined}
+use Rattle.zi_universe.proofs.NamingLemmas.{joined-append, all_of-append, named_begins, named_more, map-append, without_repeats_apart, closes, take_joined, Contains-listed, listed-joined}
 use Rattle.zi_universe.proofs.TableLemmas.{reading_of, reading_agrees, reading_reads}
 use Rattle.zi_universe.proofs.ListingLemmas.{listed_read, listed_agrees}
 
@@ -65,7 +65,7 @@ module _ (told : Option Holding) (req : Requirement) (p : Policy) (stored : Stor
       l.places ∙ ap (joined (addresses start)) (take_all (length here) here (omega arith)) ∙ ap (λ q. joined q here) h.places ∙ sym (reached_more h.groups here)
 
   pub few_now : length (reached (h.groups ++ here ∷ [])) ≤ most_feeds
-  few_now = let P : ℕ → Type 0 = λ n. n ≤ most_feeds in subst P (sym (length-map (λ (f : Feed). f.uri) fs) ∙ ap length places_now) l.few
+  few_now = let P : ℕ → Type 0 = λ n. n ≤ most_feeds in subst P (sym (length-map fs (λ (f : Feed). f.uri)) ∙ ap length places_now) l.few
 
   -- each of the feeds is there
   pub here_listed : All (λ u. listed u (addresses fs) ≡ true) here
@@ -102,7 +102,7 @@ module _ (told : Option Holding) (req : Requirement) (p : Policy) (stored : Stor
           named_now n =
               let P : List Uris → Type 0 = λ q. IsNamed req.interface q (joined names (asked_by_all cs)) in
               subst P (sym (map-append asked_by done (record { uri = uri; candidates = cs } ∷ [])))
-              (named_more req.interface (map asked_by done) names (asked_by_all cs) n (let k : length (map asked_by done) ≡ length done = length-map asked_by done in omega (arith, k, lt)))
+              (named_more req.interface (map asked_by done) names (asked_by_all cs) n (let k : length (map asked_by done) ≡ length done = length-map done asked_by in omega (arith, k, lt)))
 
           turn_now : uris_of done ≡ take (length done) names → uris_of (done ++ record { uri = uri; candidates = cs } ∷ []) ≡ take (length (done ++ record { uri = uri; candidates = cs } ∷ [])) (joined names (asked_by_all cs))
           turn_now t =

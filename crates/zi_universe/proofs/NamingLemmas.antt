@@ -7,7 +7,7 @@ use Rattle.std.proofs.lemmas.Slice.Eq.{bytes_eq-Decides}
 use Rattle.std.proofs.lemmas.List.Elements.{Contains-get_or, Contains-append_left, Contains-push, Contains-push_cases}
 use Rattle.std.proofs.lemmas.List.Quantifiers.{all_pairs_push}
 use Rattle.indexmap.proofs.CallerLemmas.{Contains-list_any}
-use Rattle.std.proofs.lemmas.List.{append-nil, take_all, take-append-le, take_more, length-take-le, take-append-drop, get_or_append_left, take-map, take_more_same}
+use Rattle.std.proofs.lemmas.List.{append-nil, take_all, take-append-le, take_more, length-take-le, take-append-drop, get_or_append_left, take-map, take_more_same, length-map}
 use Rattle.zi_policy.specs.Platform.{listed}
 use Rattle.zi_universe.specs.Naming.{Uri, Uris, with_one, joined, without_repeats, all_of, IsNamed, IsClosed, AreApart}
 
@@ -61,10 +61,6 @@ pub map-append : {X Y : Type 0} (f : X → Y) (xs ys : List X) → map f (xs ++ 
 map-append f [] ys = refl
 map-append f (x ∷ xs) ys = ap (λ q. f x ∷ q) (map-append f xs ys)
 
-pub length-map : {X Y : Type 0} (f : X → Y) (xs : List X) → length (map f xs) ≡ length xs
-length-map f [] = refl
-length-map f (x ∷ xs) = ap (λ q. suc q) (length-map f xs)
-
 -- one more of the members of xs names what it names
 pub member_names : (first : Uri) (next : Uri → Uris) (xs : Uris) (i : ℕ) (x : Uri) → i < length xs → get_or xs i x ≡ x
     → IsNamed first (map next (take i xs)) xs → IsNamed first (map next (take (i + 1) (joined xs (next x)))) (joined xs (next x))
@@ -75,7 +71,7 @@ member_names first next xs i x lt e n =
     let same : map next (take i xs) ++ next x ∷ [] ≡ map next (take (i + 1) (joined xs (next x))) =
     sym (ap (λ q. map next q) cut ∙ map-append next (take i xs) (x ∷ [])) in
     let P : List Uris → Type 0 = λ q. IsNamed first q (joined xs (next x)) in
-    let len : length (map next (take i xs)) ≡ i = length-map next (take i xs) ∙ length-take-le i xs (omega arith) in
+    let len : length (map next (take i xs)) ≡ i = length-map (take i xs) next ∙ length-take-le i xs (omega arith) in
     subst P same (named_more first (map next (take i xs)) xs (next x) n (omega (arith, len, lt)))
 
 -- once all have named theirs, the list is closed
@@ -110,8 +106,8 @@ same_front first next xs ys m n zero le lf = refl
 same_front first next xs ys m n (suc k) le lf =
     let P : ℕ → Type 0 = λ j. take j xs ≡ take j ys in
     let so_far : take k xs ≡ take k ys = same_front first next xs ys m n k (omega arith) (omega arith) in
-    let lt : k < length (map next xs) = omega (arith, length-map next xs, le) in
-    let lu : k < length (map next ys) = omega (arith, length-map next ys, lf) in
+    let lt : k < length (map next xs) = omega (arith, length-map xs next, le) in
+    let lu : k < length (map next ys) = omega (arith, length-map ys next, lf) in
     let here : get_or xs k first ≡ get_or ys k first =
     at_stage first (map next xs) xs k first m lt
     ∙ ap (λ q. get_or (without_repeats (first ∷ all_of q)) k first) (same_names next xs ys k so_far)
@@ -122,8 +118,8 @@ not_longer : (first : Uri) (next : Uri → Uris) (xs ys : Uris) → IsClosed fir
 not_longer first next xs ys m n lt =
     let k : ℕ = length xs in
     let so_far : take k xs ≡ take k ys = same_front first next xs ys m n k (omega arith) (omega arith) in
-    let all : take k (map next ys) ≡ map next xs = sym (same_names next xs ys k so_far) ∙ take_all k (map next xs) (omega (arith, length-map next xs)) in
-    let turn : k < length (without_repeats (first ∷ all_of (take k (map next ys)))) = n.in_turn k (omega (arith, length-map next ys, lt)) in
+    let all : take k (map next ys) ≡ map next xs = sym (same_names next xs ys k so_far) ∙ take_all k (map next xs) (omega (arith, length-map xs next)) in
+    let turn : k < length (without_repeats (first ∷ all_of (take k (map next ys)))) = n.in_turn k (omega (arith, length-map ys next, lt)) in
     let end : without_repeats (first ∷ all_of (take k (map next ys))) ≡ xs = ap (λ q. without_repeats (first ∷ all_of q)) all ∙ sym m.are in
     let P : Uris → Type 0 = λ q. k < length q in
     let bad : k < length xs = subst P end turn in

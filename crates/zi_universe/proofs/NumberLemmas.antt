@@ -11,22 +11,16 @@ use Rattle.std.proofs.lemmas.Option.{slice_get_within, get_or_from_slice_get}
 use Rattle.std.proofs.lemmas.List.Sorted.{ranks_by, sorted_far, Contains-permutation}
 use Rattle.std.proofs.lemmas.List.{get_or_append_left, get_or_push, length-append}
 use Rattle.std.proofs.lemmas.Cmp.{ranked}
+use Rattle.std.proofs.lemmas.Bool.{both_ways}
 use Rattle.zi_version.specs.Value.{value, version_cmp}
 use Rattle.zi_universe.specs.Offering.{IsBehindLess, AreNumbersOf}
+use Rattle.zi_text.proofs.ListLaws.{is_less}
 
 pub version_total : IsTotalOrder version_cmp
 version_total = on_total (λ v. unwrap_or (value v) []) (lists_total nat_list_cmp_total)
 
-is_less : (r : Ordering) → is_lt r ≡ true → r ≡ Less
-is_less Less e = refl
-is_less Equal e = (cc)
-is_less Greater e = (cc)
-
-no_way : (b : Bool) → b ≡ true → b ≡ false → ⊥
-no_way b t f = cc
-
 different : {G : Type 0} (b : Bool) → b ≡ true → b ≡ false → G
-different b t f = absurd (no_way b t f)
+different b t f = absurd (both_ways b f t)
 
 -- what is before a lesser one is less
 less_before : (x y v : List ℕ) → is_lt (version_cmp y x) ≡ false → is_lt (version_cmp y v) ≡ true → is_lt (version_cmp x v) ≡ true

@@ -11,7 +11,7 @@ use Rattle.zi_feed.specs.declared.feed.Feed.{Feed}
 use Rattle.zi_feed.specs.declared.shares.Numbers.{Numbers}
 use Rattle.zi_feed.specs.declared.shares.Shares.{Shares}
 use Rattle.zi_feed.specs.Shares.{AreLevels, HasNumbers}
-use Rattle.zi_feed.proofs.ShareLaws.{at_front, at_new}
+use Rattle.zi_feed.proofs.ShareLaws.{at_new}
 use Rattle.zi_universe.specs.declared.types.Candidate.{Candidate}
 use Rattle.zi_universe.specs.declared.types.Requirement.{Requirement}
 use Rattle.zi_universe.specs.declared.offers.Offered.{Offered}
@@ -19,6 +19,7 @@ use Rattle.zi_universe.specs.Naming.{Uri, Uris}
 use Rattle.zi_universe.specs.Candidates.{Store, standing_of}
 use Rattle.zi_universe.specs.Tables.{find_feed, feeds_at, as_it_is, held_from, held_by, held}
 use Rattle.zi_universe.specs.Offering.{candidates_of, given, IsNumbered, AreNumbered}
+use Rattle.zi_text.proofs.ListLaws.{at_front}
 
 -- One candidate.
 given_is : (test : Candidate → Bool) (x c : Candidate) → Some c ≡ given test x → c ≡ x

@@ -2,7 +2,8 @@
 use Rattle.std.proofs.Common.{◌≡◌, inl, inr, ℕ, zero, suc, ◌+◌, ◌<◌, ◌≤◌, true, List, [], ◌∷◌, ◌++◌, length, map, take, get_or, Some, Contains, slice_get, refl, sym, ap, subst, ◌∙◌, arith, add-one, append_assoc, length-append}
 use Rattle.std.specs.List.{AllZip}
 use Rattle.std.proofs.lemmas.List.Elements.{Contains-append_left}
-use Rattle.std.proofs.lemmas.List.{append-nil, take_all, take-append-le, length-take-le, take-map, take_more_same}
+use Rattle.std.proofs.lemmas.List.{append-nil, take_all, take-append-le, length-take-le, take-map, take_more_same, length-map}
+use Rattle.std.proofs.lemmas.Option.{same_Some}
 use Rattle.zi_policy.specs.declared.types.Policy.{Policy}
 use Rattle.zi_policy.specs.Platform.{listed}
 use Rattle.zi_rank.specs.Laws.{RanksAreStrict}
@@ -13,7 +14,7 @@ use Rattle.zi_universe.specs.Naming.{Uri, Uris, without_repeats, all_of, IsNamed
 use Rattle.zi_universe.specs.Candidates.{Store, imports_of, asked_by}
 use Rattle.zi_universe.specs.Whole.{uris_of, most_feeds}
 use Rattle.zi_universe.specs.Loading.{IsRead, Reading, IsInterface, HasCome}
-use Rattle.zi_universe.proofs.NamingLemmas.{begins, at_stage, closed_once, length-map, Contains-listed, listed-append_left}
+use Rattle.zi_universe.proofs.NamingLemmas.{begins, at_stage, closed_once, Contains-listed, listed-append_left}
 use Rattle.zi_universe.proofs.OnceLemmas.{map_same, here, later, later_all, is_member, each_over, IsOne, each_one, same_one, asked_at, finds_asked, asks_next, listed-behind}
 use Rattle.zi_universe.proofs.ExclusionLemmas.{take_front, cut_at, cons_same, all_of-cut, front}
 
@@ -38,17 +39,14 @@ few_taken zero xs h = omega arith
 few_taken (suc n) [] h = h
 few_taken (suc n) (x ∷ xs) h = let r = few_taken n xs (omega (arith, h)) in omega (arith, r)
 
-pub same_some : {X : Type 0} (x y : X) → Some x ≡ Some y → x ≡ y
-same_some x y e = cc
-
 -- Two lists that are named so far: the one with fewer members asked is a front of the other.
 module _ (first : Uri) (next : Uri → Uris) (whole part : Uris) (m k : ℕ) (a : IsNamed first (map next (take m whole)) whole) (b : IsNamed first (map next (take k part)) part)
     (km : k ≤ m) (lm : m ≤ length whole) (lk : k ≤ length part) where
   as_far : length (map next (take k part)) ≡ k
-  as_far = length-map next (take k part) ∙ length-take-le k part lk
+  as_far = length-map (take k part) next ∙ length-take-le k part lk
 
   as_long : length (map next (take m whole)) ≡ m
-  as_long = length-map next (take m whole) ∙ length-take-le m whole lm
+  as_long = length-map (take m whole) next ∙ length-take-le m whole lm
 
   same_asked : (j : ℕ) → j ≤ k → take j part ≡ take j whole → take j (map next (take k part)) ≡ take j (map next (take m whole))
   same_asked j lj e =
@@ -202,13 +200,13 @@ module _ (strict : RanksAreStrict) (holds : Holding) (req : Requirement) (p : Po
 
   few_x : length x.done ≤ length x.names
   few_x =
-      let l : length (uris_of x.done) ≡ length x.done = length-map (λ (i : Interface). i.uri) x.done in
+      let l : length (uris_of x.done) ≡ length x.done = length-map x.done (λ (i : Interface). i.uri) in
       let t : length (uris_of x.done) ≡ length (take (length x.done) x.names) = ap length x.come.in_turn in
       few_taken (length x.done) x.names (omega (arith, l, t))
 
   few_y : length y.done ≤ length y.names
   few_y =
-      let l : length (uris_of y.done) ≡ length y.done = length-map (λ (i : Interface). i.uri) y.done in
+      let l : length (uris_of y.done) ≡ length y.done = length-map y.done (λ (i : Interface). i.uri) in
       let t : length (uris_of y.done) ≡ length (take (length y.done) y.names) = ap length y.come.in_turn in
       few_taken (length y.done) y.names (omega (arith, l, t))
 
@@ -250,7 +248,7 @@ module _ (strict : RanksAreStrict) (holds : Holding) (req : Requirement) (p : Po
             let t : slice_get (uris_of y.done) (length x.done) ≡ Some x.interface =
             ap (λ q. slice_get q (length x.done)) y.come.in_turn ∙ get_taken y.names (length y.done) (length x.done) x.interface lt next_there in
             let u : slice_get (uris_of y.done) (length x.done) ≡ Some i.uri = ap (λ q. slice_get (uris_of q) (length x.done)) d ∙ get_past x.done i rest in
-            (i, rest, r.0, r.1, d, rests.3 ∙ ap (λ q. x.groups ++ q) r.2, r.3, same_some i.uri x.interface (sym u ∙ t))
+            (i, rest, r.0, r.1, d, rests.3 ∙ ap (λ q. x.groups ++ q) r.2, r.3, same_Some i.uri x.interface (sym u ∙ t))
 
     closed_next : IsClosed x.interface next_now done_next.2
     closed_next = let P : Uri → Type 0 = λ q. IsClosed q next_now done_next.2 in subst P done_next.7 done_next.6.closed
@@ -286,7 +284,7 @@ module _ (strict : RanksAreStrict) (holds : Holding) (req : Requirement) (p : Po
     same_names = y.come.named.are ∙ ap (λ q. without_repeats (req.interface ∷ all_of (map asked_by q))) same_done ∙ sym x.come.named.are
 
     pub same_interface : y.interface ≡ x.interface
-    same_interface = same_some y.interface x.interface (sym y.next ∙ ap (slice_get y.names) (ap length same_done) ∙ next_there)
+    same_interface = same_Some y.interface x.interface (sym y.next ∙ ap (slice_get y.names) (ap length same_done) ∙ next_there)
 
     pub named_y : IsNamed x.interface (map next_now (take y.n y.here)) y.here
     named_y = let P : Uri → Type 0 = λ q. IsNamed q (map next_now (take y.n y.here)) y.here in subst P same_interface y.named

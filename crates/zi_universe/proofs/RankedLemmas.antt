@@ -3,11 +3,12 @@ use Rattle.std.proofs.Common.{◌≡◌, ◌≢◌, ◌⊎◌, inl, inr, ℕ, ze
 use Rattle.std.specs.Prelude.{IsPermutation, IsSortedBy, slice_get, Some}
 use Rattle.std.specs.Ordering.{is_lt}
 use Rattle.std.specs.List.{IsDistinct, AllByRecursion}
-use Rattle.std.proofs.lemmas.List.{get_or-map}
+use Rattle.std.proofs.lemmas.List.{get_or-map, length-map}
 use Rattle.std.proofs.lemmas.List.Elements.{All-nil, All-cons, All-head, All-tail}
 use Rattle.std.proofs.lemmas.List.Sorted.{ranks_by, sorted_far, IsPermutation-map, All-permutation}
 use Rattle.std.proofs.lemmas.Map.Keys.{IsDistinct-IsPermutation, IsDistinct-head, IsDistinct-tail, IsDistinct-cons, apart_from_distinct, IsDistinct-from_apart}
 use Rattle.std.proofs.lemmas.Bool.Decides.{nat_tests}
+use Rattle.std.proofs.lemmas.Bool.{both_ways}
 use Rattle.zi_policy.specs.declared.types.Policy.{Policy}
 use Rattle.zi_policy.specs.Platform.{listed}
 use Rattle.zi_rank.specs.Laws.{RanksAreStrict}
@@ -31,7 +32,7 @@ use Rattle.zi_universe.specs.Tables.{addresses}
 use Rattle.zi_universe.specs.Stages.{place_of, alike, ArePlaced, IsSorting}
 use Rattle.zi_universe.specs.Offering.{candidates_of, IsNumbered, AreNumbered, IsPlacedIn, ArePlacedIn, AreNumbersOf, rated_one}
 use Rattle.zi_universe.proofs.KeyLemmas.{All-into, All-out}
-use Rattle.zi_universe.proofs.NamingLemmas.{bytes_eq-true, bytes_eq-refl, bytes_eq-false, listed-cons, listed-Contains, map-append, length-map}
+use Rattle.zi_universe.proofs.NamingLemmas.{bytes_eq-true, bytes_eq-refl, bytes_eq-false, listed-cons, listed-Contains, map-append}
 
 -- Two places are alike, or not, either way.
 bytes_eq-flips : (x y : Uri) → bytes_eq x y ≡ bytes_eq y x
@@ -63,22 +64,18 @@ parts_differ a b n = by (bytes_eq a.0 b.0) refl
     by true e = let f : eqb a.1 b.1 ≡ false = ap (λ q. q && eqb a.1 b.1) (sym e) ∙ n in inr (λ q. grind (arith, nat_tests))
     by false e = inl (bytes_eq-false a.0 b.0 e)
 
-different : (b : Bool) → b ≡ true → b ≡ false → ⊥
-different b t f = cc
-
 ranked_pairs : RanksAreStrict → (p : Policy) (cs : List Candidate) → IsSortedBy (λ c d. is_lt (rank_cmp p c.standing d.standing)) cs → ArePlaced cs → AreRanked p cs
 ranked_pairs strict p cs up placed i j d lt in_list =
     let c : Candidate = get_or cs i d in
     let e : Candidate = get_or cs j d in
     let apart : alike (get_or (map place_of cs) i (place_of d)) (get_or (map place_of cs) j (place_of d)) ≡ false =
-    apart_from_distinct alike (map place_of cs) i j (place_of d) placed lt (omega (arith, in_list, length-map place_of cs)) in
+    apart_from_distinct alike (map place_of cs) i j (place_of d) placed lt (omega (arith, in_list, length-map cs place_of)) in
     let far : alike (place_of c) (place_of e) ≡ false =
     ap (λ q. alike q (place_of e)) (sym (get_or-map place_of cs i d (place_of d) (omega arith)))
     ∙ ap (alike (get_or (map place_of cs) i (place_of d))) (sym (get_or-map place_of cs j d (place_of d) in_list)) ∙ apart in
     elim ((strict p).one_first c.standing e.standing (parts_differ (place_of c) (place_of e) far)) [
       | inl b ↦ b
-      | inr b ↦ absurd (different (is_lt (rank_cmp p e.standing c.standing)) (ap is_lt b)
-          (sorted_far (λ (x y : Candidate). is_lt (rank_cmp p x.standing y.standing)) (ranks_by (rank_total p) (λ (x : Candidate). x.standing)) cs up i j d (omega arith) in_list))
+      | inr b ↦ absurd (both_ways (is_lt (rank_cmp p e.standing c.standing)) (sorted_far (λ (x y : Candidate). is_lt (rank_cmp p x.standing y.standing)) (ranks_by (rank_total p) (λ (x : Candidate). x.standing)) cs up i j d (omega arith) in_list) (ap is_lt b))
     ]
 
 sorting : RanksAreStrict → (p : Policy) (cs ds : List Candidate) → IsPermutation cs ds → IsSortedBy (λ c d. is_lt (rank_cmp p c.standing d.standing)) ds → IsSorting p cs ds
@@ -121,7 +118,7 @@ rated_pair p vs ns numbers r s a b =
 rated_up : (p : Policy) (vs : List (List ℕ)) (ns : List ℕ) → AreNumbersOf vs ns → (rs : List RatedCandidate) → All (IsRated p vs ns) rs
     → IsSortedBy (λ x y. is_lt (numbered_cmp (of_rated x) (of_rated y))) rs → IsSortedBy (λ c d. is_lt (rank_cmp p c.standing d.standing)) (map candidate_in rs)
 rated_up p vs ns numbers rs rated up k d low high =
-    let in_list : k + 1 < length rs = omega (arith, high, length-map candidate_in rs) in
+    let in_list : k + 1 < length rs = omega (arith, high, length-map rs candidate_in) in
     let e : RatedCandidate = record { rating = rating_of p d.standing; number = 0; one = record { candidate = d; feed = 0; numbers = record { version = 0; langs = 0; level = 0 } } } in
     let x : RatedCandidate = get_or rs (k + 1) e in
     let y : RatedCandidate = get_or rs k e in

@@ -1,6 +1,6 @@
 -- The refusals of the parts of a loading are refusals of the whole.
 use Rattle.std.proofs.Common.{◌≡◌, ℕ, ◌<◌, ◌≤◌, inl, inr, false, List, [], ◌∷◌, ◌++◌, length, map, take, get_or, Some, None, Option, slice_get, IfSome, IsSomeAnd, refl, sym, ap, subst, ◌∙◌, arith}
-use Rattle.std.proofs.lemmas.List.{append-nil}
+use Rattle.std.proofs.lemmas.List.{append-nil, length-map}
 use Rattle.zi_policy.specs.declared.types.Policy.{Policy}
 use Rattle.zi_policy.specs.Platform.{listed}
 use Rattle.zi_feed.specs.declared.feed.Feed.{Feed}
@@ -18,7 +18,7 @@ use Rattle.zi_universe.specs.Loading.{Reading, AreRead, IsHeld, HasFault, reache
 use Rattle.zi_universe.specs.Tables.{addresses, Agrees, AllRead}
 use Rattle.zi_universe.specs.Stages.{RefusesNext, HasListed, StopsListing, HasLoaded, IsSorting, StopsFinishing}
 use Rattle.zi_universe.specs.Asked.{up_to}
-use Rattle.zi_universe.proofs.NamingLemmas.{without_repeats_apart, length-map}
+use Rattle.zi_universe.proofs.NamingLemmas.{without_repeats_apart}
 use Rattle.zi_universe.proofs.TableLemmas.{reading_of, reading_agrees, reading_reads}
 use Rattle.zi_universe.proofs.ListingLemmas.{listed_read, listed_agrees}
 use Rattle.zi_universe.proofs.LoadedLemmas.{reached_more, from_start, all_read, places_now, few_now, closed_now}
@@ -53,7 +53,7 @@ module _ (told : Option Holding) (req : Requirement) (p : Policy) (stored : Stor
       apart = subst AreApart (sym places) (without_repeats_apart (all_of (h.groups ++ take n here ∷ [])))
 
       few : length (addresses fs) ≤ most_feeds
-      few = let e : length (addresses fs) ≡ length fs = length-map (λ (x : Feed). x.uri) fs in omega (arith, e, l.few)
+      few = let e : length (addresses fs) ≡ length fs = length-map fs (λ (x : Feed). x.uri) in omega (arith, e, l.few)
 
       all_read : AllRead told req.interface p fs
       all_read = listed_read told req.interface p interface start here n fs l h.read
@@ -65,7 +65,7 @@ module _ (told : Option Holding) (req : Requirement) (p : Policy) (stored : Stor
       agrees = reading_agrees told req.interface p fs all_read apart
 
   got_fewer : (fs : List Feed) → length fs < most_feeds → length (addresses fs) < most_feeds
-  got_fewer fs lt = let e : length (addresses fs) ≡ length fs = length-map (λ (x : Feed). x.uri) fs in omega (arith, e, lt)
+  got_fewer fs lt = let e : length (addresses fs) ≡ length fs = length-map fs (λ (x : Feed). x.uri) in omega (arith, e, lt)
 
   at_one : (u uri : Uri) (fs : List Feed) → u ≡ uri → ComesTo told req p stored uri (addresses fs) → ComesTo told req p stored u (addresses fs)
   at_one u uri fs s c = let P : Uri → Type 0 = λ q. ComesTo told req p stored q (addresses fs) in subst P (sym s) c
@@ -88,7 +88,7 @@ module _ (told : Option Holding) (req : Requirement) (p : Policy) (stored : Stor
       (((addresses fs, at_one u uri fs r.1.0 c, got_fewer fs r.0), r.1.1, subst P (sym r.1.0) r.1.2), ends_at u uri fs r.1.0)
   refuses_next uri fs (fault.TooManyInterfaces limit) c r = absurd r.1
   refuses_next uri fs (fault.TooManyCandidates limit) c r = absurd r.1
-  refuses_next uri fs (fault.TooManyFeeds limit) c r = ((r.0, (uri, addresses fs, c, length-map (λ (x : Feed). x.uri) fs ∙ r.1)), sym (append-nil (addresses fs)))
+  refuses_next uri fs (fault.TooManyFeeds limit) c r = ((r.0, (uri, addresses fs, c, length-map fs (λ (x : Feed). x.uri) ∙ r.1)), sym (append-nil (addresses fs)))
   refuses_next uri fs fault.Memory c r = ((addresses fs ++ uri ∷ [], inr (uri, addresses fs, c, got_fewer fs r.0, refl)), refl)
 
   pub refuses_stop : (e : LoadFault) (s : StopsListing told req.interface p interface start e) → (r : Refuses told req p stored e) × (asked_until told req p stored e r ≡ addresses s.fs ++ up_to s.uri e)
@@ -119,7 +119,7 @@ module _ (told : Option Holding) (req : Requirement) (p : Policy) (stored : Stor
       apart = subst AreApart (sym places) (without_repeats_apart (all_of (h.groups ++ take n here ∷ [])))
 
       few : length (addresses fs) ≤ most_feeds
-      few = let e : length (addresses fs) ≡ length fs = length-map (λ (x : Feed). x.uri) fs in omega (arith, e, l.few)
+      few = let e : length (addresses fs) ≡ length fs = length-map fs (λ (x : Feed). x.uri) in omega (arith, e, l.few)
 
       all_read : AllRead told req.interface p fs
       all_read = listed_read told req.interface p interface start here n fs l h.read

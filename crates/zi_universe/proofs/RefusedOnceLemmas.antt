@@ -2,7 +2,7 @@
 use Rattle.std.proofs.Common.{◌≡◌, ◌⊎◌, inl, inr, ℕ, ◌+◌, ◌<◌, ◌≤◌, Bool, true, false, List, [], ◌∷◌, ◌++◌, length, map, take, true≢false, Option, Some, None, slice_get, refl, sym, ap, subst, ◌∙◌, arith, append_assoc, length-append, if◌then◌else◌}
 use Rattle.std.specs.Prelude.{◌≢◌, IsSomeAnd, MatchOption}
 use Rattle.std.proofs.lemmas.List.{take_all}
-use Rattle.std.proofs.lemmas.Option.{slice_get_within}
+use Rattle.std.proofs.lemmas.Option.{slice_get_within, none-some, same_Some}
 use Rattle.std.proofs.lemmas.List.Sums.{sum_by-append, sum_by_push}
 use Rattle.std.proofs.lemmas.List.Sorted.{length_permutation}
 use Rattle.zi_policy.specs.declared.types.Policy.{Policy}
@@ -28,8 +28,8 @@ use Rattle.zi_universe.specs.Stages.{RefusesNext}
 use Rattle.zi_universe.specs.Laws.{IsOfFeeds, HasOneRefusal}
 use Rattle.zi_universe.proofs.NamingLemmas.{closed_once, joined-append, all_of-append, map-append, listed-Contains, Contains-listed, listed-without_repeats}
 use Rattle.zi_universe.proofs.OnceLemmas.{map_same, here, same_one, both, read_once, listed-behind}
-use Rattle.zi_universe.proofs.ExclusionLemmas.{all_of-cut, longer, no_some}
-use Rattle.zi_universe.proofs.PointLemmas.{Point, moved, agrees_here, done_next, passed_done, same_done, same_names, same_groups, same_interface, named_y, passed_here, same_here, not_behind, same_some}
+use Rattle.zi_universe.proofs.ExclusionLemmas.{all_of-cut, longer}
+use Rattle.zi_universe.proofs.PointLemmas.{Point, moved, agrees_here, done_next, passed_done, same_done, same_names, same_groups, same_interface, named_y, passed_here, same_here, not_behind}
 
 -- Faults of one feed.
 
@@ -42,12 +42,12 @@ same_bad one uri bytes (bad.Feed j q) (bad.Doc k r) a b = absurd ((one bytes).ap
 same_bad one uri bytes (bad.Feed j q) (bad.Feed k r) a b =
     let t : a.0 ≡ b.0 = (one bytes).tree a.0 b.0 a.1 b.1 in
     let e : Some (record { kind = j; place = q }) ≡ Some (record { kind = k; place = r }) = sym a.2 ∙ ap (λ v. feed_fault (element_view v) uri) t ∙ b.2 in
-    let f = same_some (record { kind = j; place = q }) (record { kind = k; place = r }) e in
+    let f = same_Some (record { kind = j; place = q }) (record { kind = k; place = r }) e in
     ap (λ v. bad.Feed v.kind v.place) f
 
 -- what is held isn't two things
 not_absent : (o : Option (List ℕ)) (bytes : List ℕ) → o ≡ None → o ≡ Some bytes → ⊥
-not_absent o bytes e f = no_some bytes (sym e ∙ f)
+not_absent o bytes e f = none-some bytes (sym e ∙ f)
 
 not_long : (o : Option (List ℕ)) → o ≡ None → IsSomeAnd o (λ bytes. feed_limit < length bytes) → ⊥
 not_long o e h = let P : Option (List ℕ) → Type 0 = λ q. IsSomeAnd q (λ bytes. feed_limit < length bytes) in subst P e h
@@ -75,7 +75,7 @@ module _ (one : (w : List ℕ) → IsSettled w) (holds : Holding) (root uri : Ur
   same_next fault.NoRootFeed (fault.TooManyFeeds n) t s a b = absurd (omega (arith, a.0, b.1))
   same_next (fault.BadFeed u why) fault.NoRootFeed t s a b = absurd (not_absent (holds uri) a.1.1.0 b.1.1 a.1.1.1)
   same_next (fault.BadFeed u why) (fault.BadFeed v how) t s a b =
-      let same : a.1.1.0 ≡ b.1.1.0 = same_some a.1.1.0 b.1.1.0 (sym a.1.1.1 ∙ b.1.1.1) in
+      let same : a.1.1.0 ≡ b.1.1.0 = same_Some a.1.1.0 b.1.1.0 (sym a.1.1.1 ∙ b.1.1.1) in
       let P : List ℕ → Type 0 = λ q. HasFault uri q why in
       ap (λ q. fault.BadFeed q why) (a.1.0 ∙ sym b.1.0) ∙ ap (fault.BadFeed v) (same_bad one uri b.1.1.0 why how (subst P same a.1.1.3) b.1.1.3)
   same_next (fault.BadFeed u why) (fault.FeedTooLong v n) t s a b = absurd (not_both (holds uri) a.1.1.0 a.1.1.1 a.1.1.2 b.1.2)
@@ -103,7 +103,7 @@ module _ (one : (w : List ℕ) → IsSettled w) (holds : Holding) (root uri : Ur
       let s = says_now bytes e in
       let same : h.0 ≡ s.1.0 = (one bytes).tree h.0 s.1.0 h.1 s.1.1 in
       let n : feed_fault (element_view h.0) uri ≡ None = ap (λ t. feed_fault (element_view t) uri) same ∙ s.1.2 in
-      no_some (record { kind = kind; place = place }) (sym n ∙ h.2)
+      none-some (record { kind = kind; place = place }) (sym n ∙ h.2)
 
   not_next : (e : LoadFault) → IsOfFeeds e ≡ true → RefusesNext (Some holds) root got uri e → ⊥
   not_next (fault.FeedRead u) t a = true≢false (sym t)
@@ -288,7 +288,7 @@ module _ (strict : RanksAreStrict) (one : (w : List ℕ) → IsSettled w) (holds
     same_feed e d t s n a b =
         let turn : slice_get x.here x.n ≡ Some b.0 =
         ap (λ q. slice_get q x.n) (sym (same_here strict holds req p stored now x y le ge n)) ∙ ap (slice_get y.here) n ∙ b.1 in
-        let same : b.0 ≡ a.0 = same_some b.0 a.0 (sym turn ∙ a.1) in
+        let same : b.0 ≡ a.0 = same_Some b.0 a.0 (sym turn ∙ a.1) in
         let P : Uris → Type 0 = λ q. RefusesNext (Some holds) req.interface (length (without_repeats q)) b.0 d in
         let Q : Uri → Type 0 = λ q. RefusesNext (Some holds) req.interface (length (without_repeats (all_of x.groups ++ take x.n x.here))) q d in
         same_next one holds req.interface a.0 (length (without_repeats (all_of x.groups ++ take x.n x.here))) e d t s a.3 (subst Q same (subst P (same_looked n) b.3))

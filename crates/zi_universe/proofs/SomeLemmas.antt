@@ -1,7 +1,7 @@
 -- There is a universe, or a refusal.
 use Rattle.std.proofs.Common.{◌≡◌, ◌⊎◌, inl, inr, ℕ, zero, suc, ◌+◌, ◌<◌, ◌≤◌, Bool, true, false, List, [], ◌∷◌, ◌++◌, length, map, take, get_or, All, Option, Some, None, Contains, slice_get, refl, sym, ap, subst, ◌∙◌, arith, length-append}
 use Rattle.std.specs.Prelude.{bytes_eq, IsSomeAnd, IsPermutation}
-use Rattle.std.proofs.lemmas.List.{length-take-le}
+use Rattle.std.proofs.lemmas.List.{length-take-le, length-map}
 use Rattle.std.proofs.lemmas.List.Sorted.{length_permutation}
 use Rattle.std.proofs.lemmas.Option.{get_or_from_slice_get}
 use Rattle.zi_policy.specs.declared.types.Policy.{Policy}
@@ -29,7 +29,7 @@ use Rattle.zi_universe.specs.Loading.{no_feed, IsRead, Reading, Loads, Refuses}
 use Rattle.zi_universe.specs.Tables.{addresses, feeds_at, imports_at, held, Agrees, AllRead}
 use Rattle.zi_universe.specs.Stages.{RefusesFeed, GetsOnce, StopsOnce, HasListed, StopsListing, HasLoaded, ArePlaced}
 use Rattle.zi_universe.specs.Laws.{IsOfFeeds, LoadsOrIsRefused}
-use Rattle.zi_universe.proofs.NamingLemmas.{bytes_eq-true, bytes_eq-false, length-map, listed-Contains, Contains-listed, listed-joined, without_repeats_apart}
+use Rattle.zi_universe.proofs.NamingLemmas.{bytes_eq-true, bytes_eq-false, listed-Contains, Contains-listed, listed-joined, without_repeats_apart}
 use Rattle.zi_universe.proofs.TableLemmas.{addresses_agreed, held_agreed, reading_of, reading_agrees}
 use Rattle.zi_universe.proofs.ReadingLemmas.{place_of_feed}
 use Rattle.zi_universe.proofs.ListingLemmas.{gets_none, gets_one, refused_next, listed_read, listed_begins, listed_more, listed_ends}
@@ -117,7 +117,7 @@ module _ (one : (w : List ℕ) → IsSettled w) (holds : Holding) (req : Require
       λ u m. listed-Contains u (addresses fs) (ap (listed u) l.places ∙ listed-joined u (addresses start) (take n here) (Contains-listed u (take n here) m)) in
       let k = no_longer (take n here) (addresses fs) (apart_front here n le here_apart) all in
       let t : length (take n here) ≡ n = length-take-le n here le in
-      let a : length (addresses fs) ≡ length fs = length-map (λ (x : Feed). x.uri) fs in
+      let a : length (addresses fs) ≡ length fs = length-map fs (λ (x : Feed). x.uri) in
       omega (arith, k, t, a)
 
   abbrev pub ListsOr : Type 0

@@ -1,6 +1,7 @@
 -- A loading that stops: what it asked for until then.
 use Rattle.std.proofs.Common.{◌≡◌, ℕ, ◌<◌, ◌≤◌, inl, inr, Bool, true, false, List, [], ◌∷◌, ◌++◌, length, get_or, Some, Option, slice_get, refl, sym, ap, subst, ◌∙◌, arith, append_assoc, append-nil, true≢false}
 use Rattle.std.proofs.lemmas.Option.{slice_get-get_or}
+use Rattle.std.proofs.lemmas.List.{length-map}
 use Rattle.zi_policy.specs.declared.types.Policy.{Policy}
 use Rattle.zi_feed.specs.declared.feed.Feed.{Feed}
 use Rattle.zi_outside.specs.Views.{Holding, Feeding, holding}
@@ -18,7 +19,6 @@ use Rattle.zi_universe.specs.Tables.{addresses}
 use Rattle.zi_universe.specs.Stages.{HasLoaded, IsAt}
 use Rattle.zi_universe.specs.Asked.{up_to, StopsAt, GetsMore, EndsNext, RefusesListing, EndsListing, LeavesListing, StopsLoading}
 use Rattle.zi_universe.proofs.AskedLemmas.{gets_all, holding_got}
-use Rattle.zi_universe.proofs.NamingLemmas.{length-map}
 use Rattle.zi_universe.proofs.ListingLemmas.{listed_begins}
 use Rattle.zi_universe.proofs.LoadedLemmas.{loaded_none, loads}
 use Rattle.zi_universe.proofs.RefusalLemmas.{comes_to, has_got, refuses_stop}
@@ -73,7 +73,7 @@ module _ (told : Option Holding) (req : Requirement) (p : Policy) (stored : Stor
         a.uri,
         addresses x.fs,
         comes_to told req p stored done names start interface h next x.here x.n x.fs a.uri x.listed_here a.turn a.fresh,
-        (let e : length (addresses x.fs) ≡ length x.fs = length-map (λ (q : Feed). q.uri) x.fs in let few = a.few in omega (arith, e, few)),
+        (let e : length (addresses x.fs) ≡ length x.fs = length-map x.fs (λ (q : Feed). q.uri) in let few = a.few in omega (arith, e, few)),
         refl,
       ),
     );

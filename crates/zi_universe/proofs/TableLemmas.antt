@@ -4,7 +4,7 @@ use Rattle.std.specs.Prelude.{unwrap_or, is_some, option_copied, IfSome}
 use Rattle.std.specs.Borrow.{Bor}
 use Rattle.std.specs.List.{cons_option}
 use Rattle.std.specs.Map.{lookup}
-use Rattle.std.proofs.lemmas.List.{get_or-map}
+use Rattle.std.proofs.lemmas.List.{get_or-map, length-map}
 use Rattle.std.proofs.lemmas.List.Elements.{All-head, All-tail, All-cons, All-contains, All-weaker, All-push}
 use Rattle.indexmap.specs.IndexMap.{IndexMap, insert_entry}
 use Rattle.indexmap.proofs.CallerLemmas.{insert_entry-new}
@@ -21,7 +21,7 @@ use Rattle.zi_universe.specs.declared.types.Requirement.{Requirement}
 use Rattle.zi_universe.specs.Candidates.{Store, imports_of, stability_of, is_stored, standing_of, candidate_of, offered_from, is_admitted, admitted_by, admitted}
 use Rattle.zi_universe.specs.Loading.{no_feed, IsRead, Reading, AreRead}
 use Rattle.zi_universe.specs.Tables.{addresses, find_feed, feeds_at, imports_at, as_it_is, held_from, held_by, held, IsActiveOf, Agrees, AllRead}
-use Rattle.zi_universe.proofs.NamingLemmas.{bytes_eq-true, bytes_eq-refl, Contains-listed, length-map, map-append}
+use Rattle.zi_universe.proofs.NamingLemmas.{bytes_eq-true, bytes_eq-refl, Contains-listed, map-append}
 
 -- The front of what agrees agrees.
 pub All-front : {X : Type 0} (P : X → Type 0) (xs ys : List X) → All P (xs ++ ys) → All P xs
@@ -172,7 +172,7 @@ finds_each (f ∷ fs) a = All-cons (λ g. find_feed (f ∷ fs) g.uri ≡ Some g)
         by false s = ap (λ b. if b then Some f else find_feed fs g.uri) s ∙ e
 
     other : (k : ℕ) (d : Feed) → k < length fs → (get_or fs k d).uri ≢ f.uri
-    other k d lt s = a zero (suc k) f.uri (omega arith) (omega (arith, length-map (λ (g : Feed). g.uri) fs, lt)) (sym s ∙ sym (get_or-map (λ (g : Feed). g.uri) fs k d f.uri lt))
+    other k d lt s = a zero (suc k) f.uri (omega arith) (omega (arith, length-map fs (λ (g : Feed). g.uri), lt)) (sym s ∙ sym (get_or-map (λ (g : Feed). g.uri) fs k d f.uri lt))
 
 -- The feed at an address was read, and what is active of it is found there.
 record Stands (told : Option Holding) (root : Uri) (p : Policy) (fs : List Feed) (uri : Uri) (read : Feed) : Type 0 where

@@ -2,6 +2,7 @@
 use Rattle.std.proofs.Common.{◌≡◌, zero, suc, ◌<◌, List, [], ◌∷◌, ◌++◌, length, map, All, Option, refl, sym, ap, subst, ◌∙◌, arith}
 use Rattle.std.specs.List.{AllZip, flat_map}
 use Rattle.std.proofs.lemmas.List.Elements.{All-nil, All-cons}
+use Rattle.std.proofs.lemmas.List.{length-map}
 use Rattle.zi_policy.specs.declared.types.Policy.{Policy}
 use Rattle.zi_policy.specs.Platform.{listed}
 use Rattle.zi_digest.specs.declared.DigestName.{DigestName}
@@ -13,7 +14,7 @@ use Rattle.zi_universe.specs.Naming.{Uri, Uris, in_set, without_repeats, all_of,
 use Rattle.zi_universe.specs.Candidates.{Store, AreRanked, asked_by}
 use Rattle.zi_universe.specs.Whole.{uris_of, BeginsWith, IsWhole}
 use Rattle.zi_universe.specs.Loading.{Reading, IsInterface, Loads, Task, names_of}
-use Rattle.zi_universe.proofs.NamingLemmas.{joined_behind, length-map, without_repeats_apart, listed-joined, listed-cons, Contains-listed, listed-Contains, listed-without_repeats}
+use Rattle.zi_universe.proofs.NamingLemmas.{joined_behind, without_repeats_apart, listed-joined, listed-cons, Contains-listed, listed-Contains, listed-without_repeats}
 
 -- a list of names begins with the first
 begins_named : (root : Uri) (ys : Uris) → (zs : Uris) × (without_repeats (root ∷ ys) ≡ root ∷ zs)
@@ -50,7 +51,7 @@ module _ (told : Option Holding) (req : Requirement) (p : Policy) (stored : Stor
   whole = record {
     rooted = rooted_by is req.interface begins;
     apart = subst AreApart (sym names) (without_repeats_apart (req.interface ∷ all_of (map asked_by is)));
-    few_interfaces = (let e : length (uris_of is) ≡ length is = length-map (λ (i : Interface). i.uri) is in omega (arith, e, l.universe.few_interfaces));
+    few_interfaces = (let e : length (uris_of is) ≡ length is = length-map is (λ (i : Interface). i.uri) in omega (arith, e, l.universe.few_interfaces));
     few_candidates = l.universe.few_candidates;
     closed = λ uri c. listed-Contains uri (uris_of is) (ap (listed uri) names ∙ listed-joined uri [] (req.interface ∷ all_of (map asked_by is)) (listed-cons uri req.interface (all_of (map asked_by is)) (ap (listed uri) (all_of-map is) ∙ Contains-listed uri (flat_map asked_by is) c)));
     policy = p;

@@ -7,26 +7,21 @@ use Rattle.std.specs.Ordering.{nat_cmp, ordering_then}
 use Rattle.std.specs.declared.cmp.Ordering.{Ordering}
 use Rattle.std.specs.declared.cmp.Ordering.TheVariants.{Less, Equal, Greater}
 use Rattle.std.proofs.lemmas.Cmp.{tied_itself}
+use Rattle.std.proofs.lemmas.Map.Lookups.{both_Equal}
 use Rattle.zi_version.specs.Value.{value, value_cmp}
 use Rattle.zi_version.specs.Laws.{VersionsAreOrdered}
-
--- both parts of a tie are ties
-then_tied : (a b : Ordering) → ordering_then a b ≡ Equal → (a ≡ Equal) × (b ≡ Equal)
-then_tied Less b e = absurd (cc)
-then_tied Equal b e = (refl, e)
-then_tied Greater b e = absurd (cc)
 
 lists_tied : {K : Type 0} (R : K → K → Ordering) → ((x y : K) → R x y ≡ Equal → x ≡ y) → (xs ys : List K) → slice_cmp R xs ys ≡ Equal → xs ≡ ys
 lists_tied R same [] [] e = refl
 lists_tied R same [] (y ∷ ys) e = absurd (cc)
 lists_tied R same (x ∷ xs) [] e = absurd (cc)
 lists_tied R same (x ∷ xs) (y ∷ ys) e =
-    let parts = then_tied (R x y) (slice_cmp R xs ys) e in
+    let parts = both_Equal (R x y) (slice_cmp R xs ys) e in
     let head : x ≡ y = same x y parts.0 in
     let tail : xs ≡ ys = lists_tied R same xs ys parts.1 in
     cc
 
-numbers_tied : (m n : ℕ) → nat_cmp m n ≡ Equal → m ≡ n
+pub numbers_tied : (m n : ℕ) → nat_cmp m n ≡ Equal → m ≡ n
 numbers_tied m n e = ranked m n Equal (sym e)
 
 values_total : IsTotalOrder value_cmp

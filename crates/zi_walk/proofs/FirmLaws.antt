@@ -16,14 +16,15 @@ use Rattle.zi_universe.specs.declared.types.Candidate.{Candidate}
 use Rattle.zi_choice.specs.Choice.{Choice, pick}
 use Rattle.zi_choice.specs.Tasks.{place_at}
 use Rattle.zi_choice.specs.Vars.{Cand, candidates_of, var_number}
-use Rattle.zi_choice.proofs.WalkLaws.{none_some, some_same}
 use Rattle.zi_walk.specs.Rule.{first_where, is_chosen, is_undecided, so_far, open_at, if_none, waits_at, or_else, as_lit}
 use Rattle.zi_walk.specs.declared.path.Stop.{Stop}
 use Rattle.zi_walk.specs.Kept.{Longer, Agrees}
 use Rattle.zi_walk.specs.Firm.{Firm, IsFirm, AreFirm, AreWithin}
 use Rattle.zi_walk.proofs.Rules.{FirstAt, first_is, first_none, so_far_picks}
-use Rattle.zi_walk.proofs.Passed.{Extends, learn_extends, not_open, says_some}
+use Rattle.zi_walk.proofs.Passed.{Extends, learn_extends, says_some}
 use Rattle.zi_walk.proofs.PartLaws.{take_part, part_item, part_stays, longer_length}
+use Rattle.zi_sat.proofs.ReachLaws.{some_of}
+use Rattle.zi_feed.specs.IdLaws.{none_some}
 
 -- where a test first passes, and where it passes nowhere
 pub where_found : {A : Type 0} (test : ℕ → Bool) (n : ℕ) (xs : List A) (c : ℕ) → c < length xs → test (n + c) ≡ true → ((d : ℕ) → d < c → test (n + d) ≡ false) → first_where test n xs ≡ Some (n + c)
@@ -173,7 +174,7 @@ firm_less u es xs n len f h m x e =
 pub decided_longer : (n : ℕ) (es fs : List Entry) → Behind es fs → OpenAll nothing (lits_of fs) → AreDecided n es → AreDecided n fs
 decided_longer n es fs b o d x l h =
     let more : Extends (known_from es) (known_from fs) = subst (λ gs. Extends (known_from es) (known_from gs)) (sym b.1) (known_more es b.0 (subst (λ gs. OpenAll nothing (lits_of gs)) b.1 o)) in
-    let known = not_open (known_from es x) (d x l h) in
+    let known = some_of (known_from es x) (d x l h) in
     shut (known_from fs x) known.0 (more x known.0 known.1)
 
 -- what is left of what was taken in, where the trail went back

@@ -3,7 +3,7 @@ use Rattle.std.proofs.Common.{◌≡◌, ℕ, zero, suc, ◌==◌, ◌+◌, ◌<
 use Rattle.std.specs.Prelude.{All}
 use Rattle.std.proofs.lemmas.Bool.{false≢true, false_from_ne_true}
 use Rattle.std.proofs.lemmas.List.Elements.{All-head, All-tail}
-use Rattle.zi_sat.proofs.CountLaws.{eqb_self}
+use Rattle.std.proofs.lemmas.Option.{same_Some}
 use Rattle.zi_formula.specs.declared.formula.Lit.{Lit}
 use Rattle.zi_formula.specs.declared.formula.Constraint.{Constraint}
 use Rattle.zi_formula.specs.Truth.{all_true}
@@ -11,7 +11,7 @@ use Rattle.zi_proof.specs.declared.proof.Lemma.{Lemma}
 use Rattle.zi_proof.specs.Known.{Known, nothing, put, says, is_open}
 use Rattle.zi_proof.specs.Accepted.{citable, follows, lemma_clause}
 use Rattle.zi_proof.specs.Laws.{MakesTrue}
-use Rattle.zi_proof.proofs.Sound.{Agrees, Sound, cited_sound, put_agrees, lit_when, lemmas_are_true, all_append}
+use Rattle.zi_proof.proofs.Sound.{Agrees, Sound, cited_sound, put_agrees, lit_when, lemmas_are_true, all_append, open_not_true}
 use Rattle.zi_sat.specs.Trail.{lits_of, learn, known_from, OpenAll, all_silent}
 use Rattle.zi_sat.specs.Moves.{Move, Decide, Apply, entries_of, Right, Lawful}
 use Rattle.zi_sat.specs.declared.entry.Entry.{Entry}
@@ -24,12 +24,11 @@ use Rattle.zi_universe.specs.declared.types.Interface.{Interface}
 use Rattle.zi_choice.specs.Choice.{Choice, pick, candidate_at}
 use Rattle.zi_choice.specs.Walk.{Place, Walk, Walks, is_listed}
 use Rattle.zi_choice.specs.Valid.{IsValid}
-use Rattle.zi_choice.proofs.WalkLaws.{none_some, some_same}
 use Rattle.zi_choice.proofs.ThereLaws.{walk_there}
 use Rattle.zi_choice.proofs.ApartLaws.{walks_part}
 use Rattle.zi_choice.specs.Vars.{Var, Cand, candidates_of, var_number, var_count}
 use Rattle.zi_build.specs.Clauses.{formula}
-use Rattle.zi_choice.proofs.Base.{some_of, is_some_of, candidate_is, any_found}
+use Rattle.zi_choice.proofs.Base.{candidate_is, any_found}
 use Rattle.zi_build.proofs.Meaning.{Means}
 use Rattle.zi_choice.proofs.WalkFacts.{faithful, on_is}
 use Rattle.zi_build.proofs.ValidMeans.{chosen_vars, pick_eq, pick_is}
@@ -39,7 +38,12 @@ use Rattle.zi_walk.specs.Laws.{IsFirst, FirstIsKept}
 use Rattle.zi_walk.proofs.Quiet.{true_known}
 use Rattle.zi_walk.specs.Rule.{is_undecided, is_chosen, so_far, walk_of, first_open, as_lit, walk_picks}
 use Rattle.zi_walk.proofs.Rules.{FirstAt, first_is, first_none, so_far_picks, NoneWaits, none_open, OpensAt, opens_at}
-use Rattle.zi_walk.proofs.Passed.{IsOf, not_open, walk_faithful, settled, reaches, stays, the_place, AllFaithful, learn_extends, self_known}
+use Rattle.zi_walk.proofs.Passed.{IsOf, walk_faithful, settled, reaches, stays, the_place, AllFaithful, learn_extends}
+use Rattle.zi_sat.proofs.FreshLaws.{self_case}
+use Rattle.zi_sat.proofs.ReachLaws.{some_of as not_open}
+use Rattle.zi_feed.specs.IdLaws.{none_some}
+use Rattle.zi_proof.proofs.CutLaws.{test_same}
+use Rattle.zi_text.proofs.ListLaws.{some_is, some_of}
 
 first_here : (u : List Interface) (ps before : List Place) (p : Place) (behind : List Place) → ps ≡ before ++ p ∷ behind → All (IsFirst u) ps → IsFirst u p
 first_here u ps before p behind e h = at before (subst (λ xs. All (IsFirst u) xs) e h)
@@ -55,7 +59,7 @@ no_less k xs l e = let z : length xs ≡ 0 = ap length e in omega (arith, l, z)
 makes_known : (v : ℕ → Bool) (k : Known) (ls : List Lit) → OpenAll k ls → Agrees v (learn k ls) → MakesTrue v ls
 makes_known v k [] o g = tt
 makes_known v k (l ∷ ls) o g =
-    (lit_when v l (g l.variable l.positive (learn_extends (put k l) ls o.1 l.variable l.positive (self_known k l (eqb l.variable l.variable) (eqb_self l.variable)))), makes_known v (put k l) ls o.1 g)
+    (lit_when v l (g l.variable l.positive (learn_extends (put k l) ls o.1 l.variable l.positive (self_case k l (eqb l.variable l.variable) (test_same l.variable)))), makes_known v (put k l) ls o.1 g)
 
 pub faithful_at : (s : Choice) (before : List Place) (p : Place) (behind : List Place) → AllFaithful s (before ++ p ∷ behind) → p.pick ≡ pick s p.interface
 faithful_at s [] p behind f = f.0
@@ -67,16 +71,12 @@ least_is zero k l e = absurd (none_some e)
 least_is (suc n) k l e = at (least_open n k) refl e (λ m f. least_is n k m f)
   where
     here : (b : Bool) → is_open (k (suc n)) ≡ b → cond b (Some (record { variable = suc n; positive = false })) None ≡ Some l → (x : ℕ) × (1 ≤ x) × (x ≤ suc n) × (is_open (k x) ≡ true) × (l ≡ record { variable = x; positive = false })
-    here true o h = (suc n, omega arith, omega arith, o, sym (some_same h))
+    here true o h = (suc n, omega arith, omega arith, o, sym (same_Some _ _ h))
     here false o h = absurd (none_some h)
 
     at : (o : Option Lit) → least_open n k ≡ o → first_of o (cond (is_open (k (suc n))) (Some (record { variable = suc n; positive = false })) None) ≡ Some l → ((m : Lit) → least_open n k ≡ Some m → (x : ℕ) × (1 ≤ x) × (x ≤ n) × (is_open (k x) ≡ true) × (m ≡ record { variable = x; positive = false })) → (x : ℕ) × (1 ≤ x) × (x ≤ suc n) × (is_open (k x) ≡ true) × (l ≡ record { variable = x; positive = false })
     at None f h later = here (is_open (k (suc n))) refl h
-    at (Some m) f h later = let r = later m f in let high = r.2 in (r.0, r.1, omega (arith, high), r.3, sym (some_same h) ∙ r.4)
-
-open_not_true : (o : Option Bool) → is_open o ≡ true → says o true ≡ true → ⊥
-open_not_true None h e = false≢true e
-open_not_true (Some b) h e = false≢true h
+    at (Some m) f h later = let r = later m f in let high = r.2 in (r.0, r.1, omega (arith, high), r.3, sym (same_Some _ _ h) ∙ r.4)
 
 module _ (u : List Interface) (req : Requirement) (s : Choice) (valid : IsValid u req s) (first : All (IsFirst u) valid.walk.places) where
   abbrev v : ℕ → Bool
@@ -136,7 +136,7 @@ module _ (u : List Interface) (req : Requirement) (s : Choice) (valid : IsValid 
   cand_known k g n i c p =
       let f = walk_faithful u req (so_far u k) (known_walk k) (known_walks k) in
       let one : known_walk k ≡ valid.walk = stays u k s (settled u k v s g of) (known_walk k) valid.walk (walks_part u req (so_far u k) s (known_walk k) valid.walk (known_walks k) valid.walks) n f in
-      let on : is_listed valid.walk i ≡ true = (on_is u req s valid.walk valid.walks i ((valid.exactly i).0 (is_some_of (pick s i) c p))).1 in
+      let on : is_listed valid.walk i ≡ true = (on_is u req s valid.walk valid.walks i ((valid.exactly i).0 (some_is (pick s i) c p))).1 in
       let mine = any_found (λ (x : Place). x.interface == i) valid.walk.places on in
       let same : mine.1.interface ≡ i = eqb-true mine.1.interface i mine.3 in
       let in_s : pick s mine.1.interface ≡ mine.1.pick = faithful u req s valid.walk valid.walks mine.1.interface mine.1.pick mine.0 mine.2 in
@@ -159,7 +159,7 @@ module _ (u : List Interface) (req : Requirement) (s : Choice) (valid : IsValid 
 
       at : (o : Option Var) → first_open u k (known_walk k).places ≡ o → first_of (as_lit u o) (least_open (var_count u) k) ≡ Some l → v l.variable ≡ l.positive
       at None f d = least (none_open u k (known_walk k).places f) d
-      at (Some y) f d = subst (λ (m : Lit). v m.variable ≡ m.positive) (some_same d) (picks_first k y g (opens_at u k (known_walk k).places y f))
+      at (Some y) f d = subst (λ (m : Lit). v m.variable ≡ m.positive) (same_Some _ _ d) (picks_first k y g (opens_at u k (known_walk k).places y f))
 
   along : (all : List Constraint) (k : Known) (ms : List Move) → Right all (formula u req).constraints (walk_picks u req (var_count u)) k ms → OpenAll k (lits_of (entries_of ms)) → all_true v all ≡ true → Agrees v k → Agrees v (learn k (lits_of (entries_of ms)))
   along all k [] m o a g = g

@@ -15,11 +15,11 @@ use Rattle.zi_choice.specs.Choice.{Choice, pick, candidate_at}
 use Rattle.zi_choice.specs.Walk.{Walk, Walks, is_listed}
 use Rattle.zi_choice.specs.Valid.{IsValid}
 use Rattle.zi_choice.specs.Best.{IsBetter, RanksEarlier, IsBest}
-use Rattle.zi_choice.proofs.WalkLaws.{none_some, walk_one}
+use Rattle.zi_choice.proofs.WalkLaws.{walk_one}
 use Rattle.zi_choice.proofs.ApartLaws.{one_earlier}
 use Rattle.zi_choice.specs.Vars.{var_count}
 use Rattle.zi_build.specs.Clauses.{formula}
-use Rattle.zi_choice.proofs.Base.{some_of, is_some_of, candidate_is}
+use Rattle.zi_choice.proofs.Base.{candidate_is}
 use Rattle.zi_build.proofs.Meaning.{Means}
 use Rattle.zi_choice.proofs.WalkFacts.{same_walk}
 use Rattle.zi_build.proofs.MeansValid.{Suited, means_valid}
@@ -28,6 +28,8 @@ use Rattle.zi_build.proofs.Central.{by_var, models_mean, valid_is_model}
 use Rattle.zi_walk.specs.Rule.{walk_picks}
 use Rattle.zi_walk.specs.Laws.{IsHeld, SearchFindsBest}
 use Rattle.zi_walk.proofs.Passed.{IsOf, along}
+use Rattle.zi_feed.specs.IdLaws.{none_some}
+use Rattle.zi_text.proofs.ListLaws.{some_is, some_of}
 
 -- the values of a trail say what it knows
 pub values_agree : (es : List Entry) → Agrees (values_of es) (known_from es)
@@ -47,7 +49,7 @@ module _ (u : List Interface) (req : Requirement) (ms : List Lemma) (es : List E
   suited : Suited u (by_var u x) s held.walk
   suited = record {
     sound = λ i c p. let t = held.are_true i c p in let k = some_of (candidate_at u i c) t.1 in (k.0, sym (candidate_is u i c) ∙ k.1, t.2);
-    full = λ i c k on at t. held.are_chosen i c on (is_some_of (candidate_at u i c) k (candidate_is u i c ∙ at)) t;
+    full = λ i c k on at t. held.are_chosen i c on (some_is (candidate_at u i c) k (candidate_is u i c ∙ at)) t;
   }
 
   pub held_valid : IsValid u req s
@@ -76,7 +78,7 @@ module _ (u : List Interface) (req : Requirement) (ms : List Lemma) (es : List E
       let m = ((valid_is_model u req t).0 v).0 in
       let of_t : IsOf u m.0 t = record {
         sound = λ i c p. let k = some_of (candidate_at u i c) (m.1.fits.there i c p) in (k.0, sym (candidate_is u i c) ∙ k.1, m.1.are_true i c p);
-        full = λ i c k at y. m.1.are_chosen i c (is_some_of (candidate_at u i c) k (candidate_is u i c ∙ at)) y;
+        full = λ i c k at y. m.1.are_chosen i c (some_is (candidate_at u i c) k (candidate_is u i c ∙ at)) y;
       } in
       let all_are : all_true m.0 (citable (formula u req).constraints ms) ≡ true = all_append m.0 (formula u req).constraints (map lemma_clause ms) m.2 (lemmas_are_true (formula u req) ms m.0 log m.2) in
       let mine : h.other ≡ held.walk = walk_one u req s h.other held.walk h.other_walks held.walks in

@@ -11,7 +11,9 @@ use Rattle.zi_choice.specs.Walk.{Walk, Walks}
 use Rattle.zi_walk.specs.declared.tasks.Task.{Task}
 use Rattle.zi_walk.specs.declared.path.Stop.{Stop}
 use Rattle.zi_walk.specs.Kept.{Stand, Stands, StopIs, PathIs, IsBefore, Rise, Runs, left_of, walk_to, waiting, Awaits, GoesOn, Agrees, interfaces_of, back_at, stop_at, Longer, Comes, Grown, IsReady, Moves, IsFollowed, GoesAlong}
-use Rattle.zi_walk.proofs.PartLaws.{take_part, part_item, front_item, last_item, take_item, part_stays, longer_whole, longer_length, same_longer}
+use Rattle.zi_walk.proofs.PartLaws.{take_part, part_item, take_item, part_stays, longer_whole, longer_length, same_longer}
+use Rattle.zi_feed.proofs.ShareLaws.{at_cases}
+use Rattle.zi_walk.proofs.PathLaws.{runs_on}
 
 abbrev a_stand : List ℕ → List Stop → List Used → List (List Task) → ℕ → Stand
 a_stand os xs us ls n = record { order = os; stops = xs; used = us; lists = ls; left = n }
@@ -26,12 +28,6 @@ none_waits z l = slice_get_past z.order (length z.stops) l
 
 pub ready_length : (z : Stand) → IsReady z → length z.order ≡ length z.stops
 ready_length z r = sym (ap length r.followed) ∙ length-map z.stops (λ (x : Stop). x.interface)
-
--- then the tasks go on from the walk so far
-pub ready_runs : (u : List Interface) (s : Choice) (z : Stand) (w : Walk) → waiting z ≡ None → GoesOn u s z w → Runs u s (left_of z) (walk_to s z) w
-ready_runs u s z w e g =
-    let same : walk_to s z ≡ g.0 = subst (λ o. Awaits u s o (walk_to s z) g.0) e g.1 in
-    subst (λ a. Runs u s (left_of z) a w) (sym same) g.2
 
 -- what a place keeps is the same where the walk grows
 back_same : (y z : Stand) (n : ℕ) (x : Stop) → Longer y.order z.order → Longer y.stops z.stops → Longer y.used z.used → Longer y.lists z.lists → n + 1 ≤ length y.order → n ≤ length y.stops → x.used ≤ length y.used → x.tasks < length y.lists → back_at z n x ≡ back_at y n x
@@ -69,7 +65,7 @@ module _ (u : List Interface) (req : Requirement) (y z : Stand) (new : Bool) (pa
   grown_goes : (s : Choice) (w : Walk) → Agrees s z.stops → Walks u req s w → GoesOn u s z w
   grown_goes s w like k =
       let before : Agrees s y.stops = subst (λ xs. Agrees s xs) grown.stops like in
-      (moves s w before (ready_runs u s y w (none_waits y (omega (arith, even))) (path.stands.goes s w before k))).0
+      (moves s w before (runs_on u s y w (none_waits y (omega (arith, even))) (path.stands.goes s w before k))).0
 
   grown_stands : Stands u req z
   grown_stands =
@@ -154,7 +150,7 @@ module _ (u : List Interface) (req : Requirement) (y z : Stand) (i : ℕ) (o : O
 
   followed_rise : Rise z.stops
   followed_rise m k v w l e f =
-      at (last_item y.stops x m v (ap (λ xs. slice_get xs m) (sym followed.stops) ∙ e)) (last_item y.stops x k w (ap (λ xs. slice_get xs k) (sym followed.stops) ∙ f))
+      at (at_cases y.stops x m v (ap (λ xs. slice_get xs m) (sym followed.stops) ∙ e)) (at_cases y.stops x k w (ap (λ xs. slice_get xs k) (sym followed.stops) ∙ f))
     where
       same : IsBefore x x
       same = record { known = omega arith; tasks = omega arith; used = omega arith }
@@ -169,7 +165,7 @@ module _ (u : List Interface) (req : Requirement) (y z : Stand) (i : ℕ) (o : O
       at (inr a) (inr b) = subst (λ q. IsBefore q w) (sym a.1) (subst (λ q. IsBefore x q) (sym b.1) same)
 
   followed_stops : (m : ℕ) (w : Stop) → slice_get z.stops m ≡ Some w → StopIs u req z m w
-  followed_stops m w e = at (last_item y.stops x m w (ap (λ xs. slice_get xs m) (sym followed.stops) ∙ e))
+  followed_stops m w e = at (at_cases y.stops x m w (ap (λ xs. slice_get xs m) (sym followed.stops) ∙ e))
     where
       here : StopIs u req z n x
       here =

@@ -1,12 +1,13 @@
 -- What lists of tasks are by the tasks that were added.
-use Rattle.std.proofs.Common.{◌≡◌, ◌≤◌, ◌<◌, ◌+◌, ℕ, zero, suc, List, [], ◌∷◌, ◌++◌, length, take, Some, refl, sym, ap, ◌∙◌, subst, arith, length-append, append_assoc}
+use Rattle.std.proofs.Common.{◌≡◌, ◌≤◌, ◌<◌, ◌+◌, ℕ, zero, suc, List, [], ◌∷◌, ◌++◌, length, take, Some, refl, sym, ap, ◌∙◌, subst, arith, length-append, append_assoc, append-nil}
 use Rattle.std.specs.Prelude.{slice_get}
 use Rattle.std.proofs.Math.ListN.{get_or-append}
 use Rattle.std.proofs.Math.Seq.{get_or-append_seam, take-append_seam}
-use Rattle.zi_choice.proofs.WalkLaws.{none_some, some_same}
+use Rattle.std.proofs.lemmas.Option.{same_Some}
 use Rattle.zi_walk.specs.declared.tasks.Task.{Task}
 use Rattle.zi_walk.specs.declared.tasks.Node.{Node}
 use Rattle.zi_walk.specs.Lists.{list_at, lists_on, lists_of, AreEarlier}
+use Rattle.zi_feed.specs.IdLaws.{none_some}
 
 -- the list that a node adds
 abbrev list_with : List (List Task) → Node → List Task
@@ -23,13 +24,8 @@ on_last (y ∷ xs) ls x = on_last xs (more_with ls y) x
 pub lists_last : (xs : List Node) (x : Node) → lists_of (xs ++ x ∷ []) ≡ lists_of xs ++ (x.task ∷ list_at (lists_of xs) x.later) ∷ []
 lists_last xs x = on_last xs ([] ∷ []) x
 
--- the lists that were there stay
-append_nil : {A : Type 0} (ys : List A) → ys ++ [] ≡ ys
-append_nil [] = refl
-append_nil (y ∷ ys) = ap (λ zs. y ∷ zs) (append_nil ys)
-
 later_lists : (xs : List Node) (ls : List (List Task)) → (more : List (List Task)) × (lists_on ls xs ≡ ls ++ more) × (length more ≡ length xs)
-later_lists [] ls = ([], sym (append_nil ls), refl)
+later_lists [] ls = ([], sym (append-nil ls), refl)
 later_lists (x ∷ xs) ls =
     let f = later_lists xs (more_with ls x) in
     (list_with ls x ∷ f.0, f.1 ∙ append_assoc ls (list_with ls x ∷ []) f.0, ap suc f.2)
@@ -68,7 +64,7 @@ lists-take xs k = let n : 1 + k ≡ k + 1 = omega arith in first_lists xs ([] �
 nth_list : (xs : List Node) (ls : List (List Task)) (n : ℕ) (x : Node) → slice_get xs n ≡ Some x → x.later < length ls + n → list_at (lists_on ls xs) (length ls + n) ≡ list_with (lists_on ls xs) x
 nth_list [] ls n x e l = absurd (none_some e)
 nth_list (y ∷ xs) ls zero x e l =
-    let s : y ≡ x = some_same e in
+    let s : y ≡ x = same_Some _ _ e in
     let f = later_lists xs (more_with ls y) in
     let whole : lists_on (more_with ls y) xs ≡ ls ++ list_with ls y ∷ f.0 = f.1 ∙ append_assoc ls (list_with ls y ∷ []) f.0 in
     let n : length ls + 0 ≡ length ls = omega arith in
@@ -96,7 +92,7 @@ pub earlier-take : (xs : List Node) (k : ℕ) → AreEarlier xs → AreEarlier (
 earlier-take xs k b n x e = b n x (slice-take xs k n x e)
 
 slice-last : {A : Type 0} (P : ℕ → A → Type 0) (xs : List A) (y x : A) (n : ℕ) → ((m : ℕ) (z : A) → slice_get xs m ≡ Some z → P m z) → P (length xs) y → slice_get (xs ++ y ∷ []) n ≡ Some x → P n x
-slice-last P [] y x zero f p e = subst (λ z. P 0 z) (some_same e) p
+slice-last P [] y x zero f p e = subst (λ z. P 0 z) (same_Some _ _ e) p
 slice-last P [] y x (suc n) f p e = absurd (none_some e)
 slice-last P (z ∷ xs) y x zero f p e = f 0 x e
 slice-last P (z ∷ xs) y x (suc n) f p e = slice-last (λ m w. P (suc m) w) xs y x n (λ m w g. f (suc m) w g) p e

@@ -28,9 +28,11 @@ use Rattle.zi_walk.specs.Kept.{Stand, Stands, PathIs, Does, Runs, left_of, walk_
 use Rattle.zi_walk.specs.Firm.{Firm, IsFirm, AreFirm, OnWay, IsUndecided, IsBlockedBy, IsBlocked, IsDone, IsPicked}
 use Rattle.zi_walk.proofs.Rules.{NoneWaits}
 use Rattle.zi_walk.proofs.OpenLaws.{lit_there}
-use Rattle.zi_walk.proofs.PartLaws.{last_item, take_item}
-use Rattle.zi_walk.proofs.KeptLaws.{none_waits, ready_length, ready_runs, grown_path, followed_path}
+use Rattle.zi_walk.proofs.PartLaws.{take_item}
+use Rattle.zi_walk.proofs.KeptLaws.{none_waits, ready_length, grown_path, followed_path}
 use Rattle.zi_walk.proofs.FirmLaws.{firm_picks, firm_quiet, firm_now}
+use Rattle.zi_feed.proofs.ShareLaws.{at_cases}
+use Rattle.zi_walk.proofs.PathLaws.{runs_on, walk_same}
 
 -- A walk only grows.
 longer_on : {A : Type 0} (xs ys zs : List A) → Longer xs ys → Longer ys zs → Longer xs zs
@@ -64,11 +66,6 @@ agrees_of s (x ∷ xs) h = (h 0 x refl, agrees_of s xs (λ n y e. h (suc n) y e)
 quiet_of : (u : List Interface) (k : Known) (s : Choice) (xs : List Stop) → ((n : ℕ) (x : Stop) → slice_get xs n ≡ Some x → waits_at u k (place_at s x.interface) ≡ None) → NoneWaits u k (map (place_at s) (interfaces_of xs))
 quiet_of u k s [] h = tt
 quiet_of u k s (x ∷ xs) h = (h 0 x refl, quiet_of u k s xs (λ n y e. h (suc n) y e))
-
--- the walk is the same where no place is new and no command
-walk_same : (s : Choice) (y z : Stand) → z.order ≡ y.order → z.used ≡ y.used → walk_to s z ≡ walk_to s y
-walk_same s y z e f =
-    ap (λ os. record { places = map (place_at s) os; used = map as_use z.used }) e ∙ ap (λ us. record { places = map (place_at s) y.order; used = map as_use us }) f
 
 pub further_on : (u : List Interface) (s : Choice) (x y z : Stand) → y.order ≡ x.order → y.used ≡ x.used → IsFurther u s y z → IsFurther u s x z
 further_on u s x y z e f l = subst (λ w. to_come u s (walk_to s z) < to_come u s w) (walk_same s x y e f) l
@@ -120,7 +117,7 @@ module _ (u : List Interface) (req : Requirement) (n : ℕ) (es : List Entry) (z
   pub done_none : IsDone z → as_lit u (first_open u k whole.places) ≡ None
   done_none d =
       let even = ready_length z d.ready in
-      let r : Runs u s (left_of z) (walk_to s z) whole = ready_runs u s z whole (none_waits z (omega (arith, even))) on_goes in
+      let r : Runs u s (left_of z) (walk_to s z) whole = runs_on u s z whole (none_waits z (omega (arith, even))) on_goes in
       let same : walk_to s z ≡ whole = subst (λ ts. Runs u s ts (walk_to s z) whole) d.empty r in
       let ps : List Place = map (place_at s) (interfaces_of z.stops) in
       let places : whole.places ≡ ps ++ [] = ap (λ (x : Walk). x.places) (sym same) ∙ ap (map (place_at s)) (sym d.ready.followed) ∙ sym (append-nil ps) in
@@ -139,7 +136,7 @@ module _ (u : List Interface) (req : Requirement) (n : ℕ) (es : List Entry) (z
   pub done_less : (y : Stand) (more : Bool) → IsReady z → Moves u z y more → more ≡ true → IsFurther u s z y
   done_less y more ready moves is =
       let even = ready_length z ready in
-      (moves s whole agrees (ready_runs u s z whole (none_waits z (omega (arith, even))) on_goes)).1 is
+      (moves s whole agrees (runs_on u s z whole (none_waits z (omega (arith, even))) on_goes)).1 is
 
   -- where the waiting place is followed
   pub followed_way : (y : Stand) (i known : ℕ) (o : Option ℕ) → known ≡ length es → waiting z ≡ Some i → Firm u k i o → IsFollowed z y (stop_at z i o known) → GoesAlong u z y (stop_at z i o known) → OnWay u req es y
@@ -152,7 +149,7 @@ module _ (u : List Interface) (req : Requirement) (n : ℕ) (es : List Entry) (z
       last = (omega (arith, len), subst (λ ds. Firm u (known_from ds) i o) (sym (take_all known es (omega (arith, len)))) firm)
 
       firms : AreFirm u es (z.stops ++ stop_at z i o known ∷ [])
-      firms m x e = elim (last_item z.stops (stop_at z i o known) m x e) [ inl f ↦ way.firm m x f | inr f ↦ subst (λ x. IsFirm u es x) (sym f.1) last ]
+      firms m x e = elim (at_cases z.stops (stop_at z i o known) m x e) [ inl f ↦ way.firm m x f | inr f ↦ subst (λ x. IsFirm u es x) (sym f.1) last ]
 
   pub followed_ready : (y : Stand) (i known : ℕ) (o : Option ℕ) → waiting z ≡ Some i → IsFollowed z y (stop_at z i o known) → IsReady y
   followed_ready y i known o w followed = record {

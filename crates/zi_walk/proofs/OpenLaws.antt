@@ -18,11 +18,12 @@ use Rattle.zi_choice.specs.declared.traced.Place.{Place}
 use Rattle.zi_choice.specs.Vars.{Var, candidates_of}
 use Rattle.zi_choice.proofs.Base.{candidates_at}
 use Rattle.zi_choice.proofs.SumLaws.{length_taken}
-use Rattle.zi_choice.proofs.TaskLaws.{taken_more}
-use Rattle.zi_choice.proofs.WalkLaws.{none_some, walk_one}
+use Rattle.zi_choice.proofs.WalkLaws.{walk_one}
 use Rattle.zi_choice.proofs.ThereLaws.{walk_there}
 use Rattle.zi_build.proofs.WriteLaws.{item_at}
 use Rattle.zi_walk.specs.Rule.{first_where, is_chosen, chosen_from, so_far, waits_at, or_else, first_open, as_lit, walk_of, walk_picks}
+use Rattle.zi_names.proofs.Expanded.{front_more}
+use Rattle.zi_feed.specs.IdLaws.{none_some}
 
 pub value_of : (o : Option Bool) → value_by o true ≡ o
 value_of None = refl
@@ -89,7 +90,7 @@ chosen_more u k i ps qs p l h f e =
     let z : 0 + length (take i u) ≡ i = (let t = length_taken u i (omega (arith, l)) in omega (arith, t)) in
     e ∙ ap (λ rs. rs ++ p ∷ []) h ∙ ap (λ q. chosen_from u k 0 (take i u) ++ q ∷ []) (f ∙ ap (first_where (is_chosen u k i) 0) (candidates_at u i x.0 x.2))
     ∙ ap (λ m. chosen_from u k 0 (take i u) ++ first_where (is_chosen u k m) 0 x.0.candidates ∷ []) (sym z)
-    ∙ sym (chosen_last u k 0 (take i u) x.0) ∙ ap (chosen_from u k 0) (sym (taken_more u i x.0 l x.1))
+    ∙ sym (chosen_last u k 0 (take i u) x.0) ∙ ap (chosen_from u k 0) (sym (front_more u i x.0 l x.1))
 
 pub chosen_all : (u : List Interface) (k : Known) (i : ℕ) (ps : List (Option ℕ)) → length u ≤ i → ps ≡ chosen_from u k 0 (take i u) → ps ≡ so_far u k
 chosen_all u k i ps l h = h ∙ ap (chosen_from u k 0) (take_all i u l)

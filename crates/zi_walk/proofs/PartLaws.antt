@@ -2,9 +2,9 @@
 use Rattle.std.proofs.Common.{◌≡◌, ℕ, zero, suc, ◌+◌, ◌-◌, ◌<◌, ◌≤◌, List, [], ◌∷◌, ◌++◌, length, map, take, min, refl, sym, ap, ◌∙◌, subst, arith, length-append, Option, Some, None, ◌⊎◌, inl, inr}
 use Rattle.std.specs.Prelude.{slice_get}
 use Rattle.std.proofs.lemmas.List.{take_all, take-append-le, length-take-le}
-use Rattle.std.proofs.lemmas.Option.{slice_get_within}
-use Rattle.zi_choice.proofs.WalkLaws.{none_some, some_same}
+use Rattle.std.proofs.lemmas.Option.{slice_get_within, same_Some}
 use Rattle.zi_walk.specs.Kept.{Longer}
+use Rattle.zi_feed.specs.IdLaws.{none_some}
 
 pub take_part : {A : Type 0} (m n : ℕ) (xs : List A) → m ≤ n → take m (take n xs) ≡ take m xs
 take_part zero n xs h = refl
@@ -19,22 +19,10 @@ part_item (suc n) [] m x e = absurd (none_some e)
 part_item (suc n) (y ∷ xs) zero x e = (omega arith, e)
 part_item (suc n) (y ∷ xs) (suc m) x e = let r = part_item n xs m x e in let l = r.0 in (omega (arith, l), r.1)
 
-pub front_item : {A : Type 0} (xs ys : List A) (m : ℕ) (x : A) → slice_get xs m ≡ Some x → slice_get (xs ++ ys) m ≡ Some x
-front_item [] ys m x e = absurd (none_some e)
-front_item (y ∷ xs) ys zero x e = e
-front_item (y ∷ xs) ys (suc m) x e = front_item xs ys m x e
-
--- an item of a list with one more is one of the list, or that one
-pub last_item : {A : Type 0} (xs : List A) (y : A) (m : ℕ) (x : A) → slice_get (xs ++ y ∷ []) m ≡ Some x → (slice_get xs m ≡ Some x) ⊎ ((m ≡ length xs) × (x ≡ y))
-last_item [] y zero x e = inr (refl, sym (some_same e))
-last_item [] y (suc m) x e = absurd (none_some e)
-last_item (z ∷ xs) y zero x e = inl e
-last_item (z ∷ xs) y (suc m) x e = elim (last_item xs y m x e) [ inl f ↦ inl f | inr f ↦ inr (ap suc f.0, f.1) ]
-
 -- a first part with the item behind it
 pub take_item : {A : Type 0} (xs : List A) (n : ℕ) (x : A) → slice_get xs n ≡ Some x → take (n + 1) xs ≡ take n xs ++ x ∷ []
 take_item [] n x e = absurd (none_some e)
-take_item (y ∷ xs) zero x e = ap (λ z. z ∷ []) (some_same e)
+take_item (y ∷ xs) zero x e = ap (λ z. z ∷ []) (same_Some _ _ e)
 take_item (y ∷ xs) (suc n) x e =
     let z : suc n + 1 ≡ suc (n + 1) = omega arith in ap (λ m. take m (y ∷ xs)) z ∙ ap (λ zs. y ∷ zs) (take_item xs n x e)
 

@@ -4,8 +4,7 @@ use Rattle.std.proofs.Common.{◌≡◌, ◌≢◌, ℕ, zero, suc, ◌+◌, ◌
 use Rattle.std.specs.Prelude.{slice_get}
 use Rattle.std.proofs.lemmas.Bool.{false≢true}
 use Rattle.std.proofs.lemmas.Bool.Decides.{nat_tests}
-use Rattle.std.proofs.lemmas.Option.{slice_get_within}
-use Rattle.zi_sat.proofs.CountLaws.{eqb_self}
+use Rattle.std.proofs.lemmas.Option.{slice_get_within, same_Some}
 use Rattle.zi_formula.specs.declared.formula.Lit.{Lit}
 use Rattle.zi_formula.specs.declared.formula.Constraint.{Constraint}
 use Rattle.zi_formula.specs.Truth.{all_true}
@@ -21,7 +20,6 @@ use Rattle.zi_universe.specs.declared.types.Interface.{Interface}
 use Rattle.zi_choice.specs.Choice.{Choice, pick}
 use Rattle.zi_choice.specs.Walk.{Place, Walk, Walks}
 use Rattle.zi_choice.specs.Best.{IsBetter}
-use Rattle.zi_choice.proofs.WalkLaws.{none_some, some_same}
 use Rattle.zi_choice.proofs.ThereLaws.{walk_there}
 use Rattle.zi_choice.proofs.ApartLaws.{Goes as Two, together, parted, walks_part}
 use Rattle.zi_choice.specs.Vars.{Var, Cand, candidates_of, var_number, var_count}
@@ -31,6 +29,12 @@ use Rattle.zi_choice.proofs.WalkFacts.{faithful}
 use Rattle.zi_build.proofs.Numbers.{number_low, number_high}
 use Rattle.zi_walk.specs.Rule.{is_chosen, is_undecided, so_far, walk_of, open_at, if_none, waits_at, first_open, as_lit, walk_picks}
 use Rattle.zi_walk.proofs.Rules.{FirstAt, first_is, first_none, so_far_picks, NoneWaits, none_open, OpensAt, opens_at}
+use Rattle.zi_sat.proofs.ExplainLaws.{open_some}
+use Rattle.zi_sat.proofs.LessLaws.{put_keep_case}
+use Rattle.zi_sat.proofs.FreshLaws.{self_case, put_extends}
+use Rattle.zi_sat.proofs.ReachLaws.{some_of}
+use Rattle.zi_feed.specs.IdLaws.{none_some}
+use Rattle.zi_proof.proofs.CutLaws.{test_same}
 
 -- the choice of an assignment: its true candidates
 pub record IsOf (u : List Interface) (v : ℕ → Bool) (t : Choice) : Type 0 where
@@ -41,10 +45,6 @@ pub says_some : (o : Option Bool) → says o true ≡ true → o ≡ Some true
 says_some None e = absurd (false≢true e)
 says_some (Some true) e = refl
 says_some (Some false) e = absurd (false≢true e)
-
-pub not_open : (o : Option Bool) → is_open o ≡ false → (b : Bool) × (o ≡ Some b)
-not_open None e = absurd (false≢true (sym e))
-not_open (Some b) e = (b, refl)
 
 pub candidate_below : (ks : List Candidate) (c : ℕ) → c < length ks → (k : Candidate) × (slice_get ks c ≡ Some k)
 candidate_below [] c l = absurd (omega (arith, l))
@@ -70,7 +70,7 @@ module _ (u : List Interface) (k : Known) (v : ℕ → Bool) (t : Choice) (agree
       let z : 0 + c ≡ c = omega arith in
       let shut : is_open (k (var_number u (Cand i c))) ≡ false = subst (λ n. is_open (k (var_number u (Cand i n))) ≡ false) z (first_none (is_undecided u k i) 0 (candidates_of u i) e c l) in
       let not_true : says (k (var_number u (Cand i c))) true ≡ false = subst (λ n. says (k (var_number u (Cand i n))) true ≡ false) z (first_none (is_chosen u k i) 0 (candidates_of u i) (sym (so_far_picks u k i) ∙ f) c l) in
-      let b = not_open (k (var_number u (Cand i c))) shut in
+      let b = some_of (k (var_number u (Cand i c))) shut in
       absurd (at b.0 b.1 not_true (agrees (var_number u (Cand i c)) b.0 b.1) x.2)
     where
       at : {o : Option Bool} {w : Bool} (b : Bool) → o ≡ Some b → says o true ≡ false → w ≡ b → w ≡ true → ⊥
@@ -167,33 +167,16 @@ same_parting (c ∷ cs) rest other i e q x = same_parting cs rest other i e q (t
 
 never_better : (e : ℕ) (q : Option ℕ) → Some e ≡ q → IsBetter (Some e) q → ⊥
 never_better e None x b = none_some (sym x)
-never_better e (Some c) x b = let z : e ≡ c = some_same x in omega (arith, z, b)
+never_better e (Some c) x b = let z : e ≡ c = same_Some _ _ x in omega (arith, z, b)
 
 -- What is known stays known.
 abbrev pub Extends : Known → Known → Type 0
 Extends k g = (x : ℕ) (b : Bool) → k x ≡ Some b → g x ≡ Some b
 
-open_not_some : (o : Option Bool) (b : Bool) → is_open o ≡ true → o ≡ Some b → ⊥
-open_not_some None b h e = none_some e
-open_not_some (Some c) b h e = false≢true h
-
-put_keeps : (k : Known) (l : Lit) (x : ℕ) (b t : Bool) → eqb x l.variable ≡ t → is_open (k l.variable) ≡ true → k x ≡ Some b → cond t (Some l.positive) (k x) ≡ Some b
-put_keeps k l x b true e o h =
-    let same : x ≡ l.variable = grind (arith, nat_tests) in
-    absurd (open_not_some (k l.variable) b o (ap k (sym same) ∙ h))
-put_keeps k l x b false e o h = h
-
-pub put_extends : (k : Known) (l : Lit) → is_open (k l.variable) ≡ true → Extends k (put k l)
-put_extends k l o = λ x b h. put_keeps k l x b (eqb x l.variable) refl o h
-
 pub learn_extends : (k : Known) (ls : List Lit) → OpenAll k ls → Extends k (learn k ls)
 learn_extends k [] o = λ x b h. h
 learn_extends k (l ∷ ls) o =
     λ x b h. learn_extends (put k l) ls o.1 x b (put_extends k l o.0 x b h)
-
-pub self_known : (k : Known) (l : Lit) (t : Bool) → t ≡ true → cond t (Some l.positive) (k l.variable) ≡ Some l.positive
-self_known k l true e = refl
-self_known k l false e = absurd (false≢true e)
 
 -- t is the choice of v, and r that of x, which says what the trail knows in the end; their walks part at interface i, where t
 -- has e, and r has q, which is worse.
@@ -222,7 +205,7 @@ module _ (u : List Interface) (req : Requirement) (n : ℕ) (room : n ≡ var_co
       let inside : d < length (candidates_of u j) = slice_get_within (candidates_of u j) d y.0 y.1 in
       let shut : is_open (k (var_number u (Cand j d))) ≡ false = subst (λ m. is_open (k (var_number u (Cand j m))) ≡ false) z (first.before d (omega (arith, l, w))) in
       let not_true : says (k (var_number u (Cand j d))) true ≡ false = subst (λ m. says (k (var_number u (Cand j m))) true ≡ false) z (first_none (is_chosen u k j) 0 (candidates_of u j) (sym (so_far_picks u k j) ∙ none) d inside) in
-      let b = not_open (k (var_number u (Cand j d))) shut in
+      let b = some_of (k (var_number u (Cand j d))) shut in
       at b.0 b.1 not_true (g (var_number u (Cand j d)) b.0 b.1) y.2
     where
       at : {o : Option Bool} {w : Bool} (b : Bool) → o ≡ Some b → says o true ≡ false → w ≡ b → w ≡ true → ⊥
@@ -261,7 +244,7 @@ module _ (u : List Interface) (req : Requirement) (n : ℕ) (room : n ≡ var_co
       at : (o : Option Var) → first_open u k (known_walk k).places ≡ o → first_of (as_lit u o) (least_open n k) ≡ Some l → v l.variable ≡ l.positive
       at None f d = absurd (one_walk k g h (none_open u k (known_walk k).places f))
       at (Some y) f d =
-          let same : lit_of u (yes y) ≡ l = some_same d in
+          let same : lit_of u (yes y) ≡ l = same_Some _ _ d in
           subst (λ (m : Lit). v m.variable ≡ m.positive) same (picked_true k y g h (opens_at u k (known_walk k).places y f) (subst (λ (m : Lit). x m.variable ≡ m.positive) (sym same) final))
 
   -- all is decided in the end
@@ -290,7 +273,7 @@ module _ (u : List Interface) (req : Requirement) (n : ℕ) (room : n ≡ var_co
   along all cs k g (Decide l ∷ ms) m o end full true_all ends says =
       let more : Extends (put k l) g = subst (Extends (put k l)) end (learn_extends (put k l) (lits_of (entries_of ms)) o.1) in
       let h : Extends k g = λ y b z. more y b (put_extends k l o.0 y b z) in
-      let final : g l.variable ≡ Some l.positive = more l.variable l.positive (self_known k l (eqb l.variable l.variable) (eqb_self l.variable)) in
+      let final : g l.variable ≡ Some l.positive = more l.variable l.positive (self_case k l (eqb l.variable l.variable) (test_same l.variable)) in
       let truth : v l.variable ≡ l.positive = decide_true k l m.0 says (λ y b z. ends y b (h y b z)) (ends l.variable l.positive final) in
       along all cs (put k l) g ms m.2 o.1 end full true_all ends (put_agrees v k l truth says)
   along all cs k g (Apply d ls ∷ ms) m o end full true_all ends says =

@@ -11,7 +11,7 @@ use Rattle.zi_choice.specs.Walk.{Walk, Visits, NeedsEach, Follows, is_listed, no
 use Rattle.zi_choice.specs.Left.{to_come}
 use Rattle.zi_choice.specs.Tasks.{place_at}
 use Rattle.zi_choice.specs.Traces.{as_use}
-use Rattle.zi_choice.proofs.WalkLaws.{true_false, none_some}
+use Rattle.zi_choice.proofs.WalkLaws.{true_false}
 use Rattle.zi_choice.proofs.GrowLaws.{visit_lists}
 use Rattle.zi_choice.proofs.TaskLaws.{a_walk}
 use Rattle.zi_walk.specs.declared.tasks.Task.{Task}
@@ -21,6 +21,7 @@ use Rattle.zi_walk.specs.Lists.{list_at}
 use Rattle.zi_walk.specs.Kept.{FollowsFirst, Stand, Does, Runs, Agrees, Awaits, GoesOn, IsReady, IsEmpty, PathIs, Grown, Longer, Steps, Moves, Stays, GoesAlong, stop_at, waiting, walk_to, left_of, interfaces_of, size, sizes}
 use Rattle.zi_walk.proofs.InverseLaws.{each_same, follow_same}
 use Rattle.zi_walk.proofs.StepLaws.{go_on, none_waits, not_longer, longer_still, with_lists, added_runs, AddsFirst, with_order, IsInserted, visit_steps}
+use Rattle.zi_feed.specs.IdLaws.{none_some}
 
 -- Several steps.
 
@@ -39,7 +40,7 @@ pub record HasMoved (u : List Interface) (y z : Stand) : Type 0 where
 pub not_moved : (u : List Interface) (y : Stand) → IsReady y → HasMoved u y y
 not_moved u y ready = record { ready = ready; order = refl; stops = refl; used = refl; lists = not_longer y.lists; moves = λ s w agrees r. r }
 
-walk_same : (s : Choice) (y z : Stand) → z.order ≡ y.order → z.used ≡ y.used → walk_to s z ≡ walk_to s y
+pub walk_same : (s : Choice) (y z : Stand) → z.order ≡ y.order → z.used ≡ y.used → walk_to s z ≡ walk_to s y
 walk_same s y z e f = ap (λ ks. a_walk (map (place_at s) ks) (map as_use z.used)) e ∙ ap (λ us. a_walk (map (place_at s) y.order) (map as_use us)) f
 
 -- the first task of what is left is done

@@ -1,7 +1,7 @@
 -- Where no constraint has more to say and what is chosen is known, what is known to be true is a model of the families by
 -- itself; so every command that is used, and 64-bit where it is needed, is known.
 use Rattle.std.proofs.Common.{◌≡◌, ℕ, Bool, true, false, not, cond, ◌||◌, ◌&&◌, List, [], ◌∷◌, length, map, refl, sym, ap, ◌∙◌, subst, Option, Some, None, inl, inr}
-use Rattle.std.proofs.lemmas.Bool.{false≢true, cases_Bool, and_parts, or_left, or_right, not-true, not_from_false}
+use Rattle.std.proofs.lemmas.Bool.{false≢true, cases_Bool, and_parts, or_left, or_right, not-true, not_from_false, or_cases}
 use Rattle.zi_proof.specs.Known.{Known, says, is_false, standing, by_standing, Fails, Goes}
 use Rattle.zi_proof.proofs.Sound.{Agrees}
 use Rattle.zi_sat.specs.Trail.{fails, silent, all_silent}
@@ -11,7 +11,7 @@ use Rattle.zi_choice.specs.Choice.{Choice, pick, chosen}
 use Rattle.zi_choice.specs.Valid.{IsValid}
 use Rattle.zi_choice.specs.Vars.{Var, Cand, Cmd, Wide, var_number}
 use Rattle.zi_build.specs.Clauses.{Says, yes, Rule, Some_of, One_of, rules, lit_of, constraint_of, formula}
-use Rattle.zi_choice.proofs.Base.{or_split, chosen_is, chosen_from}
+use Rattle.zi_choice.proofs.Base.{chosen_is, chosen_from}
 use Rattle.zi_choice.proofs.WalkFacts.{Need}
 use Rattle.zi_build.proofs.Meaning.{Means}
 use Rattle.zi_build.proofs.MeansValid.{all_are_used}
@@ -42,7 +42,7 @@ module _ (u : List Interface) (req : Requirement) (k : Known) (v : ℕ → Bool)
   some_known : (ls : List Says) → Every AsksCand ls → SaysListed u ls → some_true (by_var u v) ls ≡ true → some_true w ls ≡ true
   some_known [] h l t = absurd (false≢true t)
   some_known (x ∷ ls) h l t =
-      elim (or_split (says_true (by_var u v) x) (some_true (by_var u v) ls) t) [ inl p ↦ or_left (says_true w x) (some_true w ls) (lit_known x.of x.holds h.0 l.0 p) | inr q ↦ or_right (says_true w x) (some_true w ls) (some_known ls h.1 l.1 q) ]
+      elim (or_cases (says_true (by_var u v) x) (some_true (by_var u v) ls) t) [ inl p ↦ or_left (says_true w x) (some_true w ls) (lit_known x.of x.holds h.0 l.0 p) | inr q ↦ or_right (says_true w x) (some_true w ls) (some_known ls h.1 l.1 q) ]
 
   goes_not : (b : Bool) (g : Known) → fails (cond b Fails (Goes g)) ≡ true → b ≡ true
   goes_not true g e = refl

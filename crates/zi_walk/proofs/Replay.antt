@@ -2,7 +2,6 @@
 use Rattle.std.proofs.Common.{◌≡◌, ℕ, Bool, true, false, not, eqb, cond, List, [], ◌∷◌, refl, sym, ap, ◌∙◌, subst, arith, Option, Some, None, ◌⊎◌, inl, inr}
 use Rattle.std.proofs.lemmas.Bool.{false≢true, cases_Bool}
 use Rattle.std.proofs.lemmas.Bool.Decides.{nat_tests}
-use Rattle.zi_sat.proofs.CountLaws.{eqb_self}
 use Rattle.zi_formula.specs.declared.formula.Lit.{Lit}
 use Rattle.zi_formula.specs.declared.formula.Constraint.{Constraint}
 use Rattle.zi_formula.specs.declared.formula.Constraint.TheVariants.{Clause, AtMostOne}
@@ -14,7 +13,14 @@ use Rattle.zi_sat.specs.declared.entry.Why.TheVariants.{Decision, Hint}
 use Rattle.zi_sat.specs.Trail.{lits_of, OpenAll}
 use Rattle.zi_sat.specs.Entries.{Makes, HasReason, HaveReasons}
 use Rattle.zi_choice.proofs.ThereLaws.{In}
-use Rattle.zi_walk.proofs.Passed.{Extends, put_extends}
+use Rattle.zi_walk.proofs.Passed.{Extends}
+use Rattle.zi_sat.proofs.LessLaws.{some_says}
+use Rattle.zi_proof.proofs.Sound.{says_some}
+use Rattle.zi_proof.proofs.LeanExamples.{open_and_true}
+use Rattle.zi_walk.proofs.Ways.{has_true}
+use Rattle.zi_sat.proofs.EntryLaws.{put_true}
+use Rattle.zi_sat.proofs.FreshLaws.{put_extends}
+use Rattle.zi_proof.proofs.CutLaws.{test_same}
 
 -- the hints
 abbrev pub go_on : Outcome → (Known → List ℕ) → List ℕ
@@ -30,20 +36,8 @@ abbrev pub replay : List Constraint → Known → List Entry → List ℕ
 replay all g [] = []
 replay all g (e ∷ es) = cond (is_true g e.lit) (replay all g es) (hint_then e.why all g (λ f. replay all f es))
 
--- known values
-says_self : (p : Bool) → says (Some p) p ≡ true
-says_self true = refl
-says_self false = refl
-
-says_is : (o : Option Bool) (b : Bool) → says o b ≡ true → o ≡ Some b
-says_is None b e = absurd (false≢true e)
-says_is (Some true) true e = refl
-says_is (Some true) false e = absurd (false≢true e)
-says_is (Some false) true e = absurd (false≢true e)
-says_is (Some false) false e = refl
-
 says_more : (k g : Known) (x : ℕ) (b : Bool) → Extends k g → says (k x) b ≡ true → says (g x) b ≡ true
-says_more k g x b h e = ap (λ o. says o b) (h x b (says_is (k x) b e)) ∙ says_self b
+says_more k g x b h e = ap (λ o. says o b) (h x b (says_some (k x) b e)) ∙ some_says b
 
 both_said : (o : Option Bool) (b : Bool) → says o b ≡ true → says o (not b) ≡ true → ⊥
 both_said None b e f = false≢true e
@@ -58,10 +52,6 @@ open_when (Some true) true e f = absurd (false≢true (sym e))
 open_when (Some true) false e f = absurd (false≢true (sym f))
 open_when (Some false) true e f = absurd (false≢true (sym f))
 open_when (Some false) false e f = absurd (false≢true (sym e))
-
-open_not_says : (o : Option Bool) (b : Bool) → is_open o ≡ true → says o b ≡ true → ⊥
-open_not_says None b h e = false≢true e
-open_not_says (Some c) b h e = false≢true h
 
 -- a hint that makes l true from k, from more that is known
 data More (g : Known) (o : Outcome) (l : Lit) : Type 0 where
@@ -99,17 +89,14 @@ put_same : (k : Known) (m l : Lit) → is_open (k l.variable) ≡ true → is_tr
 put_same k m l o t = at (eqb l.variable m.variable) refl t
   where
     at : (b : Bool) → eqb l.variable m.variable ≡ b → says (cond b (Some m.positive) (k l.variable)) l.positive ≡ true → (l.variable ≡ m.variable) × (m.positive ≡ l.positive)
-    at true e h = ((let z : l.variable ≡ m.variable = grind (arith, nat_tests) in z), some_bool (says_is (Some m.positive) l.positive h))
+    at true e h = ((let z : l.variable ≡ m.variable = grind (arith, nat_tests) in z), some_bool (says_some (Some m.positive) l.positive h))
       where
         some_bool : {a b : Bool} → Some a ≡ Some b → a ≡ b
         some_bool e = cc
-    at false e h = absurd (open_not_says (k l.variable) l.positive o h)
+    at false e h = absurd (open_and_true (k l.variable) l.positive o h)
 
 lit_same : (l m : Lit) → l.variable ≡ m.variable → m.positive ≡ l.positive → m ≡ l
 lit_same l m e f = ap (λ x. record { variable = x; positive = m.positive }) (sym e) ∙ ap (λ b. record { variable = l.variable; positive = b }) f
-
-put_true : (k : Known) (l : Lit) → is_true (put k l) l ≡ true
-put_true k l = ap (λ t. says (cond t (Some l.positive) (k l.variable)) l.positive) (eqb_self l.variable) ∙ says_self l.positive
 
 by_one : (k : Known) (m l : Lit) → Makes (by_standing k (m ∷ [])) l → is_true (put k m) l ≡ true
 by_one k m l h = at (is_true k m) h
@@ -175,7 +162,7 @@ denied_in k (x ∷ xs) y (inl q) o =
     here x q = at (is_open (k x)) (ap (λ z. is_open (k z)) q ∙ o)
       where
         at : (b : Bool) → b ≡ true → (cond b (put k (record { variable = x; positive = false })) k) y ≡ Some false
-        at true e = let z : eqb y x ≡ true = ap (λ v. eqb y v) q ∙ eqb_self y in ap (λ t. cond t (Some false) (k y)) z
+        at true e = let z : eqb y x ≡ true = ap (λ v. eqb y v) q ∙ test_same y in ap (λ t. cond t (Some false) (k y)) z
         at false e = absurd (false≢true e)
 denied_in k (x ∷ xs) y (inr i) o =
     elim (deny_one k x y) [
@@ -194,19 +181,6 @@ two_contradict g xs [] e = absurd (false≢true e)
 two_contradict g xs (t ∷ []) e = absurd (false≢true e)
 two_contradict g xs (t ∷ s ∷ ts) e = refl
 
-some_true : (g : Known) (xs : List ℕ) (x : ℕ) → In x xs → says (g x) true ≡ true → true_ones g xs ≡ [] → ⊥
-some_true g [] x i t e = i
-some_true g (y ∷ xs) x (inl q) t e = at (says (g y) true) (ap (λ z. says (g z) true) q ∙ t) e
-  where
-    at : (b : Bool) → b ≡ true → cond b (y ∷ true_ones g xs) (true_ones g xs) ≡ [] → ⊥
-    at true f e = cc
-    at false f e = false≢true f
-some_true g (y ∷ xs) x (inr i) t e = at (says (g y) true) e (λ f. some_true g xs x i t f)
-  where
-    at : (b : Bool) → cond b (y ∷ true_ones g xs) (true_ones g xs) ≡ [] → (true_ones g xs ≡ [] → ⊥) → ⊥
-    at true e later = cc
-    at false e later = later e
-
 push_two : (b : Bool) (y : ℕ) (ts : List ℕ) → (ts ≡ [] → ⊥) → b ≡ true → two (cond b (y ∷ ts) ts) ≡ true
 push_two true y [] n e = absurd (n refl)
 push_two true y (t ∷ ts) n e = refl
@@ -220,8 +194,8 @@ keep_two false y ts e = e
 two_true : (g : Known) (xs : List ℕ) (x y : ℕ) → In x xs → In y xs → (x ≡ y → ⊥) → says (g x) true ≡ true → says (g y) true ≡ true → two (true_ones g xs) ≡ true
 two_true g [] x y i j d s t = absurd i
 two_true g (z ∷ xs) x y (inl p) (inl q) d s t = absurd (d (sym p ∙ q))
-two_true g (z ∷ xs) x y (inl p) (inr j) d s t = push_two (says (g z) true) z (true_ones g xs) (λ e. some_true g xs y j t e) (ap (λ v. says (g v) true) p ∙ s)
-two_true g (z ∷ xs) x y (inr i) (inl q) d s t = push_two (says (g z) true) z (true_ones g xs) (λ e. some_true g xs x i s e) (ap (λ v. says (g v) true) q ∙ t)
+two_true g (z ∷ xs) x y (inl p) (inr j) d s t = push_two (says (g z) true) z (true_ones g xs) (λ e. has_true g xs y j t e) (ap (λ v. says (g v) true) p ∙ s)
+two_true g (z ∷ xs) x y (inr i) (inl q) d s t = push_two (says (g z) true) z (true_ones g xs) (λ e. has_true g xs x i s e) (ap (λ v. says (g v) true) q ∙ t)
 two_true g (z ∷ xs) x y (inr i) (inr j) d s t = keep_two (says (g z) true) z (true_ones g xs) (two_true g xs x y i j d s t)
 
 one_in : (k : Known) (xs : List ℕ) (a : ℕ) (ts : List ℕ) → true_ones k xs ≡ a ∷ ts → In a xs × (says (k a) true ≡ true)
@@ -239,11 +213,11 @@ group_more : (k g : Known) (xs : List ℕ) (l : Lit) → Makes (group_step k xs)
 group_more k g xs l m o h n = at (true_ones k xs) refl m
   where
     second : (a : ℕ) → In a xs → says (k a) true ≡ true → In l.variable xs → l.positive ≡ false → (ts : List ℕ) → true_ones g xs ≡ ts → More g (by_true_ones g xs ts) l
-    second a i s j p [] e = absurd (some_true g xs a i (says_more k g a true h s) e)
+    second a i s j p [] e = absurd (has_true g xs a i (says_more k g a true h s) e)
     second a i s j p (t ∷ c ∷ ts) e = ends_so refl
     second a i s j p (t ∷ []) e =
         elim (cases_Bool (says (g l.variable) true)) [
-          | inl y ↦ absurd (false≢true (sym (ap two e) ∙ two_true g xs a l.variable i j (λ q. open_not_says (k l.variable) true o (subst (λ v. says (k v) true ≡ true) q s)) (says_more k g a true h s) y))
+          | inl y ↦ absurd (false≢true (sym (ap two e) ∙ two_true g xs a l.variable i j (λ q. open_and_true (k l.variable) true o (subst (λ v. says (k v) true ≡ true) q s)) (says_more k g a true h s) y))
           | inr f ↦ let free : is_open (g l.variable) ≡ true = open_when (g l.variable) true f (ap (λ b. says (g l.variable) b) (sym p) ∙ n) in
               goes_so (deny_all g xs) refl (ap (λ b. says (deny_all g xs l.variable) b) p ∙ ap (λ v. says v false) (denied_in g xs l.variable j free)) (deny_extends g xs)
         ]
@@ -252,8 +226,8 @@ group_more k g xs l m o h n = at (true_ones k xs) refl m
     made a ts e t =
         let r = one_in k xs a ts e in
         elim (denied k xs l.variable) [
-          | inl f ↦ absurd (open_not_says (k l.variable) l.positive o (ap (λ v. says v l.positive) (sym f) ∙ t))
-          | inr f ↦ second a r.0 r.1 f.0 (sign (says_is (Some false) l.positive (ap (λ v. says v l.positive) (sym f.2) ∙ t))) (true_ones g xs) refl
+          | inl f ↦ absurd (open_and_true (k l.variable) l.positive o (ap (λ v. says v l.positive) (sym f) ∙ t))
+          | inr f ↦ second a r.0 r.1 f.0 (sign (says_some (Some false) l.positive (ap (λ v. says v l.positive) (sym f.2) ∙ t))) (true_ones g xs) refl
         ]
       where
         sign : {b : Bool} → Some false ≡ Some b → b ≡ false
@@ -303,7 +277,7 @@ put_below k g l h t = λ x b e. at (eqb x l.variable) x b refl e
     at : (c : Bool) (x : ℕ) (b : Bool) → eqb x l.variable ≡ c → cond c (Some l.positive) (k x) ≡ Some b → g x ≡ Some b
     at true x b e f =
         let z : x ≡ l.variable = grind (arith, nat_tests) in
-        ap g z ∙ says_is (g l.variable) l.positive t ∙ f
+        ap g z ∙ says_some (g l.variable) l.positive t ∙ f
     at false x b e f = h x b f
 
 -- the walk over these hints comes to the contradiction, and there it ends

@@ -1,12 +1,13 @@
 -- What the rule's parts say: what is known to be chosen, and where the first undecided candidate is.
 use Rattle.std.proofs.Common.{◌≡◌, ℕ, zero, suc, ◌+◌, ◌<◌, Bool, true, false, cond, List, [], ◌∷◌, ◌++◌, length, refl, sym, ap, ◌∙◌, subst, arith, Option, Some, None}
+use Rattle.std.proofs.lemmas.Option.{same_Some}
 use Rattle.zi_universe.specs.declared.types.Interface.{Interface}
 use Rattle.zi_choice.specs.Choice.{pick}
 use Rattle.zi_choice.specs.Walk.{Place}
-use Rattle.zi_choice.proofs.WalkLaws.{none_some, some_same}
 use Rattle.zi_proof.specs.Known.{Known}
 use Rattle.zi_choice.specs.Vars.{Var, Cand, candidates_of}
 use Rattle.zi_walk.specs.Rule.{first_where, is_chosen, chosen_from, so_far, open_at, if_none, waits_at, or_else, first_open}
+use Rattle.zi_feed.specs.IdLaws.{none_some}
 
 -- where a test first passes
 pub record FirstAt (test : ℕ → Bool) (n len c : ℕ) : Type 0 where
@@ -22,7 +23,7 @@ first_is test n (x ∷ xs) c e = at (test n) refl e (λ f. first_is test (suc n)
   where
     at : (b : Bool) → test n ≡ b → cond b (Some n) (first_where test (suc n) xs) ≡ Some c → (first_where test (suc n) xs ≡ Some c → FirstAt test (suc n) (length xs) c) → FirstAt test n (length (x ∷ xs)) c
     at true t h later =
-        let q : n ≡ c = some_same h in record { on = 0; is = (let z : c ≡ n + 0 = omega (arith, q) in z); within = omega arith; passes = subst (λ k. test k ≡ true) q t; before = λ m l. absurd (omega (arith, l)) }
+        let q : n ≡ c = same_Some _ _ h in record { on = 0; is = (let z : c ≡ n + 0 = omega (arith, q) in z); within = omega arith; passes = subst (λ k. test k ≡ true) q t; before = λ m l. absurd (omega (arith, l)) }
     at false t h later =
         let r = later h in
         let i = r.is in
@@ -89,4 +90,4 @@ opens_at u k (p ∷ ps) x e = at (waits_at u k p) refl e (λ f. opens_at u k ps 
     at None w h later =
         let r = later h in record { before = p ∷ r.before; place = r.place; behind = r.behind; candidate = r.candidate; are = ap (λ qs. p ∷ qs) r.are; settled = (w, r.settled); is = r.is; none = r.none; opens = r.opens }
     at (Some c) w h later =
-        let s = waits_where p.pick (open_at u k p) c w in record { before = []; place = p; behind = ps; candidate = c; are = refl; settled = tt; is = sym (some_same h); none = s.0; opens = s.1 }
+        let s = waits_where p.pick (open_at u k p) c w in record { before = []; place = p; behind = ps; candidate = c; are = refl; settled = tt; is = sym (same_Some _ _ h); none = s.0; opens = s.1 }

@@ -3,7 +3,7 @@ use Rattle.std.proofs.Common.{drop, ◌≤◌, ◌≡◌, ◌==◌, ◌<◌, ◌
 use Rattle.std.specs.Prelude.{slice_get, position, option_and_then}
 use Rattle.std.specs.List.{flat_map, list_any}
 use Rattle.std.proofs.lemmas.List.{drop_all, append-nil, length-map, get_or-map}
-use Rattle.std.proofs.lemmas.Option.{slice_get_past, slice_get_within, get_or_from_slice_get}
+use Rattle.std.proofs.lemmas.Option.{slice_get_past, slice_get_within, get_or_from_slice_get, same_Some}
 use Rattle.std.proofs.lemmas.List.Quantifiers.{position-Some}
 use Rattle.std.proofs.Math.Seq.{drop-cons, get_or-append_seam}
 use Rattle.std.proofs.lemmas.Bool.{not-true, not-false}
@@ -16,7 +16,7 @@ use Rattle.zi_choice.specs.Choice.{Choice, pick, candidate_at, chosen, command_a
 use Rattle.zi_choice.specs.Walk.{Walk, Visits, Needs, NeedsEach, Follows, is_listed, leads_to}
 use Rattle.zi_choice.specs.Tasks.{place_at}
 use Rattle.zi_choice.specs.Traces.{as_use}
-use Rattle.zi_choice.proofs.WalkLaws.{true_false, none_some, some_same}
+use Rattle.zi_choice.proofs.WalkLaws.{true_false}
 use Rattle.zi_choice.proofs.GrowLaws.{grow_need, stays_listed, visit_lists}
 use Rattle.zi_choice.proofs.TaskLaws.{Came, Stayed, CameUse, StayedUse, came, stayed, came_use, stayed_use, keys_new, keys_old, same_use, a_used, less_place, less_use, listed_is, no_command, command_there}
 use Rattle.zi_walk.specs.declared.tasks.Task.{Task}
@@ -26,6 +26,7 @@ use Rattle.zi_walk.specs.declared.path.Stop.{Stop}
 use Rattle.zi_walk.specs.Lists.{list_at, IsAdded}
 use Rattle.zi_walk.specs.Kept.{Stand, Does, Runs, Agrees, Awaits, GoesOn, IsReady, Grown, Longer, Steps, Stays, FollowsFirst, NeedsFirst, command_in, waiting, walk_to, left_of, size, sizes}
 use Rattle.zi_walk.proofs.InverseLaws.{visit_same, visit_goes, need_lacking, need_used, need_goes, each_split, follow_same, follow_split, follow_leads}
+use Rattle.zi_feed.specs.IdLaws.{by_bool, none_some}
 
 -- How a walk goes on.
 
@@ -136,10 +137,6 @@ inserted_new i ks js new h e = keys_new (list_any (λ k. i == k) ks) ks js i h.k
 pub inserted_old : (i : ℕ) (ks js : List ℕ) (new : Bool) → IsInserted i ks js new → new ≡ false → js ≡ ks
 inserted_old i ks js new h e = keys_old (list_any (λ k. i == k) ks) ks js i h.keys (not-false (list_any (λ k. i == k) ks) (sym h.added ∙ e))
 
-bool_by : {G : Type 0} (b : Bool) → (b ≡ true → G) → (b ≡ false → G) → G
-bool_by true f g = f refl
-bool_by false f g = g refl
-
 slice_behind : {A : Type 0} (xs : List A) (x : A) (n : ℕ) → n ≡ length xs → slice_get (xs ++ x ∷ []) n ≡ Some x
 slice_behind [] x n e = ap (slice_get (x ∷ [])) e
 slice_behind (y ∷ xs) x zero e = absurd (omega (arith, e))
@@ -147,7 +144,7 @@ slice_behind (y ∷ xs) x (suc n) e = slice_behind xs x n (omega (arith, e))
 
 pub visit_steps : (u : List Interface) (i : ℕ) (y : Stand) (js : List ℕ) (new : Bool) → IsReady y → i < length u → IsInserted i y.order js new → Steps u (λ s. Visits u s i) y (with_order y js) new
 visit_steps u i y js new ready there h s b w agrees v r =
-    bool_by new
+    by_bool new
     (λ e. let c : Came s i (map as_use y.used) y.order js = came s i (map as_use y.used) y.order js new h.added h.keys e in
     let waits : waiting (with_order y js) ≡ Some i = ap (λ ks. slice_get ks (length y.stops)) (inserted_new i y.order js new h e) ∙ slice_behind y.order i (length y.stops) (each_stop y ready) in (
       wait_on u s (with_order y js) i b w waits (subst (λ a. Follows u s (deps_of (chosen u s i)) a b) (sym c.walk) (visit_goes c.new v)) r,
@@ -161,7 +158,7 @@ visit_steps u i y js new ready there h s b w agrees v r =
 
 pub visit_grown : (i : ℕ) (y : Stand) (js : List ℕ) (new : Bool) → IsReady y → IsInserted i y.order js new → Grown y (with_order y js)
 visit_grown i y js new ready h = record {
-  comes = bool_by new (λ e. inr (i, inserted_new i y.order js new h e)) (λ e. inl (inserted_old i y.order js new h e));
+  comes = by_bool new (λ e. inr (i, inserted_new i y.order js new h e)) (λ e. inl (inserted_old i y.order js new h e));
   stops = refl;
   used = not_longer y.used;
   lists = not_longer y.lists;
@@ -205,7 +202,7 @@ need_new_steps u i name m y js lists left ready is h leads s b w agrees d r =
 
 pub used_longer : (i : ℕ) (name : List ℕ) (ks js : List Used) (new : Bool) → IsUsedNow i name ks js new → Longer ks js
 used_longer i name ks js new h =
-    bool_by (list_any (same_use i name) ks)
+    by_bool (list_any (same_use i name) ks)
     (λ e. subst (λ xs. Longer ks xs) (sym (keys_old (list_any (same_use i name) ks) ks js (a_used i name) h.keys e)) (not_longer ks))
     (λ e. (a_used i name ∷ [], keys_new (list_any (same_use i name) ks) ks js (a_used i name) h.keys e))
 
@@ -216,7 +213,7 @@ stays_added y z lists left h = record { used = h.used; ready = h.ready }
 -- what is chosen at a place that is followed
 agrees_at : (s : Choice) (xs : List Stop) (n : ℕ) (x : Stop) → Agrees s xs → slice_get xs n ≡ Some x → pick s x.interface ≡ x.pick
 agrees_at s [] n x h e = absurd (none_some e)
-agrees_at s (z ∷ xs) zero x h e = subst (λ (v : Stop). pick s v.interface ≡ v.pick) (some_same e) h.0
+agrees_at s (z ∷ xs) zero x h e = subst (λ (v : Stop). pick s v.interface ≡ v.pick) (same_Some _ _ e) h.0
 agrees_at s (z ∷ xs) (suc n) x h e = agrees_at s xs n x h.1 e
 
 its_interface : (y : Stand) (n i : ℕ) (x : Stop) → IsReady y → Some n ≡ position (λ k. i == k) y.order → slice_get y.stops n ≡ Some x → i ≡ x.interface

@@ -3,7 +3,8 @@ use Rattle.std.proofs.Common.{◌≡◌, ℕ, zero, suc, ◌==◌, Bool, true, f
 use Rattle.std.specs.Prelude.{slice_get}
 use Rattle.std.proofs.lemmas.Bool.{false≢true, cases_eq}
 use Rattle.std.proofs.lemmas.Bool.Decides.{nat_tests}
-use Rattle.zi_sat.proofs.CountLaws.{eqb_self}
+use Rattle.std.proofs.lemmas.Option.{same_Some}
+use Rattle.std.proofs.lemmas.Map.Keys.{any_passes_from_place}
 use Rattle.zi_formula.specs.declared.formula.Lit.{Lit}
 use Rattle.zi_formula.specs.declared.formula.Constraint.{Constraint}
 use Rattle.zi_formula.specs.Truth.{lit_true}
@@ -21,24 +22,26 @@ use Rattle.zi_universe.specs.declared.types.Candidate.{Candidate}
 use Rattle.zi_universe.specs.declared.types.Interface.{Interface}
 use Rattle.zi_choice.specs.Choice.{Choice, pick}
 use Rattle.zi_choice.specs.Walk.{Place, Walk, Walks, Visits, Needs, NeedsEach, Follows, listed, comes, lacks, again, uses, no_more, one_more, ends, passes, goes, is_listed, with_place}
-use Rattle.zi_choice.proofs.WalkLaws.{none_some, some_same}
 use Rattle.zi_parts.specs.declared.types.Dep.{Dep}
 use Rattle.zi_choice.specs.Vars.{Cand, var_number}
 use Rattle.zi_build.specs.Clauses.{formula, yes, lit_of}
-use Rattle.zi_choice.proofs.Base.{any_at}
 use Rattle.zi_choice.proofs.ThereLaws.{In}
 use Rattle.zi_build.proofs.Meaning.{IsAt}
 use Rattle.zi_walk.specs.Rule.{walk_picks}
-use Rattle.zi_walk.proofs.Passed.{IsOf, Extends, put_extends, learn_extends, self_known, the_place}
+use Rattle.zi_walk.proofs.Passed.{IsOf, Extends, learn_extends, the_place}
 use Rattle.zi_walk.proofs.Ways.{IsPassed, IsSaid, decision_said}
 use Rattle.zi_walk.proofs.Replay.{IsHinted, IsGiven, Stops}
+use Rattle.zi_sat.proofs.LessLaws.{some_says}
+use Rattle.zi_sat.proofs.FreshLaws.{self_case, put_extends}
+use Rattle.zi_feed.specs.IdLaws.{none_some}
+use Rattle.zi_proof.proofs.CutLaws.{test_same}
 
 -- a walk lists an interface once
 abbrev pub AreOnce : List Place → Type 0
 AreOnce ps = (m n : ℕ) (x y : Place) → slice_get ps m ≡ Some x → slice_get ps n ≡ Some y → x.interface ≡ y.interface → m ≡ n
 
 push_at : {A : Type 0} (xs : List A) (y x : A) (n : ℕ) → slice_get (xs ++ y ∷ []) n ≡ Some x → (slice_get xs n ≡ Some x) ⊎ ((y ≡ x) × (n ≡ length xs))
-push_at [] y x zero e = inr (some_same e, refl)
+push_at [] y x zero e = inr (same_Some _ _ e, refl)
 push_at [] y x (suc n) e = absurd (none_some e)
 push_at (z ∷ xs) y x zero e = inl e
 push_at (z ∷ xs) y x (suc n) e = elim (push_at xs y x n e) [ inl a ↦ inl a | inr b ↦ inr (b.0, ap suc b.1) ]
@@ -52,7 +55,7 @@ once_place s i a new h m n x y e f q =
     ]
   where
     is_new : (k : ℕ) (z : Place) → slice_get a.places k ≡ Some z → z.interface ≡ i → ⊥
-    is_new k z e q = false≢true (sym new ∙ any_at (λ (p : Place). p.interface == i) a.places k z e (eq-eqb z.interface i q))
+    is_new k z e q = false≢true (sym new ∙ any_passes_from_place (λ (p : Place). p.interface == i) a.places k z e (eq-eqb z.interface i q))
 
 mutual
   once_visit : {u : List Interface} {s : Choice} {i : ℕ} {a b : Walk} → Visits u s i a b → AreOnce a.places → AreOnce b.places
@@ -99,10 +102,6 @@ assume_is a k [] g t = refl
 assume_is a k (l ∷ ls) g t =
     ap (λ b. cond b None (assume (put k l) ls)) (is_false_not a k l g t.0) ∙ assume_is a (put k l) ls (put_agrees a k l (value_of_true a l t.0) g) t.1
 
-says_self : (p : Bool) → says (Some p) p ≡ true
-says_self true = refl
-says_self false = refl
-
 stays_true : (a : ℕ → Bool) (k : Known) (ls : List Lit) (l : Lit) → lit_true a l ≡ true → MakesTrue a ls → is_true k l ≡ true → is_true (learn k ls) l ≡ true
 stays_true a k [] l t m h = h
 stays_true a k (x ∷ ls) l t m h = stays_true a (put k x) ls l t m.1 (at (eqb l.variable x.variable) refl)
@@ -111,14 +110,14 @@ stays_true a k (x ∷ ls) l t m h = stays_true a (put k x) ls l t m.1 (at (eqb l
     at true e =
         let z : l.variable ≡ x.variable = grind (arith, nat_tests) in
         let same : x.positive ≡ l.positive = sym (value_of_true a x m.0) ∙ ap a (sym z) ∙ value_of_true a l t in
-        ap (λ p. says (Some p) l.positive) same ∙ says_self l.positive
+        ap (λ p. says (Some p) l.positive) same ∙ some_says l.positive
     at false e = h
 
 pub assumed_true : (a : ℕ → Bool) (k : Known) (ls : List Lit) (l : Lit) → MakesTrue a ls → In l ls → is_true (learn k ls) l ≡ true
 assumed_true a k [] l m i = absurd i
 assumed_true a k (x ∷ ls) l m (inl e) =
     let t : lit_true a l ≡ true = subst (λ y. lit_true a y ≡ true) e m.0 in
-    stays_true a (put k x) ls l t m.1 (subst (λ y. is_true (put k y) l ≡ true) (sym e) (ap (λ b. says (cond b (Some l.positive) (k l.variable)) l.positive) (eqb_self l.variable) ∙ says_self l.positive))
+    stays_true a (put k x) ls l t m.1 (subst (λ y. is_true (put k y) l ≡ true) (sym e) (ap (λ b. says (cond b (Some l.positive) (k l.variable)) l.positive) (test_same l.variable) ∙ some_says l.positive))
 assumed_true a k (x ∷ ls) l m (inr i) = assumed_true a (put k x) ls l m.1 i
 
 -- the trail comes to the literal that contradicts the passed candidate, and each decision before it was assumed
@@ -142,7 +141,7 @@ module _ (u : List Interface) (req : Requirement) (n : ℕ) (x : ℕ → Bool) (
       let l = d.lit in
       let more : Extends (put k d.lit) g = subst (Extends (put k d.lit)) end (learn_extends (put k d.lit) (lits_of es) o.1) in
       let below : Extends k g = λ y c z. more y c (put_extends k d.lit o.0 y c z) in
-      let final : g d.lit.variable ≡ Some d.lit.positive = more d.lit.variable d.lit.positive (self_known k d.lit (eqb d.lit.variable d.lit.variable) (eqb_self d.lit.variable)) in
+      let final : g d.lit.variable ≡ Some d.lit.positive = more d.lit.variable d.lit.positive (self_case k d.lit (eqb d.lit.variable d.lit.variable) (test_same d.lit.variable)) in
       by d.why h.0 below final (cases_eq ne d.lit.variable) (λ y. stops all (put k d.lit) g es h.1 o.1 end agrees f (still_open k d.lit y free))
     where
       sign : {a c : Bool} → Some a ≡ Some c → a ≡ c

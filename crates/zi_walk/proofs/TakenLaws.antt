@@ -9,13 +9,13 @@ use Rattle.zi_sat.specs.Ends.{AreDecided}
 use Rattle.zi_sat.specs.Behind.{Behind}
 use Rattle.zi_universe.specs.declared.types.Requirement.{Requirement}
 use Rattle.zi_universe.specs.declared.types.Interface.{Interface}
-use Rattle.zi_choice.proofs.WalkLaws.{none_some}
 use Rattle.zi_walk.specs.declared.path.Stop.{Stop}
 use Rattle.zi_walk.specs.declared.kept.Kept.{Kept}
 use Rattle.zi_walk.specs.Kept.{Stand, stand_of, back_at, IsBefore, Rise, IsEmpty, PathIs}
 use Rattle.zi_walk.specs.Firm.{AreFirm, AreWithin, OnWay, GoesBack, KeptIs}
 use Rattle.zi_walk.proofs.KeptLaws.{back_path}
 use Rattle.zi_walk.proofs.FirmLaws.{firm_less, firm_longer, decided_longer}
+use Rattle.zi_feed.specs.IdLaws.{none_some}
 
 no_item : {A : Type 0} {G : Type 0} (xs : List A) (n : ℕ) (x : A) → xs ≡ [] → slice_get xs n ≡ Some x → G
 no_item xs n x e f = absurd (none_some (ap (λ ys. slice_get ys n) (sym e) ∙ f))

@@ -2,7 +2,7 @@
 use Rattle.std.proofs.Common.{◌≡◌, ℕ, zero, suc, ◌+◌, ◌<◌, Bool, true, false, cond, ◌&&◌, List, [], ◌∷◌, ◌++◌, length, map, refl, sym, ap, ◌∙◌, subst, arith, Option, Some, None, inl, inr}
 use Rattle.std.specs.Prelude.{slice_get}
 use Rattle.std.proofs.lemmas.Bool.{false≢true, and_parts}
-use Rattle.std.proofs.lemmas.Option.{slice_get_within}
+use Rattle.std.proofs.lemmas.Option.{slice_get_within, same_Some}
 use Rattle.zi_formula.specs.declared.formula.Lit.{Lit}
 use Rattle.zi_proof.specs.Known.{Known, says, is_open, true_ones}
 use Rattle.zi_proof.proofs.Sound.{Agrees}
@@ -13,7 +13,6 @@ use Rattle.zi_universe.specs.declared.types.Candidate.{Candidate}
 use Rattle.zi_universe.specs.declared.types.Interface.{Interface}
 use Rattle.zi_choice.specs.Choice.{Choice, pick}
 use Rattle.zi_choice.specs.Walk.{Place, Walk, Walks}
-use Rattle.zi_choice.proofs.WalkLaws.{none_some, some_same}
 use Rattle.zi_choice.proofs.ThereLaws.{walk_there, In}
 use Rattle.zi_choice.proofs.ApartLaws.{walks_part}
 use Rattle.zi_choice.specs.Vars.{Var, Cand, candidates_of, var_number}
@@ -23,6 +22,7 @@ use Rattle.zi_choice.proofs.Base.{interface_at}
 use Rattle.zi_walk.specs.Rule.{is_undecided, is_chosen, so_far, walk_of, if_none, first_open, as_lit, walk_picks, first_where}
 use Rattle.zi_walk.proofs.Rules.{FirstAt, first_is, first_none, so_far_picks, NoneWaits, none_open, OpensAt, opens_at}
 use Rattle.zi_walk.proofs.Passed.{IsOf, heads, tails, candidate_below, walk_faithful, settled, reaches, stays, the_place, AllFaithful}
+use Rattle.zi_feed.specs.IdLaws.{none_some}
 
 -- where a constraint stands in the list
 silent_left : (u : List Interface) (k : Known) (a b : List Rule) → all_silent k (map (constraint_of u) (a ++ b)) ≡ true → all_silent k (map (constraint_of u) a) ≡ true
@@ -39,7 +39,7 @@ silent_at : {A : Type 0} (u : List Interface) (k : Known) (n : ℕ) (f : ℕ →
 silent_at u k n f [] i x e h = absurd (none_some e)
 silent_at u k n f (y ∷ ys) zero x e h =
     let z : n ≡ n + 0 = omega arith in
-    subst (λ m. all_silent k (map (constraint_of u) (f m x)) ≡ true) z (subst (λ a. all_silent k (map (constraint_of u) (f n a)) ≡ true) (some_same e) (silent_left u k (f n y) (each (suc n) f ys) h))
+    subst (λ m. all_silent k (map (constraint_of u) (f m x)) ≡ true) z (subst (λ a. all_silent k (map (constraint_of u) (f n a)) ≡ true) (same_Some _ _ e) (silent_left u k (f n y) (each (suc n) f ys) h))
 silent_at u k n f (y ∷ ys) (suc i) x e h =
     let z : suc n + i ≡ n + suc i = omega arith in
     subst (λ m. all_silent k (map (constraint_of u) (f m x)) ≡ true) z (silent_at u k (suc n) f ys i x e (silent_right u k (f n y) (each (suc n) f ys) h))
@@ -49,7 +49,7 @@ kept_silent u k true r e h = (and_parts (silent k (constraint_of u r)) true h).0
 kept_silent u k false r e h = absurd (false≢true e)
 
 -- a group with one true variable has no undecided one
-has_true : (k : Known) (xs : List ℕ) (x : ℕ) → In x xs → says (k x) true ≡ true → true_ones k xs ≡ [] → ⊥
+pub has_true : (k : Known) (xs : List ℕ) (x : ℕ) → In x xs → says (k x) true ≡ true → true_ones k xs ≡ [] → ⊥
 has_true k [] x i t e = i
 has_true k (y ∷ xs) x (inl q) t e = at (says (k y) true) (ap (λ z. says (k z) true) q ∙ t) e
   where
@@ -102,7 +102,7 @@ one_decides u req k i c e x y q at_c at_e d t o =
     let z : 0 + i ≡ i = omega arith in
     let r = interface_at u i c x at_c in
     let r2 = interface_at u i e y at_e in
-    let same : r2.0 ≡ r.0 = some_same (sym r2.1 ∙ r.1) in
+    let same : r2.0 ≡ r.0 = same_Some _ _ (sym r2.1 ∙ r.1) in
     let lc : c < length r.0.candidates = slice_get_within r.0.candidates c x r.2 in
     let le : e < length r.0.candidates = slice_get_within r.0.candidates e y (subst (λ (j : Interface). slice_get j.candidates e ≡ Some y) same r2.2) in
     let s3 = subst (λ j. all_silent k (map (constraint_of u) (group_of j r.0)) ≡ true) z (silent_at u k 0 group_of u i r.0 r.1 s2) in
@@ -200,5 +200,5 @@ module _ (u : List Interface) (req : Requirement) (n : ℕ) (x : ℕ → Bool) (
           let one : known_walk k ≡ b = stays u k r (settled u k x r h of_r) (known_walk k) b (walks_part u req (so_far u k) r (known_walk k) b (known_walks k) walks_r) w fa in
           absurd (place_settled k (known_walk k).places pre other (ap (λ (v : Walk). v.places) one ∙ is_r) fa w s o)
       by (Some y) f d =
-          let same : lit_of u (yes y) ≡ l = some_same d in
+          let same : lit_of u (yes y) ≡ l = same_Some _ _ d in
           subst (λ (m : Lit). IsSaid u m pre) same (picked y (opens_at u k (known_walk k).places y f) (subst (λ (m : Lit). x m.variable ≡ m.positive) (sym same) final))

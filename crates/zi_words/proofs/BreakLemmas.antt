@@ -17,8 +17,9 @@ use Rattle.zi_words.specs.Options.{Item, IsItem, name_of, has_option, forms, fir
 use Rattle.zi_words.specs.Refused.{Asks, LeftAt}
 use Rattle.zi_words.specs.Taken.{Misses, BreaksOff}
 use Rattle.zi_words.proofs.LeftLemmas.{stuck_with, stopped}
-use Rattle.zi_words.proofs.ClashLemmas.{and_false}
-use Rattle.zi_words.proofs.OptionLemmas.{After, First, first_of_after, live_within, head_same}
+use Rattle.zi_words.proofs.OptionLemmas.{After, First, first_of_after, live_within}
+use Rattle.zi_version.proofs.Steps.{and-false}
+use Rattle.zi_text.proofs.ListLaws.{head_same}
 
 -- a word of each form
 abbrev pub example : Form → Word
@@ -141,8 +142,8 @@ unused [] u id s lt = refl
 unused (i ∷ is) u id s lt =
     let no_id : bytes_eq (second i.arguments) id ≡ false = differ (second i.arguments) id (omega arith) in
     let no_pair : (bytes_eq (first i.arguments) u && bytes_eq (second i.arguments) id) ≡ false =
-    ap (λ v. bytes_eq (first i.arguments) u && v) no_id ∙ and_false (bytes_eq (first i.arguments) u) in
-    let none : clash i (record { kind = kind.Rate; arguments = u ∷ id ∷ s ∷ [] }) ≡ false = ap (λ v. alike i.kind kind.Rate && v) no_pair ∙ and_false (alike i.kind kind.Rate) in
+    ap (λ v. bytes_eq (first i.arguments) u && v) no_id ∙ and-false (bytes_eq (first i.arguments) u) in
+    let none : clash i (record { kind = kind.Rate; arguments = u ∷ id ∷ s ∷ [] }) ≡ false = ap (λ v. alike i.kind kind.Rate && v) no_pair ∙ and-false (alike i.kind kind.Rate) in
     ap (λ v. v || list_any (λ y. clash y (record { kind = kind.Rate; arguments = u ∷ id ∷ s ∷ [] })) is) none ∙ unused is u id s (omega arith)
 
 pub fresh : (is : List Item) → (id : Word) × ((u s : Word) → list_any (λ y. clash y (record { kind = kind.Rate; arguments = u ∷ id ∷ s ∷ [] })) is ≡ false)

@@ -10,7 +10,7 @@ use Rattle.zi_words.specs.Demo.{AsksDemo}
 use Rattle.zi_words.specs.Refused.{Asks, LeftAt, Refused}
 use Rattle.zi_words.specs.Taken.{IsEnded}
 use Rattle.zi_words.proofs.LeftLemmas.{stuck, short}
-use Rattle.zi_words.proofs.OptionLemmas.{head_same}
+use Rattle.zi_text.proofs.ListLaws.{head_same}
 
 number_one : demo_number (codes "1") ≡ Some 1
 unfolding demo_number

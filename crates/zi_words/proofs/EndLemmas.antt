@@ -16,8 +16,9 @@ use Rattle.zi_words.specs.Refused.{Asks, LeftAt, Refused}
 use Rattle.zi_words.specs.Taken.{NoOption, Gathers, IsEnd, PastDashes}
 use Rattle.zi_words.proofs.LeftLemmas.{behind, alike, stuck, short, stuck_with, stopped}
 use Rattle.zi_words.proofs.KindLemmas.{not_dashes, dashes_address}
-use Rattle.zi_words.proofs.OptionLemmas.{After, live, names, just_many, names_many, root_address, head_same}
+use Rattle.zi_words.proofs.OptionLemmas.{After, live, names, just_many, names_many, root_address}
 use Rattle.zi_words.proofs.TurnLemmas.{lifted}
+use Rattle.zi_text.proofs.ListLaws.{head_same}
 
 begun : (l : Loader) → BeginsRight (Asks (IsEnd l)) []
 begun l = (codes "/" ∷ names l, ((codes "/", names l), (refl, root_address, names_many l)))

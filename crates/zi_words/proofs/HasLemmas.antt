@@ -9,6 +9,7 @@ use Rattle.std.specs.Cmp.Lexicographic.{slice_cmp}
 use Rattle.std.specs.BTreeSet.{BTreeSet}
 use Rattle.std.proofs.lemmas.List.{append-nil}
 use Rattle.std.proofs.lemmas.Map.Text.{is_eq-slice_cmp}
+use Rattle.std.proofs.lemmas.List.Folds.{or-false, and-true}
 use Rattle.zi_words.specs.declared.kind.Kind.{Kind}
 use Rattle.zi_words.specs.declared.kind.Kind.TheVariants as kind
 use Rattle.zi_words.specs.declared.loader.Loader.{Loader}
@@ -17,7 +18,10 @@ use Rattle.zi_words.specs.Forms.{Word, Form, Level, Network', Budget, Is, Are}
 use Rattle.zi_words.specs.Options.{Item, Once, OncePerPair, Often, AreItems, forms, rule_of, alike, first, second, clash, clash_by, set, nothing, gathered}
 use Rattle.zi_words.specs.Taken.{Key, key_cmp, holds, IsKey, SamePairs, AddsPair, AddsBy, has}
 use Rattle.zi_words.proofs.OptionLemmas.{gathered-none, gathered-more}
-use Rattle.zi_words.proofs.ClashLemmas.{or_none, or_true, and_false, and_true, any_push, any_same, any_never}
+use Rattle.zi_words.proofs.ClashLemmas.{any_same, any_never}
+use Rattle.zi_version.proofs.Steps.{and-false}
+use Rattle.zi_version.proofs.SpanLemmas.{or_assoc}
+use Rattle.zi_text.proofs.ListLaws.{or_true, both_equal, any_push}
 
 first_is : (f : Form) (fs : List Form) (args : List Word) → Are (f ∷ fs) args → Is f (first args)
 first_is f fs [] h = absurd h
@@ -27,39 +31,35 @@ first_is f fs (w ∷ args) h = h.0
 has_set : (k i : Kind) (args : List Word) (a : Asked) → rule_of k ≡ Once → Are (forms i) args → has k (set i args a) ≡ (has k a || alike i k)
 has_set kind.Command kind.Command args a h m = sym (or_true (is_some a.command))
 has_set kind.Command kind.NoCommand args a h m = sym (or_true (is_some a.command))
-has_set kind.Command i args a h m = sym (or_none (is_some a.command))
+has_set kind.Command i args a h m = sym (or-false (is_some a.command))
 has_set kind.NoCommand kind.Command args a h m = sym (or_true (is_some a.command))
 has_set kind.NoCommand kind.NoCommand args a h m = sym (or_true (is_some a.command))
-has_set kind.NoCommand i args a h m = sym (or_none (is_some a.command))
+has_set kind.NoCommand i args a h m = sym (or-false (is_some a.command))
 has_set kind.Version kind.Version args a h m = sym (or_true a.version)
-has_set kind.Version i args a h m = sym (or_none a.version)
+has_set kind.Version i args a h m = sym (or-false a.version)
 has_set kind.VersionFor i args a h m = cc
 has_set kind.Os kind.Os args a h m = sym (or_true (is_some a.os))
-has_set kind.Os i args a h m = sym (or_none (is_some a.os))
+has_set kind.Os i args a h m = sym (or-false (is_some a.os))
 has_set kind.Cpu kind.Cpu args a h m = sym (or_true (is_some a.cpu))
-has_set kind.Cpu i args a h m = sym (or_none (is_some a.cpu))
+has_set kind.Cpu i args a h m = sym (or-false (is_some a.cpu))
 has_set kind.Lang i args a h m = cc
 has_set kind.Level kind.Level args a h m = first_is Level [] args m ∙ sym (or_true (is_some a.level))
-has_set kind.Level i args a h m = sym (or_none (is_some a.level))
+has_set kind.Level i args a h m = sym (or-false (is_some a.level))
 has_set kind.Network kind.Network args a h m = first_is Network' [] args m ∙ sym (or_true (is_some a.network))
-has_set kind.Network i args a h m = sym (or_none (is_some a.network))
+has_set kind.Network i args a h m = sym (or-false (is_some a.network))
 has_set kind.Use i args a h m = cc
 has_set kind.Rate i args a h m = cc
 has_set kind.Search kind.Search args a h m = first_is Budget [] args m ∙ sym (or_true (is_some a.search))
-has_set kind.Search i args a h m = sym (or_none (is_some a.search))
+has_set kind.Search i args a h m = sym (or-false (is_some a.search))
 has_set kind.Proof kind.Proof args a h m = sym (or_true a.proof)
-has_set kind.Proof i args a h m = sym (or_none a.proof)
-
-or_more : (a b c : Bool) → ((a || b) || c) ≡ (a || (b || c))
-or_more true b c = refl
-or_more false b c = refl
+has_set kind.Proof i args a h m = sym (or-false a.proof)
 
 has_fold : (l : Loader) (k : Kind) (is : List Item) (a : Asked) → rule_of k ≡ Once → AreItems l is
     → has k (fold (λ (b : Asked) (i : Item). set i.kind i.arguments b) a is) ≡ (has k a || list_any (λ i. alike i.kind k) is)
-has_fold l k [] a h items = sym (or_none (has k a))
+has_fold l k [] a h items = sym (or-false (has k a))
 has_fold l k (i ∷ is) a h items =
     has_fold l k is (set i.kind i.arguments a) h items.1
-    ∙ (ap (λ v. v || list_any (λ (j : Item). alike j.kind k) is) (has_set k i.kind i.arguments a h items.0.1) ∙ or_more (has k a) (alike i.kind k) (list_any (λ (j : Item). alike j.kind k) is))
+    ∙ (ap (λ v. v || list_any (λ (j : Item). alike j.kind k) is) (has_set k i.kind i.arguments a h items.0.1) ∙ or_assoc (has k a) (alike i.kind k) (list_any (λ (j : Item). alike j.kind k) is))
 
 has_nothing : (k : Kind) → has k nothing ≡ false
 has_nothing kind.Command = refl
@@ -106,7 +106,7 @@ has_once kind.Proof a h = refl
 
 -- one that may stand once clashes with those of its kind
 pub clash_once : (k : Kind) (args : List Word) → rule_of k ≡ Once → (y : Item) → clash y (record { kind = k; arguments = args }) ≡ alike y.kind k
-clash_once k args h y = ap (λ r. alike y.kind k && clash_by r y.arguments args) h ∙ and_true (alike y.kind k)
+clash_once k args h y = ap (λ r. alike y.kind k && clash_by r y.arguments args) h ∙ and-true (alike y.kind k)
 
 pub once_free : (l : Loader) (before : List Item) (k : Kind) (args : List Word) → rule_of k ≡ Once → AreItems l before → has k (gathered before) ≡ false
     → list_any (λ y. clash y (record { kind = k; arguments = args })) before ≡ false
@@ -124,7 +124,7 @@ once_taken l before k args h items some =
 pub often_free : (before : List Item) (k : Kind) (args : List Word) → rule_of k ≡ Often → list_any (λ y. clash y (record { kind = k; arguments = args })) before ≡ false
 often_free before k args h =
     any_never (λ (y : Item). clash y (record { kind = k; arguments = args }))
-    (λ y. ap (λ r. alike y.kind k && clash_by r y.arguments args) h ∙ and_false (alike y.kind k)) before
+    (λ y. ap (λ r. alike y.kind k && clash_by r y.arguments args) h ∙ and-false (alike y.kind k)) before
 
 -- the rating of a key
 abbrev pub rating : Key → Item
@@ -133,11 +133,6 @@ rating q = record { kind = kind.Rate; arguments = q.0.now ∷ q.1.now ∷ [] }
 -- the set has the pairs of these options
 abbrev pub Told : List Item → BTreeSet Key → Type 0
 Told is pairs = (q : Key) → holds pairs q ≡ list_any (λ i. clash i (rating q)) is
-
-both_equal : (a b : Ordering) → is_eq (ordering_then a b) ≡ (is_eq a && is_eq b)
-both_equal Less b = refl
-both_equal Equal b = refl
-both_equal Greater b = refl
 
 key_equal : (k q : Key) (u v : Word) → IsKey k u v → is_eq (key_cmp k q) ≡ (bytes_eq u q.0.now && bytes_eq v q.1.now)
 key_equal k q u v (e, f) =
@@ -150,7 +145,7 @@ told_kept : (before : List Item) (k : Kind) (args : List Word) (old new : BTreeS
 told_kept before k args old new other kept told q =
     let i : Item = record { kind = k; arguments = args } in
     let none : clash i (rating q) ≡ false = ap (λ v. v && clash_by OncePerPair args (rating q).arguments) other in
-    kept q ∙ (told q ∙ sym (any_push (λ (j : Item). clash j (rating q)) before i ∙ (ap (λ v. list_any (λ (j : Item). clash j (rating q)) before || v) none ∙ or_none (list_any (λ (j : Item). clash j (rating q)) before))))
+    kept q ∙ (told q ∙ sym (any_push (λ (j : Item). clash j (rating q)) before i ∙ (ap (λ v. list_any (λ (j : Item). clash j (rating q)) before || v) none ∙ or-false (list_any (λ (j : Item). clash j (rating q)) before))))
 
 told_added : (before : List Item) (args : List Word) (old new : BTreeSet Key) → AddsPair args old new → Told before old
     → Told (before ++ record { kind = kind.Rate; arguments = args } ∷ []) new

@@ -6,6 +6,7 @@ use Rattle.zi_words.specs.declared.kind.Kind.{Kind}
 use Rattle.zi_words.specs.declared.kind.Kind.TheVariants as kind
 use Rattle.zi_words.specs.Forms.{Word, is_address}
 use Rattle.zi_words.specs.Options.{name_of}
+use Rattle.zi_text.proofs.ListLaws.{bytes_itself}
 
 -- the option of a word, where it is one
 found : Word → Kind
@@ -43,12 +44,9 @@ found_name kind.Proof = refl
 pub same_name : (k l : Kind) → name_of k ≡ name_of l → k ≡ l
 same_name k l e = sym (found_name k) ∙ (ap found e ∙ found_name l)
 
-pub bytes_same : (w : List ℕ) → bytes_eq w w ≡ true
-bytes_same w = (bytes_eq-Decides w w).1 refl
-
 -- words that a test tells apart are no one word
 pub not_same : (u v : Word) → bytes_eq u v ≡ false → u ≡ v → ⊥
-not_same u v f e = let g : false ≡ true = sym f ∙ (ap (bytes_eq u) (sym e) ∙ bytes_same u) in cc
+not_same u v f e = let g : false ≡ true = sym f ∙ (ap (bytes_eq u) (sym e) ∙ bytes_itself u) in cc
 
 pub not_dashes : (k : Kind) → name_of k ≡ codes "--" → ⊥
 not_dashes kind.Command e = cc

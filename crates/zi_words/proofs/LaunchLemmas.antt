@@ -8,7 +8,7 @@ use Rattle.zi_words.specs.Forms.{Word}
 use Rattle.zi_words.specs.Launch.{AsksLaunch}
 use Rattle.zi_words.specs.Refused.{Asks, LeftAt}
 use Rattle.zi_words.proofs.LeftLemmas.{short}
-use Rattle.zi_words.proofs.OptionLemmas.{head_same}
+use Rattle.zi_text.proofs.ListLaws.{head_same}
 
 begins_launch : BeginsRight (Asks AsksLaunch) []
 begins_launch = (codes "f" ∷ [], (request.Launch (codes "f") [], (codes "f", [], refl, refl)))

@@ -3,7 +3,6 @@ pub mod ClashLemmas
 pub mod KindLemmas
 pub mod OptionLemmas
 pub mod BreakLemmas
-pub mod NumeralLemmas
 pub mod TakenLemmas
 pub mod HasLemmas
 pub mod RateLemmas

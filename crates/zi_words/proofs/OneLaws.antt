@@ -13,12 +13,13 @@ use Rattle.zi_words.specs.Options.{spelled, gathered}
 use Rattle.zi_words.specs.Store.{word_of, AsksManifest, AsksAdd, AsksVerify, AsksStore}
 use Rattle.zi_words.specs.Words.{EndsOptions, asking, AsksLoading, Right}
 use Rattle.zi_words.proofs.KindLemmas.{dashes_address}
-use Rattle.zi_words.proofs.OptionLemmas.{after_none, all_in, no_option_ends, head_same}
+use Rattle.zi_words.proofs.OptionLemmas.{after_none, all_in, no_option_ends}
 use Rattle.zi_words.proofs.EndLemmas.{ends_next}
 use Rattle.zi_words.proofs.StoreLemmas.{store_add_only, store_verify_only, store_list_only}
 use Rattle.zi_words.proofs.DemoLemmas.{one_demo}
 use Rattle.zi_words.proofs.LaunchLemmas.{one_launch}
 use Rattle.zi_words.proofs.RightLemmas.{loading_only, manifest_only, store_only, demo_only, launch_only, help_only, version_only}
+use Rattle.zi_text.proofs.ListLaws.{head_same}
 
 -- the root of an end, and what stands behind it
 one_end : (ends : List Word) (root other : Word) (named others : List Word) → EndsOptions ends → is_address root ≡ true → is_address other ≡ true

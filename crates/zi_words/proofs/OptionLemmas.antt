@@ -20,6 +20,7 @@ use Rattle.zi_words.specs.Words.{EndsOptions, count_of, takes_more, AreMany, Has
 use Rattle.zi_words.specs.Refused.{Asks}
 use Rattle.zi_words.proofs.ClashLemmas.{clash_push}
 use Rattle.zi_words.proofs.KindLemmas.{same_name, not_dashes, not_address}
+use Rattle.zi_text.proofs.ListLaws.{head_same}
 
 -- behind these options of a command: more of them, and the end
 pub record After (l : Loader) (before : List Item) (ws : List Word) (r : Request) : Type 0 where
@@ -64,9 +65,6 @@ none_after l ws r a = record {
   many = a.many;
   asked = a.asked;
 }
-
-pub head_same : {X : Type 0} (x y : X) (xs ys : List X) → x ∷ xs ≡ y ∷ ys → (x ≡ y) × (xs ≡ ys)
-head_same x y xs ys e = (cc, cc)
 
 -- as many words as forms
 pub are_many : (fs : List Form) (ws : List Word) → Are fs ws → length ws ≡ length fs

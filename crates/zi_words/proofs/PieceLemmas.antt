@@ -8,24 +8,7 @@ use denote.Ref.{Bor}
 use Rattle.zi_text.specs.Pieces.{pieces}
 use Rattle.zi_words.specs.Forms.{Word}
 use Rattle.zi_words.specs.Store.{last_of, last_part}
-
--- c stands nowhere in the text
-abbrev Lacks : ℕ → List ℕ → Type 0
-Lacks c xs = (i : ℕ) → i < length xs → get_or xs i 0 ≢ c
-
-lacks-tail : (c x : ℕ) (xs : List ℕ) → Lacks c (x ∷ xs) → Lacks c xs
-lacks-tail c x xs h i lt = h (suc i) (omega arith)
-
-differs : (c x : ℕ) (xs : List ℕ) → Lacks c (x ∷ xs) → (x == c) ≡ false
-differs c x xs h = let ne : x ≢ c = h 0 (omega arith) in grind (arith, nat_tests)
-
-pieces-none : (c : ℕ) (xs : List ℕ) → Lacks c xs → pieces c xs ≡ (xs, [])
-pieces-none c [] h = refl
-pieces-none c (x ∷ xs) h = rw (differs c x xs h, pieces-none c xs (lacks-tail c x xs h)) refl
-
-pieces-first : (c : ℕ) (xs ys : List ℕ) → Lacks c xs → pieces c (xs ++ c ∷ ys) ≡ (xs, (pieces c ys).0 ∷ (pieces c ys).1)
-pieces-first c [] ys h = let e : (c == c) ≡ true = grind (arith, nat_tests) in rw e refl
-pieces-first c (x ∷ xs) ys h = rw (differs c x xs h, pieces-first c xs ys (lacks-tail c x xs h)) refl
+use Rattle.zi_text.proofs.PieceLaws.{pieces-none, pieces-first}
 
 part_behind : (text before behind : Word) → pieces 47 text ≡ (before, (pieces 47 behind).0 ∷ (pieces 47 behind).1) → last_part text ≡ last_part behind
 unfolding last_part

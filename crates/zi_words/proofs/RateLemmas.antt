@@ -13,9 +13,10 @@ use Rattle.zi_words.specs.Refused.{Asks, LeftAt}
 use Rattle.zi_words.specs.Taken.{Misses, Key, holds, IsKey, BreaksOff, BreaksRate, BreaksBy, has}
 use Rattle.zi_words.proofs.LeftLemmas.{stuck}
 use Rattle.zi_words.proofs.ClashLemmas.{clash_found}
-use Rattle.zi_words.proofs.OptionLemmas.{After, First, first_of_after, live, head_same}
+use Rattle.zi_words.proofs.OptionLemmas.{After, First, first_of_after, live}
 use Rattle.zi_words.proofs.BreakLemmas.{example_is, break_at, break_off, fresh}
 use Rattle.zi_words.proofs.HasLemmas.{has_once, once_taken, once_free, often_free, Told, rate_clash}
+use Rattle.zi_text.proofs.ListLaws.{head_same}
 
 -- what clashes doesn't come next
 no_clash : (l : Loader) (before : List Item) (k : Kind) (u : List Word) (r : Request) (f : First l before k u r)

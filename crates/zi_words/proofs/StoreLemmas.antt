@@ -5,6 +5,7 @@ use Rattle.std.proofs.lemmas.Grind.{common_steps}
 use Rattle.std.specs.List.{list_all}
 use Rattle.std.proofs.lemmas.List.{append-nil}
 use Rattle.std.proofs.lemmas.List.Folds.{list_all-append}
+use Rattle.std.proofs.lemmas.Bool.{and_parts}
 use Rattle.zi_text.specs.Front.{BeginsRight}
 use Rattle.zi_digest.specs.Name.{spelling, IsDigest}
 use Rattle.zi_digest.specs.declared.Algorithm.{Algorithm}
@@ -20,7 +21,7 @@ use Rattle.zi_words.specs.Store.{word_of, is_name, is_file, AsksManifest, AsksAd
 use Rattle.zi_words.specs.Refused.{Asks, LeftAt, Refused}
 use Rattle.zi_words.specs.Taken.{IsSpelled, MissesDigest, AreFiles, IsEnded}
 use Rattle.zi_words.proofs.LeftLemmas.{behind, stuck, short}
-use Rattle.zi_words.proofs.OptionLemmas.{head_same}
+use Rattle.zi_text.proofs.ListLaws.{head_same}
 
 -- files
 
@@ -52,14 +53,6 @@ pub files_done : (ws left files : List Word) → FilesRead ws left files → len
 files_done ws [] files f e = let g : ws ≡ files = f.are ∙ append-nil files in (sym g, ap (list_all is_file) g ∙ f.all)
 files_done ws (w ∷ left) files f e = absurd (omega arith)
 
-and_left : (a b : Bool) → (a && b) ≡ true → a ≡ true
-and_left true b h = refl
-and_left false b h = cc
-
-and_right : (a b : Bool) → (a && b) ≡ true → b ≡ true
-and_right true b h = h
-and_right false b h = cc
-
 pub files_wrong : (ws left rest files : List Word) (w : Word) → FilesRead ws left files → left ≡ w ∷ rest → is_file w ≡ false → LeftAt (Asks AreFiles) ws (length left)
 files_wrong ws left rest files w f e h =
     let g : ws ≡ files ++ w ∷ rest = f.are ∙ ap (λ v. files ++ v) e in
@@ -72,9 +65,9 @@ files_wrong ws left rest files w f e h =
     wrong more a =
         let b = list_all-append is_file (files ++ w ∷ []) more in
         let c = list_all-append is_file files (w ∷ []) in
-        let d = and_left (list_all is_file (files ++ w ∷ [])) (list_all is_file more) (sym b ∙ a) in
-        let i = and_right (list_all is_file files) (is_file w && true) (sym c ∙ d) in
-        let j : false ≡ true = sym h ∙ and_left (is_file w) true i in
+        let d = (and_parts (list_all is_file (files ++ w ∷ [])) (list_all is_file more) (sym b ∙ a)).0 in
+        let i = (and_parts (list_all is_file files) (is_file w && true) (sym c ∙ d)).1 in
+        let j : false ≡ true = sym h ∙ (and_parts (is_file w) true i).0 in
         cc
 
 -- digests

@@ -26,20 +26,6 @@ range_is w r e = mapped (λ ranges. Any ranges) (expression w) r e
 pub is_there : {X : Type 0} (o : Option X) (x : X) → o ≡ Some x → is_some o ≡ true
 is_there o x e = ap is_some e
 
-pub not_false : (b : Bool) → false ≡ not b → b ≡ true
-not_false true h = refl
-not_false false h = cc
-
-pub not_true : (b : Bool) → true ≡ not b → b ≡ false
-not_true true h = cc
-not_true false h = refl
-
-pub cond_or : (a b : Bool) → cond a true b ≡ (b || a)
-cond_or true true = refl
-cond_or true false = refl
-cond_or false true = refl
-cond_or false false = refl
-
 -- a rating that is no stability
 pub unrated : (old new : Asked) (pairs more : BTreeSet Key) (ws rest last : List Word) (u id : Word) (key : Key) (f : Refusal)
     → ws ≡ u ∷ rest → is_address u ≡ true → rest ≡ id ∷ last → IsKey key u id → holds pairs key ≡ false → MissesWith Rating last f

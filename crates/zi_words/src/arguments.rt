@@ -1,10 +1,8 @@
 //! The words that stand behind an option or a command, each by its form.
 
-ghost use Rattle.std.specs.Prelude.{◌≡◌, ◌≢◌, [], ◌∷◌, ◌||◌, ◌&&◌, nat_lt, ◌^◌, if◌then◌else◌, true, Some, None, codes, MatchResult};
-ghost use Rattle.std.specs.Char.{is_ascii_digit};
+ghost use Rattle.std.specs.Prelude.{◌≡◌, ◌≢◌, [], ◌∷◌, ◌||◌, ◌&&◌, true, Some, None, codes, MatchResult};
 ghost use Rattle.std.specs.List.{list_all};
 ghost use Rattle.std.specs.Str.{chars};
-ghost use Rattle.zi_text.specs.Numeral.{number_from, numeral};
 ghost use Rattle.zi_version.specs.Range.{range_of};
 ghost use Rattle.zi_policy.specs.Stabilities.{stability_of};
 ghost use Rattle.zi_words.specs.Forms.{Word, begins, is_carried, is_address, level_of, network_of, budget_of, demo_number, Address, Name, Range as ARange, Level, «Network'», Rating, Budget};
@@ -13,7 +11,7 @@ ghost use Rattle.zi_words.specs.Taken.{MissesWith};
 use crate::refusal::Refusal;
 use std::alloc::Global;
 use zi_policy::{Network, Stability};
-use zi_text::Text;
+use zi_text::{Text, numeral};
 use zi_version::{Range, RangeFault};
 
 // The greatest number of lemmas that may be asked for.
@@ -160,33 +158,6 @@ pub fn network<'a>(words: &'a [Text]) -> Result<(Network, &'a [Text]), Refusal>
             None => Err(Refusal::Left(words.len())),
         },
     }
-}
-
-// The number that decimal digits stand for, where it is below 2^64.
-fn number(text: &[u8]) -> Option<u64>
-    ensures { result ≡ (if list_all is_ascii_digit text.now && nat_lt (number_from 0 text.now) (2 ^ 64)
-        then Some (number_from 0 text.now) else None) }
-{
-    let mut number = 0u64;
-    for digit in text {
-        if !digit.is_ascii_digit() {
-            return None;
-        }
-        number = number
-            .checked_mul(10)?
-            .checked_add(u64::from(*digit - b'0'))?;
-    }
-    Some(number)
-}
-
-// The number of one or more decimal digits, where it is below 2^64.
-fn numeral(text: &str) -> Option<u64>
-    ensures { result ≡ numeral text.now }
-{
-    if text.is_empty() {
-        return None;
-    }
-    number(text.as_bytes())
 }
 
 /// The number of a demonstration that a word says.

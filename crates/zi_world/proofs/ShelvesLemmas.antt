@@ -5,6 +5,7 @@ use Rattle.zi_shelf.specs.declared.call.CallKind.{CallKind}
 use Rattle.zi_store.specs.Keeping.{Keeps}
 use Rattle.zi_world.specs.Shelves.{Untouched, Lasts}
 use Rattle.zi_world.specs.World.{World, NothingDone}
+use Rattle.zi_text.proofs.ListLaws.{some_is}
 
 stays_same : (shelf : Shelving) → Stays shelf shelf
 stays_same shelf = record { honest = λ h. h; sure = λ s. s; in_memory = λ m. m; root = refl; plan = refl }
@@ -14,9 +15,6 @@ untouched shelf = record { told = refl; faults = refl; stays = stays_same shelf 
 
 pub nothing_done : (world : World) → NothingDone world world
 nothing_done world = record { feeds = refl; shelf = untouched world.shelf; out = refl }
-
-pub some_is : {X : Type 0} (o : Option X) (x : X) → o ≡ Some x → IsSome o
-some_is o x e = subst (λ p. IsSome p) (sym e) refl
 
 pub untouched_lasts : (before after : Shelving) → Untouched before after → Lasts before after
 untouched_lasts before after u = record { tells = λ s h e. some_is after.told s (u.told ∙ e); later = omega (arith, u.faults); stays = u.stays }

@@ -32,14 +32,9 @@ use Rattle.zi_written_laws.proofs.PartLaws.{IsCarriedCommand}
 use Rattle.zi_written_laws.proofs.UniverseLaws.{IsKept, IsCarriedCandidate, IsCarriedInterface, loaded_carried}
 use Rattle.zi_written_laws.proofs.MadeLaws.{IsCarriedItem, made_carried}
 use Rattle.zi_written_laws.proofs.WrittenLaws.{tree_stands}
+use Rattle.zi_sels_laws.proofs.ChosenLaws.{chosen_given}
 
 -- What is chosen is a candidate of a loaded interface.
-
-chosen_given : (u : List Interface) (s : Choice) (j : ℕ) (k : Candidate) → Each AreGivenIn u → chosen u s j ≡ Some k → IsGivenCandidate k
-chosen_given u s j k h e =
-    let c = chosen_from u s j k e in
-    let x = interface_at u j c.0 k c.2 in
-    each_at IsGivenCandidate x.0.candidates c.0 k (each_at AreGivenIn u j x.0 h x.1) x.2
 
 chosen_carried : (u : List Interface) (s : Choice) (j : ℕ) (k : Candidate) → Each IsCarriedInterface u → chosen u s j ≡ Some k → IsCarriedCandidate k
 chosen_carried u s j k h e =

@@ -1,21 +1,20 @@
 -- Texts that XML can carry: as a test, of ASCII, and cut at a separator.
 use Rattle.std.specs.Prelude.{IsUtf8, encode_utf8, encode_utf8_all, if◌then◌else◌, unwrap_or}
-use Rattle.std.proofs.Common.{◌≡◌, ℕ, ◌<◌, ◌≤◌, Bool, true, false, ◌&&◌, ◌==◌, cond, ltb, nat_le, List, [], ◌∷◌, ◌++◌, Option, Some, None, refl, sym, ap, ◌∙◌, subst, arith}
+use Rattle.std.proofs.Common.{◌≡◌, ℕ, ◌<◌, ◌≤◌, Bool, true, false, ◌&&◌, ◌==◌, cond, ltb, nat_le, List, [], ◌∷◌, ◌++◌, Option, Some, None, refl, sym, ap, ◌∙◌, subst, arith, append-nil}
 use Rattle.std.specs.List.{list_all}
 use Rattle.std.specs.Option.{option_or}
 use Rattle.std.specs.Str.{chars, is_utf8}
 use Rattle.std.proofs.Math.Utf8.{encode, scalar, scalars}
 use Rattle.std.proofs.lemmas.Str.{encodes-chars, chars-encodes, is_utf8-from_IsUtf8}
 use Rattle.std.proofs.lemmas.Bool.Decides.{nat_tests}
-use Rattle.std.proofs.lemmas.Bool.{and_from, and_parts}
+use Rattle.std.proofs.lemmas.Bool.{and_from, and_parts, both_ways}
 use Rattle.zi_text.specs.Pieces.{pieces}
 use Rattle.zi_xml.specs.Chars.{is_char}
 use Rattle.zi_xml.specs.Syntax.{AllAre}
-use Rattle.zi_xml.proofs.CharLemmas.{append_none}
 use Rattle.zi_doc_laws.specs.Trees.{IsCarried}
 use Rattle.zi_doc_laws.proofs.CarriedLaws.{none_carried, both_carried}
 use Rattle.zi_docout.specs.Amiss.{is_carried}
-use Rattle.zi_docout.proofs.BitLemmas.{is_ascii, ascii}
+use Rattle.zi_docout.proofs.BitLemmas.{is_ascii, ascii, pick}
 use Rattle.zi_docout.proofs.FineLemmas as fine
 use Rattle.zi_address.specs.Texts.{pieces_of}
 use Rattle.zi_sels_laws.proofs.LikeLaws.{Each}
@@ -82,18 +81,10 @@ abbrev NoneIs : ℕ → List ℕ → Type 0
 NoneIs c [] = Unit {0}
 NoneIs c (b ∷ bs) = ((b == c) ≡ false) × NoneIs c bs
 
-pick : (P : List ℕ → Type 0) (b : Bool) (x y : List ℕ) → (b ≡ true → P x) → (b ≡ false → P y) → P (cond b x y)
-pick P true x y f g = f refl
-pick P false x y f g = g refl
-
-clash : (b : Bool) → b ≡ true → b ≡ false → ⊥
-clash true h k = cc
-clash false h k = cc
-
 high_none : (c x : ℕ) → c < 128 → ltb x 128 ≡ false → NoneIs c (encode x)
 unfolding encode
 high_none c x low high =
-    pick (NoneIs c) (ltb x 128) _ _ (λ e. absurd (clash (ltb x 128) e high))
+    pick (NoneIs c) (ltb x 128) _ _ (λ e. absurd (both_ways (ltb x 128) high e))
     (λ _. pick (NoneIs c) (ltb x 2048) _ _ (λ _. (other _ (omega arith), (other _ (omega arith), tt)))
     (λ _. pick (NoneIs c) (ltb x 65536) _ _ (λ _. (other _ (omega arith), (other _ (omega arith), (other _ (omega arith), tt))))
     (λ _. (other _ (omega arith), (other _ (omega arith), (other _ (omega arith), (other _ (omega arith), tt)))))))
@@ -138,7 +129,7 @@ all_carried c low [] h = (none_carried, tt)
 all_carried c low (x ∷ cs) h = by (ltb x 128) refl (all_carried c low cs h.1)
   where
     one : IsCarried (encode_utf8 x)
-    one = record { chars = x ∷ []; bytes = sym (append_none (encode_utf8 x)); right = (h.0, tt) }
+    one = record { chars = x ∷ []; bytes = sym (append-nil (encode_utf8 x)); right = (h.0, tt) }
 
     by : (b : Bool) → ltb x 128 ≡ b → AreCarried (pieces c (encode_utf8_all cs)) → AreCarried (pieces c (encode_utf8 x ++ encode_utf8_all cs))
     by true e k =

@@ -2,7 +2,7 @@
 use Rattle.std.specs.Prelude.{◌≢◌, if◌then◌else◌, bytes_eq, MatchOption}
 use Rattle.std.proofs.Common.{◌≡◌, ℕ, zero, suc, ◌+◌, ◌<◌, ◌≤◌, Bool, true, false, ◌||◌, List, [], ◌∷◌, ◌++◌, length, take, map, get_or, Option, Some, None, refl, sym, ap, ◌∙◌, subst, add-one, arith}
 use Rattle.std.specs.List.{AllZip, flat_map, filter, list_any}
-use Rattle.std.proofs.lemmas.List.{take_all, take_more}
+use Rattle.std.proofs.lemmas.List.{take_all, take_more, length-map}
 use Rattle.zi_policy.specs.declared.types.Policy.{Policy}
 use Rattle.zi_policy.specs.Platform.{listed, is_active}
 use Rattle.zi_outside.specs.Views.{Holding}
@@ -22,7 +22,7 @@ use Rattle.zi_feed.specs.Active.{active_command, active_part}
 use Rattle.zi_universe.specs.Candidates.{Store, is_followed, imports_of, standing_of, offered_from, offered_by, is_admitted, admitted_by, admitted, asks, asked, asked_by_runner, asked_by_command, asked_by_impl, asked_by}
 use Rattle.zi_universe.specs.Whole.{uris_of, feed_limit}
 use Rattle.zi_universe.specs.Loading.{Reading, Says, no_feed, IsRead, IsInterface, reached, Loads}
-use Rattle.zi_universe.proofs.NamingLemmas.{all_of-append, joined-append, at_stage, length-map, listed-Contains, listed-cons, listed-without_repeats, bytes_eq-refl}
+use Rattle.zi_universe.proofs.NamingLemmas.{all_of-append, joined-append, at_stage, listed-Contains, listed-cons, listed-without_repeats, bytes_eq-refl}
 use Rattle.zi_doc_laws.specs.Trees.{IsCarried, HasCarriedTexts}
 use Rattle.zi_xml.specs.Documents.{Spells}
 use Rattle.zi_elements.specs.declared.element.Element.{Element}
@@ -32,6 +32,7 @@ use Rattle.zi_sels_laws.proofs.EachLaws.{each_permuted}
 use Rattle.zi_written_laws.proofs.ElemLaws.{root_carried}
 use Rattle.zi_written_laws.proofs.PartLaws.{IsCarriedDep, IsCarriedRunner, IsCarriedCommand}
 use Rattle.zi_written_laws.proofs.ImplLaws.{IsCarriedImpl, IsCarriedFeed, feed_carried}
+use Rattle.zi_sels_laws.proofs.LoadedLaws.{each_listed, each_reached}
 
 -- What is so of the first of a list that grows by what its members name, and of all that a member names of which it is so, is so of all.
 
@@ -175,7 +176,7 @@ module _ (kept : IsKept) (told : Option Holding) (req : Requirement) (p : Policy
       let f : Uri → Uris = λ y. imports_of p (at y) in
       named_all IsCarried first (map f feeds) feeds closed u
       (λ k lt here.
-      let within : k < length feeds = omega (arith, lt, length-map f feeds) in
+      let within : k < length feeds = omega (arith, lt, length-map feeds f) in
       let Q : Uris → Type 0 = λ v. Each IsCarried v in
       let y : Uri = get_or feeds k first in
       subst Q (sym (mapped_get f feeds k first within)) (imports_carried p (at y) (read_carried kept told req.interface y (at y) (each_get IsReadAt feeds k first read within) here)))
@@ -213,22 +214,11 @@ both_carried : (is : List Interface) → Each (λ (i : Interface). IsCarried i.u
 both_carried [] h k = tt
 both_carried (i ∷ is) h k = (record { uri = k.0; candidates = h.0 k.0 }, both_carried is h.1 k.1)
 
--- each of some addresses is listed among them
-each_listed : (xs : Uris) → Each (λ y. listed y xs ≡ true) xs
-each_listed [] = tt
-each_listed (x ∷ xs) =
-    (ap (λ b. b || list_any (bytes_eq x) xs) (bytes_eq-refl x), each_weak (λ y. listed y xs ≡ true) (λ y. listed y (x ∷ xs) ≡ true) (λ y h. listed-cons y x xs h) xs (each_listed xs))
-
-each_reached : (groups : List Uris) → Each (λ g. Each (λ y. listed y (reached groups) ≡ true) g) groups
-each_reached groups =
-    each_of_flat (λ y. listed y (reached groups) ≡ true) (λ xs. xs) groups
-    (each_weak (λ y. listed y (all_of groups) ≡ true) (λ y. listed y (reached groups) ≡ true) (λ y h. listed-without_repeats y (all_of groups) ∙ h) (all_of groups) (each_listed (all_of groups)))
-
 pub loaded_carried : IsKept → (told : Option Holding) (req : Requirement) (p : Policy) (st : Store) (u : List Interface) → IsCarried req.interface → Loads told req p st u → Each IsCarriedInterface u
 loaded_carried kept told req p st u root l =
     let feeds = each_weak (λ g. Each (λ y. listed y (reached l.groups) ≡ true) g) (λ g. Each (λ y. IsRead told req.interface y (l.at y)) g)
     (λ g h. each_weak (λ y. listed y (reached l.groups) ≡ true) (λ y. IsRead told req.interface y (l.at y)) (λ y k. l.read y (listed-Contains y (reached l.groups) k)) g h) l.groups (each_reached l.groups) in
     let carry = interfaces_carry kept told req p st l.at l.groups u l.universe.each feeds in
     let all : Each IsCarried (uris_of u) = named_all IsCarried req.interface (map asked_by u) (uris_of u) l.universe.named root
-    (λ k lt here. carried_asks u k req.interface carry (omega (arith, lt, length-map asked_by u)) here) in
+    (λ k lt here. carried_asks u k req.interface carry (omega (arith, lt, length-map u asked_by)) here) in
     both_carried u carry all

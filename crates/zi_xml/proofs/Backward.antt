@@ -1,14 +1,16 @@
 -- What the reader reads to its end is written as a parse tree.
-use Rattle.std.proofs.Common.{◌≡◌, ℕ, ◌+◌, ◌*◌, ◌==◌, ◌&&◌, Bool, true, false, List, [], ◌∷◌, ◌++◌, Option, Some, None, cond, refl, sym, ap, ◌∙◌, subst, append_assoc, arith, ◌⊎◌, inl, inr}
+use Rattle.std.proofs.Common.{◌≡◌, ℕ, ◌+◌, ◌*◌, ◌==◌, ◌&&◌, Bool, true, false, List, [], ◌∷◌, ◌++◌, Option, Some, None, cond, refl, sym, ap, ◌∙◌, subst, append_assoc, arith, ◌⊎◌, inl, inr, append-nil}
 use Rattle.std.proofs.Math.Utf8.{encode}
 use Rattle.std.proofs.lemmas.Str.{encodes_same}
 use Rattle.std.proofs.lemmas.Bool.Decides.{nat_tests}
-use Rattle.zi_xml.proofs.CharLemmas.{append_none, passed_append, is_code, white_char, white_not_ask, held, carried_held, ten_held, sixteen_held}
+use Rattle.zi_xml.proofs.CharLemmas.{passed_append, is_code, white_char, white_not_ask, held, carried_held, ten_held, sixteen_held}
 use Rattle.zi_xml.proofs.Forward.{then_run, run, written_levels, tag_with, Wait, none, one, two, count, await, bracket_heard}
 use Rattle.zi_xml.proofs.ForwardDocuments.{declaration_flat}
 use Rattle.zi_xml.proofs.Follows.{Tail, Rest, Front, First, Fronted, Marked, At, close_of, Goes, Ends, Closes, Values, Over, Headed, Quoted, Equals, Named, Attribute, Chosen, Heading, Declaring, Numbered, Coded, Commented, Halted, Instructed, Answering, Xml, Targeted, Asked, Sections, Bracketed, Twice, Special, Banged, Marks, Begins, Shut, Closing, Opens, Refers, counted, hex_counted, Referring, Counting, Hexing, Hexed, Hashed, Amped, Words, Follows, Then}
 use Rattle.std.specs.Str.{bytes_eq}
 use Rattle.std.specs.Prelude.{codes, not, encode_utf8, encode_utf8_all}
+use Rattle.std.proofs.lemmas.Bool.{and_parts}
+use Rattle.std.proofs.lemmas.Option.{same_Some}
 use Rattle.zi_names.specs.declared.attributes.Raw.{Raw}
 use Rattle.zi_xml.specs.Chars.{is_white, is_first, is_name, is_char, is_quote, is_valued, is_digit, is_hex, is_encoding_first, is_encoding, digit_value, hex_value, decimal_from, hex_from, entity, same_letters}
 use Rattle.zi_xml.specs.Syntax.{Bit, letter, entity_of, decimal, hexadecimal, Written, stop, bit, section, comment, instruction, void, pair, bit_text, bits_text, all_text, tag_rest, end_tag, section_text, comment_text, instruction_text, text, AllAre, IsBit, IsWritten, brackets, is_unclosed, Unclosed, IsSection, IsComment, Unanswered, IsInstruction, is_said, brackets_after, Misc, white, remark, order, misc_text, miscs_text, IsMisc, Key, version_key, encoding_key, standalone_key, key_text, Setting, setting_text, IsSetting, optional_text, IsOptional, declaration_text, alone, whole, doctype, root_text}
@@ -30,16 +32,12 @@ only false x w r h f = absurd h
 at_code : (P : ℕ → Type 0) (c k : ℕ) → (c == k) ≡ true → P k → P c
 at_code P c k e h = subst P (sym (is_code c k e)) h
 
-both_true : (a b : Bool) → (a && b) ≡ true → (a ≡ true) × (b ≡ true)
-both_true true b h = (refl, h)
-both_true false b h = cc
-
-same_list : (xs ys : List ℕ) → bytes_eq xs ys ≡ true → xs ≡ ys
+pub same_list : (xs ys : List ℕ) → bytes_eq xs ys ≡ true → xs ≡ ys
 same_list [] [] h = refl
 same_list [] (y ∷ ys) h = cc
 same_list (x ∷ xs) [] h = cc
 same_list (x ∷ xs) (y ∷ ys) h =
-    let k = both_true (x == y) (bytes_eq xs ys) h in
+    let k = and_parts (x == y) (bytes_eq xs ys) h in
     let e : x ≡ y = is_code x y k.0 in
     ap (λ v. v ∷ xs) e ∙ ap (λ v. y ∷ v) (same_list xs ys k.1)
 
@@ -380,16 +378,16 @@ targeting_back s n l c w r h =
     (λ e k2. test (is_xml n) _ _ w r k2
     (λ _ x. absurd x)
     (λ f x. at_code (λ v. Targeted s n l (v ∷ w) r) c 63 e
-    (inl ([], [], x.0, tt, ap is_xml (append_none n) ∙ f, tt, tt, tt, ap (λ v. 63 ∷ v) x.1, let P : ℕ → Type 0 = λ v. At s (tick 62 (tick v l)) x.0 r in subst P (is_code c 63 e) x.2))))
+    (inl ([], [], x.0, tt, ap is_xml (append-nil n) ∙ f, tt, tt, tt, ap (λ v. 63 ∷ v) x.1, let P : ℕ → Type 0 = λ v. At s (tick 62 (tick v l)) x.0 r in subst P (is_code c 63 e) x.2))))
     (λ _ k2. only (is_white c) _ w r k2
     (λ e k3. test (is_xml n) _ _ w r k3
-    (λ _ x. let y = declare_back s n l (tick c l) c w r e refl x in inr ([], c ∷ w, tt, ap (λ v. bytes_eq v (codes "xml")) (append_none n) ∙ y.0, refl, y.1))
+    (λ _ x. let y = declare_back s n l (tick c l) c w r e refl x in inr ([], c ∷ w, tt, ap (λ v. bytes_eq v (codes "xml")) (append-nil n) ∙ y.0, refl, y.1))
     (λ f x. inl (
       [],
       c ∷ x.0,
       x.1,
       tt,
-      ap is_xml (append_none n) ∙ f,
+      ap is_xml (append-nil n) ∙ f,
       e,
       (white_char c e, x.2),
       (refl, let P : Bool → Type 0 = λ b. Unanswered b x.0 in subst P (sym (white_not_ask c e)) x.3),
@@ -471,7 +469,7 @@ twice_back fs l c w r h =
 -- tags
 bare : (b : Bool) (fs : List Frame) (t : Tag) (l : Level) (w : List ℕ) (r : Level) → Goes b fs t l w r → Goes b fs (tag_with t []) l w r
 bare b fs t l w r h =
-    let P : List Raw → Type 0 = λ a. Goes b fs (record { name = t.name; raw = a; outer = t.outer }) l w r in subst P (sym (append_none t.raw)) h
+    let P : List Raw → Type 0 = λ a. Goes b fs (record { name = t.name; raw = a; outer = t.outer }) l w r in subst P (sym (append-nil t.raw)) h
 
 -- one more attribute before the others
 grouped : (b : Bool) (fs : List Frame) (t : Tag) (x : Raw) (xs : List Raw) (l : Level) (w : List ℕ) (r : Level)
@@ -549,10 +547,10 @@ attr_more fs t a c m l w r h = let P : List ℕ → Type 0 = λ n. Named (of_att
 
 name_end : (fs : List Frame) (t : Tag) (l : Level) (w : List ℕ) (r : Level) → Ends fs t l w r → Follows (naming fs t) l w r
 name_end fs t l w r h =
-    ([], w, tt, refl, let P : List ℕ → Type 0 = λ n. Ends fs (record { name = n; raw = t.raw; outer = t.outer }) l w r in subst P (sym (append_none t.name)) h)
+    ([], w, tt, refl, let P : List ℕ → Type 0 = λ n. Ends fs (record { name = n; raw = t.raw; outer = t.outer }) l w r in subst P (sym (append-nil t.name)) h)
 
 attr_end : (fs : List Frame) (t : Tag) (a : List ℕ) (l : Level) (w : List ℕ) (r : Level) → Named (of_attr fs t a) l w r → Follows (attr_naming fs t a) l w r
-attr_end fs t a l w r h = ([], w, tt, refl, let P : List ℕ → Type 0 = λ n. Named (of_attr fs t n) l w r in subst P (sym (append_none a)) h)
+attr_end fs t a l w r h = ([], w, tt, refl, let P : List ℕ → Type 0 = λ n. Named (of_attr fs t n) l w r in subst P (sym (append-nil a)) h)
 
 value_more : (fs : List Frame) (t : Tag) (a : List ℕ) (q : ℕ) (v : List ℕ) (p : Bool) (b : Bit) (y : List ℕ) (l : Level) (w : List ℕ) (r : Level)
     → IsBit (is_valued q) b → y ≡ bit_text b ++ w → Values fs t a q (v ++ in_value p b) (is_return b) (bit_passed b l) w r → Values fs t a q v p l y r
@@ -567,7 +565,7 @@ value_more fs t a q v p b y l w r i e x = (
 value_done : (fs : List Frame) (t : Tag) (a : List ℕ) (q : ℕ) (v : List ℕ) (p : Bool) (l : Level) (w : List ℕ) (r : Level)
     → Ends fs (with_attribute t a v) (tick q l) w r → Values fs t a q v p l (q ∷ w) r
 value_done fs t a q v p l w r h =
-    ([], w, tt, refl, let P : List ℕ → Type 0 = λ n. Ends fs (with_attribute t a n) (tick q l) w r in subst P (sym (append_none v)) h)
+    ([], w, tt, refl, let P : List ℕ → Type 0 = λ n. Ends fs (with_attribute t a n) (tick q l) w r in subst P (sym (append-nil v)) h)
 
 ref_text : (n w z : List ℕ) → w ≡ n ++ 59 ∷ z → 38 ∷ w ≡ (38 ∷ (n ++ 59 ∷ [])) ++ z
 ref_text n w z h = ap (λ v. 38 ∷ v) (h ∙ sym (append_assoc n (59 ∷ []) z))
@@ -614,7 +612,7 @@ referring_back h p n l c w r k =
       let P : List ℕ → Type 0 = λ m. Refers h (entity m) p (passed (x.0 ++ 59 ∷ []) (tick c l)) x.1 r in subst P (append_assoc n (encode_utf8 c) (encode_utf8_all x.0)) x.4,
     ))
     (λ _ y. only (c == 59) _ w r y (λ e x. at_code (λ v. Referring h p n l (v ∷ w) r) c 59 e
-    ([], w, tt, refl, let P : List ℕ → Type 0 = λ m. Refers h (entity m) p (tick 59 l) w r in subst P (sym (append_none n)) (refer_end h (entity n) p l c w r e x))))
+    ([], w, tt, refl, let P : List ℕ → Type 0 = λ m. Refers h (entity m) p (tick 59 l) w r in subst P (sym (append-nil n)) (refer_end h (entity n) p l c w r e x))))
 
 counting_back : (h : Host) (p n : ℕ) (l : Level) (c : ℕ) (w : List ℕ) (r : Level) → Then (go (counting h p n) l c) w r → Counting h p n l (c ∷ w) r
 counting_back h p n l c w r k =
@@ -747,7 +745,7 @@ coded_back q ks v p l c w r h =
       tt,
       ap (λ u. u ∷ w) (is_code c q e),
       let P : List ℕ → Type 0 = λ n. Headed ks (blame_if (not (same_letters n (codes "UTF-8"))) encoding_kind p (tick q l)) w r in
-          subst P (sym (append_none v)) (let Q : ℕ → Type 0 = λ u. Headed ks (blame_if (not (same_letters v (codes "UTF-8"))) encoding_kind p (tick u l)) w r in subst Q (is_code c q e) x),
+          subst P (sym (append-nil v)) (let Q : ℕ → Type 0 = λ u. Headed ks (blame_if (not (same_letters v (codes "UTF-8"))) encoding_kind p (tick u l)) w r in subst Q (is_code c q e) x),
     ))
     (λ _ k. only (is_encoding c) _ w r k (λ e x. (
       c ∷ x.0,
@@ -880,11 +878,8 @@ back (closing fs left) l c w r h = closing_back fs left l c w r h
 follows_end : (s : State) (r : Level) → s ≡ done r → Follows s.doing s.level [] r
 follows_end s r e = let P : State → Type 0 = λ t. Follows t.doing t.level [] r in subst P (sym e) ([], tt, refl, refl)
 
-some_same : {A : Type 0} (x y : A) → Some x ≡ Some y → x ≡ y
-some_same x y h = cc
-
 pub sound : (w : List ℕ) (s : State) (r : Level) → run s w ≡ Some (done r) → Follows s.doing s.level w r
-sound [] s r h = follows_end s r (some_same s (done r) h)
+sound [] s r h = follows_end s r (same_Some s (done r) h)
 sound (c ∷ w) s r h =
     let lead : then_run (step s c) (λ t. run t w) ≡ Some (done r) → Then (step s c) w r =
     elim (step s c) as (λ o. then_run o (λ t. run t w) ≡ Some (done r) → Then o w r) [ None ↦ λ k. cc | Some t ↦ λ k. sound w t r k ] in

@@ -4,10 +4,6 @@ use Rattle.std.proofs.lemmas.Bool.Decides.{nat_tests}
 use Rattle.zi_xml.specs.Chars.{is_white, is_first, is_name, is_char, is_plain, is_quote, is_valued, is_digit, is_encoding}
 use Rattle.zi_xml.specs.Meaning.{Level, tick, passed, carried}
 
-pub append_none : {A : Type 0} (xs : List A) → xs ++ [] ≡ xs
-append_none [] = refl
-append_none (x ∷ xs) = ap (λ ys. x ∷ ys) (append_none xs)
-
 pub passed_append : (a b : List ℕ) (l : Level) → passed (a ++ b) l ≡ passed b (passed a l)
 passed_append [] b l = refl
 passed_append (c ∷ a) b l = passed_append a b (tick c l)

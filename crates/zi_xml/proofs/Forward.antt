@@ -1,7 +1,7 @@
 -- The reader reads each parse tree to its end, and knows what it says.
-use Rattle.std.proofs.Common.{◌≡◌, ℕ, suc, ◌+◌, ◌*◌, ◌==◌, ◌&&◌, Bool, true, false, List, [], ◌∷◌, ◌++◌, Option, Some, None, cond, length, refl, sym, ap, ◌∙◌, subst, append_assoc}
+use Rattle.std.proofs.Common.{◌≡◌, ℕ, suc, ◌+◌, ◌*◌, ◌==◌, ◌&&◌, Bool, true, false, List, [], ◌∷◌, ◌++◌, Option, Some, None, cond, length, refl, sym, ap, ◌∙◌, subst, append_assoc, append-nil}
 use Rattle.std.proofs.Math.Utf8.{encode}
-use Rattle.zi_xml.proofs.CharLemmas.{append_none, passed_append, same_self, is_code, white_not_name, white_not_first, white_not_end, white_not_ask, quote_not_white, quote_ends, quote_not_amp, held, carried_held, ten_held, sixteen_held}
+use Rattle.zi_xml.proofs.CharLemmas.{passed_append, same_self, is_code, white_not_name, white_not_first, white_not_end, white_not_ask, quote_not_white, quote_ends, quote_not_amp, held, carried_held, ten_held, sixteen_held}
 use Rattle.std.specs.Prelude.{codes, not, nat_le, encode_utf8, encode_utf8_all}
 use Rattle.zi_names.specs.declared.attributes.Raw.{Raw}
 use Rattle.zi_xml.specs.Chars.{is_white, is_first, is_name, is_char, is_plain, is_quote, is_valued, is_digit, is_hex, digit_value, hex_value, decimal_from, hex_from, entity}
@@ -37,7 +37,7 @@ run_word w x (y ∷ left) z l = rw (same_self x) (run_word w y left z (tick x l)
 pub run_refer_name : (h : Host) (p : ℕ) (n m w : List ℕ) (l : Level) → AllAre is_name m
     → run (state (referring h p n) l) (m ++ 59 ∷ w) ≡ run (refer h (entity (n ++ encode_utf8_all m)) p (passed (m ++ 59 ∷ []) l)) w
 unfolding is_name is_first is_digit
-run_refer_name h p n [] w l k = rw append_none refl
+run_refer_name h p n [] w l k = rw append-nil refl
 run_refer_name h p n (c ∷ m) w l k = rw k.0 (run_refer_name h p (n ++ encode_utf8 c) m w (tick c l) k.1 ∙ rw append_assoc refl)
 
 pub run_amped : (h : Host) (p : ℕ) (n w : List ℕ) (l : Level) → IsName n
@@ -84,7 +84,7 @@ run_spaced_void fs t (c ∷ e) w l h = rw (white_not_first c h.0, h.0) (run_spac
 
 pub run_name : (fs : List Frame) (t : Tag) (m w : List ℕ) (l : Level) → AllAre is_name m
     → run (state (naming fs t) l) (m ++ w) ≡ run (state (naming fs (record { name = t.name ++ m; raw = t.raw; outer = t.outer })) (passed m l)) w
-run_name fs t [] w l h = rw append_none refl
+run_name fs t [] w l h = rw append-nil refl
 run_name fs t (c ∷ m) w l h = rw h.0 (run_name fs (named_more t c) m w (tick c l) h.1 ∙ rw append_assoc refl)
 
 pub run_white : (fs : List Frame) (t : Tag) (e w : List ℕ) (l : Level) → AllAre is_white e
@@ -94,7 +94,7 @@ run_white fs t (c ∷ e) w l h = rw (white_not_first c h.0, h.0) (run_white fs t
 
 run_attr_name : (fs : List Frame) (t : Tag) (a m w : List ℕ) (l : Level) → AllAre is_name m
     → run (state (attr_naming fs t a) l) (m ++ w) ≡ run (state (attr_naming fs t (a ++ encode_utf8_all m)) (passed m l)) w
-run_attr_name fs t a [] w l h = rw append_none refl
+run_attr_name fs t a [] w l h = rw append-nil refl
 run_attr_name fs t a (c ∷ m) w l h = rw h.0 (run_attr_name fs t (a ++ encode_utf8 c) m w (tick c l) h.1 ∙ rw append_assoc refl)
 
 pub run_named : (o : Owner) (e w : List ℕ) (l : Level) → AllAre is_white e
@@ -143,7 +143,7 @@ run_value_bit fs t a q v r (hexadecimal n) w l h k =
 
 run_bits : (fs : List Frame) (t : Tag) (a : List ℕ) (q : ℕ) (v : List ℕ) (r : Bool) (bs : List Bit) (w : List ℕ) (l : Level) → is_quote q ≡ true → AreBits (is_valued q) bs
     → run (state (valuing fs t a q v r) l) (bits_text bs ++ w) ≡ run (state (valuing fs t a q (v ++ value_of r bs) (returned_after r bs)) (bits_passed bs l)) w
-run_bits fs t a q v r [] w l h k = rw append_none refl
+run_bits fs t a q v r [] w l h k = rw append-nil refl
 run_bits fs t a q v r (b ∷ bs) w l h k =
     ap (run (state (valuing fs t a q v r) l)) (append_assoc (bit_text b) (bits_text bs) w)
     ∙ (run_value_bit fs t a q v r b (bits_text bs ++ w) l h k.0
@@ -221,7 +221,7 @@ run_leave_void s fs t l (c ∷ e) w z h = rw (z.white c h.0) (run_spaced_void fs
 run_tag_open : (s : State) (fs : List Frame) (t : Tag) (l : Level) (ws : List Written) (e w : List ℕ) → Leaves s fs t l → AreWritten ws → AllAre is_white e
     → run s (all_text ws ++ (e ++ 62 ∷ w))
     ≡ run (state (inside (framed (scope_of fs) (tag_with t (raw_of ws)) ∷ fs) 0) (fresh (judged (scope_of fs) (tag_with t (raw_of ws)) (passed (e ++ 62 ∷ []) (all_passed ws l))))) w
-run_tag_open s fs t l [] e w z i h = rw append_none (run_leave_open s fs t l e w z h)
+run_tag_open s fs t l [] e w z i h = rw append-nil (run_leave_open s fs t l e w z h)
 run_tag_open s fs t l (a ∷ ws) e w z i h =
     let u = with_attribute t (encode_utf8_all a.name) (value_of false a.value) in
     ap (run s) (append_assoc (written_text a) (all_text ws) (e ++ 62 ∷ w))
@@ -230,7 +230,7 @@ run_tag_open s fs t l (a ∷ ws) e w z i h =
 
 run_tag_void : (s : State) (fs : List Frame) (t : Tag) (l : Level) (ws : List Written) (e w : List ℕ) → Leaves s fs t l → AreWritten ws → AllAre is_white e
     → run s (all_text ws ++ (e ++ 47 ∷ 62 ∷ w)) ≡ run (state (inside fs 0) (emptied fs (tag_with t (raw_of ws)) (passed (e ++ 47 ∷ 62 ∷ []) (all_passed ws l)))) w
-run_tag_void s fs t l [] e w z i h = rw append_none (run_leave_void s fs t l e w z h)
+run_tag_void s fs t l [] e w z i h = rw append-nil (run_leave_void s fs t l e w z h)
 run_tag_void s fs t l (a ∷ ws) e w z i h =
     let u = with_attribute t (encode_utf8_all a.name) (value_of false a.value) in
     ap (run s) (append_assoc (written_text a) (all_text ws) (e ++ 47 ∷ 62 ∷ w))
@@ -334,7 +334,7 @@ run_told (c ∷ cs) q s w l i h =
 
 pub run_target : (s : Spot) (n m w : List ℕ) (l : Level) → AllAre is_name m
     → run (state (targeting s n) l) (m ++ w) ≡ run (state (targeting s (n ++ encode_utf8_all m)) (passed m l)) w
-run_target s n [] w l h = rw append_none refl
+run_target s n [] w l h = rw append-nil refl
 run_target s n (c ∷ m) w l h = rw h.0 (run_target s (n ++ encode_utf8 c) m w (tick c l) h.1 ∙ rw append_assoc refl)
 
 -- behind a target

@@ -1,7 +1,7 @@
 -- The reader reads content, what stands around the root, and documents.
-use Rattle.std.proofs.Common.{◌≡◌, ℕ, suc, Bool, true, false, List, [], ◌∷◌, ◌++◌, Option, Some, None, length, refl, sym, ap, ◌∙◌, subst, append_assoc}
+use Rattle.std.proofs.Common.{◌≡◌, ℕ, suc, Bool, true, false, List, [], ◌∷◌, ◌++◌, Option, Some, None, length, refl, sym, ap, ◌∙◌, subst, append_assoc, append-nil}
 use Rattle.std.proofs.Math.Utf8.{encode}
-use Rattle.zi_xml.proofs.CharLemmas.{append_none, passed_append, same_self, white_not_name, white_not_ask, white_not_mark, digit_not_quote, encoding_not_quote}
+use Rattle.zi_xml.proofs.CharLemmas.{passed_append, same_self, white_not_name, white_not_ask, white_not_mark, digit_not_quote, encoding_not_quote}
 use Rattle.zi_xml.proofs.Forward.{run, run_step, run_word, run_amped, run_hashed, run_hexed, run_named, run_behind, run_quote, Enters, run_start, run_empty, run_close, run_remark, run_instruction, none, run_section}
 use Rattle.std.specs.Prelude.{codes, not, encode_utf8, encode_utf8_all}
 use Rattle.zi_names.specs.Names.{first_scope}
@@ -235,7 +235,7 @@ run_number q ks (c ∷ ds) w l h i = rw i.0 (run_digits q ks ds w (tick c l) h i
 run_coded : (q : ℕ) (ks : List Key) (v : List ℕ) (p : ℕ) (m w : List ℕ) (l : Level) → is_quote q ≡ true → AllAre is_encoding m
     → run (state (coded q ks v p) l) (m ++ q ∷ w)
     ≡ run (state (headed ks) (blame_if (not (same_letters (v ++ encode_utf8_all m) (codes "UTF-8"))) encoding_kind p (passed (m ++ q ∷ []) l))) w
-run_coded q ks v p [] w l h i = rw (same_self q, append_none v) refl
+run_coded q ks v p [] w l h i = rw (same_self q, append-nil v) refl
 run_coded q ks v p (c ∷ m) w l h i = rw (encoding_not_quote c q i.0 h, i.0) (run_coded q ks (v ++ encode_utf8 c) p m w (tick c l) h i.1 ∙ rw append_assoc refl)
 
 run_value : (k : Key) (ks : List Key) (q : ℕ) (v w : List ℕ) (l : Level) → is_quote q ≡ true → IsSet k v

@@ -144,7 +144,7 @@ reads_wording : (w : Word) (x : ℕ) (left : List ℕ) (l : Level) → IsDone (r
 reads_wording w x left l = along _ _ (run_word w x left (word_out w) l) (reads_word w (passed (x ∷ left) l))
 
 -- a target of more than three letters isn't `xml`
-same_length : (xs ys : List ℕ) → same_letters xs ys ≡ true → length xs ≡ length ys
+pub same_length : (xs ys : List ℕ) → same_letters xs ys ≡ true → length xs ≡ length ys
 same_length [] [] h = refl
 same_length [] (y ∷ ys) h = cc
 same_length (x ∷ xs) [] h = cc

@@ -3,6 +3,7 @@ use Rattle.std.proofs.Common.{◌≡◌, ℕ, suc, zero, List, [], ◌∷◌, �
 use Rattle.std.proofs.Math.Utf8.{scalar, scalars}
 use Rattle.std.specs.Prelude.{true}
 use Rattle.std.proofs.lemmas.Str.{encodes_same}
+use Rattle.std.proofs.lemmas.Option.{same_Some}
 use Rattle.zi_xml.specs.Longest as longest
 use Rattle.zi_xml.specs.Documents.{SaysChars, end_of}
 use Rattle.zi_xml.specs.Right.{Right, IsRight, IsOne}
@@ -51,11 +52,8 @@ backward w r h = document_of w r (sound w first_state r h)
 out : (s : State) → (w : List ℕ) × (r : Level) × (run s w ≡ Some (done r))
 out s = let x = read_out (run s (way_out s.doing)) (reads_out s.doing s.level) in (way_out s.doing, x.0, x.1)
 
-some_level : (x y : Level) → Some x ≡ Some y → x ≡ y
-some_level x y h = cc
-
 finish_doing : (d : Doing) (l r : Level) → finish_in d l ≡ Some r → state d l ≡ done r
-finish_doing (inside [] zero) l r h = ap done (some_level l r h)
+finish_doing (inside [] zero) l r h = ap done (same_Some l r h)
 finish_doing (inside [] (suc n)) l r h = cc
 finish_doing (inside (f ∷ fs) n) l r h = cc
 finish_doing _ l r h = cc

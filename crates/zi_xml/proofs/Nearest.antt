@@ -1,17 +1,18 @@
 -- How many bytes of a refused character may still stand where it stands.
-use Rattle.std.proofs.Common.{◌≡◌, ℕ, suc, ◌<◌, ◌≤◌, ◌==◌, ◌&&◌, Bool, true, false, List, [], ◌∷◌, ◌++◌, Option, Some, None, cond, length, take, drop, refl, sym, ap, ◌∙◌, subst, arith, ◌⊎◌, inl, inr, lit<, lit≤}
+use Rattle.std.proofs.Common.{◌≡◌, ℕ, suc, ◌<◌, ◌≤◌, ◌==◌, ◌&&◌, Bool, true, false, List, [], ◌∷◌, ◌++◌, Option, Some, None, cond, length, take, drop, refl, sym, ap, ◌∙◌, subst, arith, ◌⊎◌, inl, inr, lit<, lit≤, append-nil}
 use Rattle.std.proofs.Math.Utf8.{encode, scalar}
 use Rattle.std.proofs.lemmas.Str.{encode_same, encode_ascii, length-encode, len_utf8_bounds}
 use Rattle.std.proofs.lemmas.List.{take-append-drop, take_all}
 use Rattle.std.proofs.lemmas.Bool.Decides.{nat_tests}
 use Rattle.std.proofs.lemmas.Bool.{cases_lt}
-use Rattle.zi_xml.proofs.CharLemmas.{append_none, is_code, same_self}
+use Rattle.zi_xml.proofs.CharLemmas.{is_code, same_self}
 use Rattle.zi_xml.specs.Machine.{common, kin}
 use Rattle.std.specs.Prelude.{codes, not}
 use Rattle.zi_xml.specs.Chars.{is_white, is_first, is_name, is_char, is_plain, is_quote, is_digit, is_hex, is_encoding_first, is_encoding, same_letters}
 use Rattle.zi_xml.specs.Syntax.{is_said, Key, version_key, encoding_key, standalone_key}
 use Rattle.zi_xml.specs.Meaning.{Level, encoding_kind, tick, blame_if, Tag, Frame}
 use Rattle.zi_xml.specs.Machine.{Spot, before, among, Owner, Doing, begun, front, opened, banged, commenting, halting, asked, targeting, instructing, asking, wording, sectioning, bracketed, twice, declaring, heading, headed, numbering, numbered, coding, coded, replying, named, equalled, naming, spaced, attr_naming, valuing, valued, amped, referring, hashed, counting, hexed, hexing, inside, closing, State, state, go, initial, choose, worded, markup, bang_word, leave, leave_name, front_step}
+use Rattle.zi_text.proofs.ListLaws.{tails}
 
 -- what a state takes has this property
 abbrev pub Only : Type 0 → Option State → Type 0
@@ -148,7 +149,7 @@ ascii_first : (e c j : ℕ) (x : List ℕ) → e < 128 → take (suc j) (encode 
 ascii_first e c j x lt h =
     let one : take 1 (encode c) ≡ encode e =
     sym (heads j (encode e ++ x) (encode c) h) ∙ (ap (λ v. take 1 (v ++ x)) (encode_ascii e lt) ∙ sym (encode_ascii e lt)) in
-    let whole : encode c ++ [] ≡ encode e ++ drop 1 (encode c) = append_none (encode c) ∙ (sym (take-append-drop 1 (encode c)) ∙ ap (λ v. v ++ drop 1 (encode c)) one) in
+    let whole : encode c ++ [] ≡ encode e ++ drop 1 (encode c) = append-nil (encode c) ∙ (sym (take-append-drop 1 (encode c)) ∙ ap (λ v. v ++ drop 1 (encode c)) one) in
     (encode_same c e [] (drop 1 (encode c)) whole).0
 
 ascii_second : (e c j : ℕ) (x : List ℕ) → c < 128 → take (suc j) (encode e ++ x) ≡ take (suc j) (encode c) → c ≡ e
@@ -197,9 +198,6 @@ common_right [] ys = omega arith
 common_right (x ∷ xs) [] = omega arith
 common_right (x ∷ xs) (y ∷ ys) = cond_le (x == y) (common xs ys) (length ys) (common_right xs ys)
 
-tails : (x y : ℕ) (us vs : List ℕ) → x ∷ us ≡ y ∷ vs → us ≡ vs
-tails x y us vs e = cc
-
 apart : (x y : ℕ) (us vs : List ℕ) → (x == y) ≡ false → x ∷ us ≡ y ∷ vs → ⊥
 apart x y us vs s e = let r : x ≡ y = cc in grind (arith, nat_tests)
 
@@ -224,7 +222,7 @@ back_whole xs ys h =
     sym (take-append-drop (common xs ys) ys) ∙ ap (λ v. v ++ drop (common xs ys) ys) (sym (common_take xs ys) ∙ take_all (common xs ys) xs h)
 
 same_front : (x c : ℕ) (r : List ℕ) → encode x ≡ encode c ++ r → x ≡ c
-same_front x c r h = (encode_same x c [] r (append_none (encode x) ∙ h)).0
+same_front x c r h = (encode_same x c [] r (append-nil (encode x) ∙ h)).0
 
 less_of : (n m : ℕ) → (m ≤ n → ⊥) → n < m
 less_of n m h = elim (cases_lt n m) [ inl lt ↦ lt | inr le ↦ absurd (h le) ]

@@ -1,12 +1,11 @@
 -- A character takes the place on by its bytes, and each fault that it shows ends there.
-use Rattle.std.proofs.Common.{◌≡◌, ℕ, ◌+◌, ◌==◌, Bool, true, false, List, [], ◌∷◌, ◌++◌, Option, Some, None, cond, refl, sym, ap, ◌∙◌, append_assoc}
+use Rattle.std.proofs.Common.{◌≡◌, ℕ, ◌+◌, ◌==◌, Bool, true, false, List, [], ◌∷◌, ◌++◌, Option, Some, None, cond, refl, sym, ap, ◌∙◌, append_assoc, append-nil}
 use Rattle.std.specs.Str.{bytes_eq}
 use Rattle.std.specs.Prelude.{codes}
 use Rattle.zi_xml.specs.Chars.{width, is_white, is_first, is_name, is_char, is_quote, is_valued, is_digit, is_hex, is_encoding_first, is_encoding, entity}
 use Rattle.zi_xml.specs.Syntax.{Key, is_said}
 use Rattle.zi_xml.specs.Meaning.{Level, Fault, Kind, encoding_kind, doctype_kind, entity_kind, prefix_kind, repeated_kind, depth_kind, tick, blame_if, carried, is_lacking, Tag, Frame, judged}
 use Rattle.zi_xml.specs.Machine.{Spot, before, among, Host, in_text, in_value, Owner, of_attr, Word, doctype_word, section_word, comment_word, over_word, key_word, version_word, reply_word, declared_word, void_word, Doing, begun, front, opened, banged, commenting, halting, asked, targeting, instructing, asking, wording, sectioning, bracketed, twice, declaring, heading, headed, numbering, numbered, coding, coded, replying, named, equalled, naming, spaced, attr_naming, valuing, valued, amped, referring, hashed, counting, hexed, hexing, inside, closing, State, go, initial, choose, after_word, worded, markup, enter, bang_word, is_xml, declare, leave, leave_name, refer, closed, front_step, scope_of}
-use Rattle.zi_xml.proofs.CharLemmas.{append_none}
 
 abbrev pub AreAt : ℕ → List Fault → Type 0
 AreAt n [] = Unit {0}
@@ -26,7 +25,7 @@ both l n false x y h k = k
 
 -- nothing is found
 calm : (l : Level) (n : ℕ) (m : Level) → m.at ≡ l.at + n → m.found ≡ l.found → Later l n m
-calm l n m e h = (e, ([], h ∙ sym (append_none l.found), tt))
+calm l n m e h = (e, ([], h ∙ sym (append-nil l.found), tt))
 
 ticked : (l : Level) (c : ℕ) → Later l (width c) (tick c l)
 ticked l c = calm l (width c) (tick c l) refl refl

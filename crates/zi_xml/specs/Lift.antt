@@ -1,13 +1,9 @@
 -- From characters to bytes: how far bytes can go on as a document, when it is known of characters.
-use Rattle.std.proofs.Common.{◌≡◌, ℕ, suc, ◌<◌, ◌≤◌, List, [], ◌∷◌, ◌++◌, length, take, drop, refl, sym, ap, ◌∙◌, subst, append_assoc, arith}
+use Rattle.std.proofs.Common.{◌≡◌, ℕ, suc, ◌<◌, ◌≤◌, List, [], ◌∷◌, ◌++◌, length, take, drop, refl, sym, ap, ◌∙◌, subst, append_assoc, arith, append-nil}
 use Rattle.std.proofs.lemmas.Str.{encode_same, cons_from_encodes, encodes-append, encode_ascii}
 use Rattle.std.proofs.lemmas.List.{take-append-drop, length-take-le, length-append, take_all}
 use Rattle.std.proofs.Math.Seq.{take-append_seam}
 use Rattle.std.proofs.Math.Utf8.{encode, encodes}
-
-append_none : (xs : List ℕ) → xs ++ [] ≡ xs
-append_none [] = refl
-append_none (x ∷ xs) = ap (λ v. x ∷ v) (append_none xs)
 
 -- The characters of bytes that begin as p does begin with p.
 pub front_of : (p ys x : List ℕ) → encodes ys ≡ encodes p ++ x → (zs : List ℕ) × (ys ≡ p ++ zs) × (encodes zs ≡ x)
@@ -71,7 +67,7 @@ module _ (L : List ℕ → Type 0) where
       let lt : d < 128 = small d b in
       let one : take 1 (encode c) ≡ encode d = sym e ∙ (ap (λ v. take 1 (v ++ x)) (encode_ascii d lt) ∙ sym (encode_ascii d lt)) in
       let whole : encode c ++ [] ≡ encode d ++ drop 1 (encode c) =
-      append_none (encode c) ∙ (sym (take-append-drop 1 (encode c)) ∙ ap (λ v. v ++ drop 1 (encode c)) one) in
+      append-nil (encode c) ∙ (sym (take-append-drop 1 (encode c)) ∙ ap (λ v. v ++ drop 1 (encode c)) one) in
       let same : c ≡ d = (encode_same c d [] (drop 1 (encode c)) whole).0 in
       absurd (omega arith)
 

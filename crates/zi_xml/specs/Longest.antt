@@ -6,28 +6,21 @@ use Rattle.std.proofs.Math.Seq.{take-append_seam}
 use Rattle.std.proofs.Math.Utf8.{encode, encodes, scalar, scalars}
 use Rattle.std.proofs.Math.Seq.{take-append-add, take-length}
 use Rattle.std.proofs.lemmas.List.{take-append-le}
+use Rattle.std.proofs.lemmas.Option.{same_Some}
+use Rattle.std.proofs.lemmas.Bool.{and_parts}
 use Rattle.zi_xml.specs.Lift.{front_of, BeginsChars, BeginsBytes, bytes_begin, bytes_begin_shared, SharesLess, bytes_stuck}
 use Rattle.zi_xml.specs.Places.{first}
 use Rattle.zi_xml.specs.Places as places
 use Rattle.zi_xml.specs.Answers as machines
-
-some_inj : {A : Type 0} {x y : A} → Some x ≡ Some y → x ≡ y
-some_inj h = cc
+use Rattle.zi_text.proofs.ListLaws.{head_same}
 
 none_before : {A : Type 0} (xs ys : List A) → xs ++ ys ≡ [] → xs ≡ []
 none_before [] ys h = refl
 none_before (x ∷ xs) ys h = cc
 
-both_true : (a b : Bool) → (a && b) ≡ true → (a ≡ true) × (b ≡ true)
-both_true true b h = (refl, h)
-both_true false b h = cc
-
 -- a character has a byte
 some_byte : (c : ℕ) → 0 < length (encode c)
 some_byte c = omega (arith, length-encode c, (len_utf8_bounds c).0)
-
-head_same : {A : Type 0} (c d : A) (xs ys : List A) → c ∷ xs ≡ d ∷ ys → (c ≡ d) × (xs ≡ ys)
-head_same c d xs ys h = (cc, cc)
 
 -- of two fronts of one list the one of fewer bytes is a front of the other
 shorter_front : (a p x y : List ℕ) → a ++ x ≡ p ++ y → length (encodes a) ≤ length (encodes p) → (q : List ℕ) × (p ≡ a ++ q)
@@ -113,7 +106,7 @@ module _ (S R F : Type 0) (step : S → ℕ → Option S) (at_of : S → ℕ) (f
 
   module _ (grows : (s : S) (c : ℕ) (t : S) → step s c ≡ Some t → Grows s c t) where
     pub ran : (w : List ℕ) (s t : S) → run s w ≡ Some t → Ran s w t
-    ran [] s t h = let P : S → Type 0 = λ v. Ran s [] v in subst P (some_inj h) (omega arith, ([], sym (append-nil (found_of s)), tt))
+    ran [] s t h = let P : S → Type 0 = λ v. Ran s [] v in subst P (same_Some _ _ h) (omega arith, ([], sym (append-nil (found_of s)), tt))
     ran (c ∷ w) s t h =
         let k = split_run (step s c) w t h in
         let g = grows s c k.0 k.1 in
@@ -124,7 +117,7 @@ module _ (S R F : Type 0) (step : S → ℕ → Option S) (at_of : S → ℕ) (f
 
     first_front : (n : ℕ) (w : List ℕ) (xs : List F) (f : F) → AtFronts n w xs → first xs ≡ Some f → AtFront n w f
     first_front n w [] f h e = cc
-    first_front n w (x ∷ xs) f h e = let P : F → Type 0 = λ y. AtFront n w y in subst P (some_inj e) h.0
+    first_front n w (x ∷ xs) f h e = let P : F → Type 0 = λ y. AtFront n w y in subst P (same_Some _ _ e) h.0
 
     module _ (forward : (w : List ℕ) (r : R) → Says w r → run begun w ≡ Some (done r)) (at_begun : at_of begun ≡ 0) (none_begun : found_of begun ≡ []) where
       -- Where no fault was found so far, none is shown within what was read.
@@ -151,7 +144,7 @@ module _ (S R F : Type 0) (step : S → ℕ → Option S) (at_of : S → ℕ) (f
           let g = ran q.0 c.0 s c.2 in
           let clear : found_of c.0 ≡ [] = none_before (found_of c.0) g.1.0 (sym g.1.1 ∙ e) in
           let d = cut begun a.0 a.1 (done b.1) (ap (run begun) (sym a.2) ∙ read) in
-          let same : d.0 ≡ c.0 = some_inj (sym d.1 ∙ c.1) in
+          let same : d.0 ≡ c.0 = same_Some _ _ (sym d.1 ∙ c.1) in
           let y = ran a.1 d.0 (done b.1) d.2 in
           let rest : found_of (done b.1) ≡ y.1.0 = y.1.1 ∙ ap (λ v. v ++ y.1.0) (ap found_of same ∙ clear) in
           let l = first_front (at_of d.0) a.1 y.1.0 f y.1.2 (ap first (sym rest) ∙ fst) in
@@ -223,7 +216,7 @@ module _ (S R F : Type 0) (step : S → ℕ → Option S) (at_of : S → ℕ) (f
                 let read = forward _ b.1.0 b.1.1 in
                 let one = cut begun (p ++ d ∷ []) b.0 (done b.1.0) read in
                 let two = cut begun p (d ∷ []) one.0 one.1 in
-                let same : two.0 ≡ s = some_inj (sym two.1 ∙ h) in
+                let same : two.0 ≡ s = same_Some _ _ (sym two.1 ∙ h) in
                 let took = split_run (step two.0 d) [] one.0 two.2 in
                 let P : S → Type 0 = λ v. step v d ≡ Some took.0 in
                 x.1.1 d took.0 y (subst P same took.1) m
@@ -239,7 +232,7 @@ module _ (S R F : Type 0) (step : S → ℕ → Option S) (at_of : S → ℕ) (f
           stuck = λ lt _. absurd (omega arith);
           short = λ _ r k.
               let P : List ℕ → Type 0 = λ v. Says v r in
-              ne r (some_inj (sym h ∙ forward p r (subst P (sym (encodes_same p k.0 k.1)) k.2)));
+              ne r (same_Some _ _ (sym h ∙ forward p r (subst P (sym (encodes_same p k.0 k.1)) k.2)));
           clean = λ f le x.
               let P : List ℕ → Type 0 = λ v. Shows (encodes v) f in
               none_shown p [] s h e f (λ a z k n. omega (arith, le, n)) (subst P (sym (append-nil p)) x);
@@ -267,7 +260,7 @@ module _ (S R F : Type 0) (step : S → ℕ → Option S) (at_of : S → ℕ) (f
               first_is = λ rest r d.
                   let z = front_of (p ++ c ∷ []) d.0 rest (sym d.1 ∙ ap (λ v. v ++ rest) front) in
                   let q = cut begun (p ++ c ∷ []) z.0 (done r) (ap (run begun) (sym z.1) ∙ forward d.0 r d.2) in
-                  let same : q.0 ≡ t = some_inj (sym q.1 ∙ there) in
+                  let same : q.0 ≡ t = same_Some _ _ (sym q.1 ∙ there) in
                   let y = ran z.0 q.0 (done r) q.2 in
                   ap first (y.1.1 ∙ ap (λ v. v ++ y.1.0) (ap found_of same ∙ x));
             }
@@ -312,12 +305,12 @@ module _ (S R F : Type 0) (step : S → ℕ → Option S) (at_of : S → ℕ) (f
               elim (step s c) as (λ o. (step s c ≡ o) → Right (p ++ c ∷ w) (next_answer (at_of s + shared s c) o (λ t. answer t w))) [
                 | None ↦ λ k.
                     let Q : ℕ → Type 0 = λ n. Stops (encodes (p ++ c ∷ w)) (n + shared s c) in
-                    subst Q (sym (read_at p s h)) (refused p w c (shared s c) s h e (refuses s c (both_true (scalar c) (scalars w) u).0 k))
+                    subst Q (sym (read_at p s h)) (refused p w c (shared s c) s h e (refuses s c (and_parts (scalar c) (scalars w) u).0 k))
                 | Some t ↦ λ k.
                     elim (found_cases (found_of t)) [
                       | inl x ↦
                           let there : run begun (p ++ c ∷ []) ≡ Some t = run_append begun p (c ∷ []) ∙ (ap (λ o. then_run o (λ v. run v (c ∷ []))) h ∙ ap (λ o. then_run o (λ v. Some v)) k) in
-                          let IH : Right ((p ++ c ∷ []) ++ w) (answer t w) = answer_right w (p ++ c ∷ []) t (both_true (scalar c) (scalars w) u).1 there x in
+                          let IH : Right ((p ++ c ∷ []) ++ w) (answer t w) = answer_right w (p ++ c ∷ []) t (and_parts (scalar c) (scalars w) u).1 there x in
                           let R1 : List F → Type 0 = λ y. Right (p ++ c ∷ w) (settle y (answer t w)) in
                           subst R1 (sym x) (let Q : List ℕ → Type 0 = λ v. Right v (answer t w) in subst Q (append_assoc p (c ∷ []) w) IH)
                       | inr x ↦

@@ -1,6 +1,7 @@
 use Rattle.zi_session.specs.Standing.{standing, blamed}
 use Rattle.zi_session.proofs.AloneLemmas.{begun_open}
-use Rattle.zi_app.proofs.AddingLemmas.{has_run, run_end}
+use Rattle.zi_app.proofs.AddingLemmas.{has_run}
+use Rattle.zi_adding.proofs.AddingLemmas.{run_end}
 use Rattle.zi_app.proofs.adding.run_out.Goals as goal
 
 pub returns-clause-run : goal.returns-clause-run

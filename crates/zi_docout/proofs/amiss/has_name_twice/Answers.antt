@@ -6,10 +6,12 @@ use Rattle.std.specs.List.{list_any}
 use Rattle.std.specs.Str.{bytes_eq}
 use Rattle.std.proofs.lemmas.List.{take-append-drop, take_more}
 use Rattle.std.proofs.lemmas.Map.Text.{is_eq-slice_cmp}
+use Rattle.std.proofs.lemmas.Bool.{not-false, not-true}
 use Rattle.zi_elements.specs.declared.element.Attr.{Attr}
 use Rattle.zi_names.specs.Names.{has_twice}
 use Rattle.zi_docout.specs.Amiss.{same_name}
-use Rattle.zi_names.proofs.Twice.{any_push, twice_push, twice_found, cond_or, not_false, not_true}
+use Rattle.zi_names.proofs.Twice.{twice_push, twice_found}
+use Rattle.zi_text.proofs.ListLaws.{any_push, cond_or}
 use Rattle.zi_docout.proofs.amiss.has_name_twice.Goals as goal
 
 pub returns-then-not-branch : goal.returns-then-not-branch
@@ -20,7 +22,7 @@ returns-then-not-branch c =
     let key = c.as_str.result in
     let split : attrs ≡ take i attrs ++ w ∷ drop (suc i) attrs =
     sym (take-append-drop i attrs) ∙ ap (λ v. take i attrs ++ v) (drop-cons attrs i w c.loop-attr-test.true ∙ ap (λ v. v ∷ drop (suc i) attrs) (sym c.attr-item.is)) in
-    let there = not_false _ (sym c.if-not-branch.true ∙ c.in_ok-insert.ensures.added) in
+    let there = not-false _ (sym (sym c.if-not-branch.true ∙ c.in_ok-insert.ensures.added)) in
     let known : list_any (λ a. bytes_eq a.name w.name) (take i attrs) ≡ true =
     ap (λ v. list_any (λ a. bytes_eq a.name v) (take i attrs)) (sym c.as_str.ensures) ∙ (sym (c.loop-attr.invariant.told key) ∙ there) in
     sym (ap (has_twice same_name) split ∙ twice_found same_name (take i attrs) w (drop (suc i) attrs) known)
@@ -33,7 +35,7 @@ loop-attr-preserved c =
     let key = c.as_str.result in
     let front = take i attrs in
     let more : take (i + 1) attrs ≡ front ++ w ∷ [] = take_more attrs i w c.loop-attr-test.true ∙ ap (λ v. front ++ v ∷ []) (sym c.attr-item.is) in
-    let absent = not_true _ (sym c.if-not-branch.false ∙ c.in_ok-insert.ensures.added) in
+    let absent = not-true _ (sym (sym c.if-not-branch.false ∙ c.in_ok-insert.ensures.added)) in
     let unknown : list_any (λ a. bytes_eq a.name w.name) front ≡ false =
     ap (λ v. list_any (λ a. bytes_eq a.name v) front) (sym c.as_str.ensures) ∙ (sym (c.loop-attr.invariant.told key) ∙ absent) in
     record {

@@ -3,10 +3,11 @@ use Rattle.std.specs.Ordering.{nat_cmp}
 use Rattle.std.specs.Cmp.Lexicographic.{slice_cmp}
 use Rattle.std.specs.BTreeSet as tree
 use Rattle.std.proofs.lemmas.Map.Text.{is_eq-slice_cmp}
+use Rattle.std.proofs.lemmas.Bool.{not-false, not-true}
 use Rattle.zi_parts.specs.declared.types.Command.{Command}
 use Rattle.zi_reading.specs.Words.{latest}
 use Rattle.zi_feed.specs.Impls.{are_alike}
-use Rattle.zi_feed.proofs.LatestLaws.{rest, is_named_in, rest_back, kept_more, named_more, latest_new, latest_old, not_true, not_false}
+use Rattle.zi_feed.proofs.LatestLaws.{rest, is_named_in, rest_back, kept_more, named_more, latest_new, latest_old}
 use Rattle.zi_feed.proofs.along.latest_back.Goals as goal
 
 pub loop-left-preserved-in-Continue-branch-2 : goal.loop-left-preserved-in-Continue-branch-2
@@ -18,7 +19,7 @@ loop-left-preserved-in-Continue-branch-2 c =
     let later = rest cs c.loop-left.left in
     let back : rest cs (c.loop-left.left - 1) ≡ x.now ∷ later =
     rest_back cs (c.loop-left.left - 1) c.loop-left.left x (omega arith) (omega arith) c.index-commands-left.is in
-    let absent = not_true _ (sym c.if-branch.true ∙ c.in_ok-insert.ensures.added) in
+    let absent = not-true _ (sym (sym c.if-branch.true ∙ c.in_ok-insert.ensures.added)) in
     let unknown : is_named_in later x.now.name ≡ false = ap (is_named_in later) (sym named) ∙ (sym (c.loop-left.invariant.told key) ∙ absent) in
     record {
       within = omega arith;
@@ -41,7 +42,7 @@ loop-left-preserved c =
     let later = rest cs c.loop-left.left in
     let back : rest cs (c.loop-left.left - 1) ≡ x.now ∷ later =
     rest_back cs (c.loop-left.left - 1) c.loop-left.left x (omega arith) (omega arith) c.index-commands-left.is in
-    let present = not_false _ (sym c.if-branch.false ∙ c.in_ok-insert.ensures.added) in
+    let present = not-false _ (sym (sym c.if-branch.false ∙ c.in_ok-insert.ensures.added)) in
     let known : is_named_in later x.now.name ≡ true = ap (is_named_in later) (sym named) ∙ (sym (c.loop-left.invariant.told key) ∙ present) in
     record {
       within = omega arith;

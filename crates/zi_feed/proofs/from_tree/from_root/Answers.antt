@@ -1,10 +1,15 @@
-use Rattle.std.proofs.Common.{List, Some, sym, subst}
-use Rattle.zi_reading.specs.Ways.{InFeed}
-use Rattle.zi_faults.specs.declared.carrying.Seen.{Seen}
-use Rattle.zi_faults.specs.Carrying.{AreChecked}
+use Rattle.std.proofs.Common.{refl, sym, ap, ◌∙◌, option_copied}
+use Rattle.zi_elements.specs.declared.element.Element.{Element}
+use Rattle.zi_elements.specs.Forest.{element_view}
+use Rattle.zi_feed.specs.Active.{kept_feed}
+use Rattle.zi_feed.specs.Feeds.{feed_fault, feed_of}
+use Rattle.zi_feed.proofs.FindingLaws.{kept_whole}
 use Rattle.zi_feed.proofs.from_tree.from_root.Goals as goal
 
-pub feed_fault-requires-clause-checked : goal.feed_fault-requires-clause-checked
-feed_fault-requires-clause-checked c =
-    let P : List Seen → Type 0 = λ v. AreChecked (InFeed c.args.uri.now) v in
-    subst P (sym c.as_slice.ensures.value) c.in_ok-seen.ensures.checked
+pub returns-clause-reads : goal.returns-clause-reads
+unfolding feed_of
+returns-clause-reads c =
+    (ap (λ (e : Element). feed_fault (element_view e) c.args.uri.now) (sym c.new-root.ensures) ∙ (sym c.in_ok-fault.ensures ∙ c.in_default.is),
+    c.in_ok-shared_feed.ensures.feed
+    ∙ (kept_whole (option_copied c.args.policy) (feed_of (element_view c.new-root.result) c.args.uri.now) _ _ _ refl c.in_ok-imports.ensures c.in_ok-found.ensures.impls
+    ∙ ap (λ (e : Element). kept_feed (option_copied c.args.policy) (feed_of (element_view e) c.args.uri.now)) c.new-root.ensures))

@@ -3,11 +3,13 @@ use Rattle.std.specs.Prelude.{filter}
 use Rattle.std.specs.BTreeSet as tree
 use Rattle.std.specs.List.{list_any}
 use Rattle.std.specs.Str.{bytes_eq}
+use Rattle.std.proofs.lemmas.Bool.{not-false, not-true}
 use Rattle.zi_names.specs.declared.attributes.Raw.{Raw}
 use Rattle.zi_names.specs.declared.attributes.Binding.{Binding}
 use Rattle.zi_names.specs.Names.{local, prefix, address_of, is_prefixed, same_expanded, has_twice}
-use Rattle.zi_names.proofs.Twice.{any_push, twice_push, twice_found, cond_or, not_false, not_true}
+use Rattle.zi_names.proofs.Twice.{twice_push, twice_found}
 use Rattle.zi_names.proofs.Expanded.{Key, key_cmp, is_named, key_equal, filter_at, filter_front_more, filter_front_same}
+use Rattle.zi_text.proofs.ListLaws.{any_push, cond_or}
 use Rattle.zi_names.proofs.repeats.has_expanded_twice.Goals as goal
 use Rattle.zi_names.proofs.repeats.has_expanded_twice.Goals.{then-is_prefixed+in_ok-insert+else-not-branch, else-is_prefixed}
 
@@ -30,7 +32,7 @@ returns-then-not-branch c =
     c.address_or_empty.ensures ∙ ap (address_of scope) (c.split.ensures.before ∙ ap prefix c.as_str.ensures) in
     let passes : is_prefixed w ≡ true = sym c.is_prefixed.ensures ∙ c.if-is_prefixed.true in
     let front = filter is_prefixed (take i raw) in
-    let there = not_false _ (sym c.if-not-branch.true ∙ c.in_ok-insert.ensures.added) in
+    let there = not-false _ (sym (sym c.if-not-branch.true ∙ c.in_ok-insert.ensures.added)) in
     let known : list_any (λ a. same_expanded scope a w) front ≡ true = alike_before scope front w k behind space ∙ (sym (c.loop-attribute.invariant.told k) ∙ there) in
     sym (ap (has_twice (same_expanded scope)) (filter_at is_prefixed raw i w c.loop-attribute-test.true c.attribute-item.is passes)
     ∙ twice_found (same_expanded scope) front w (filter is_prefixed (drop (suc i) raw)) known)
@@ -50,7 +52,7 @@ loop-attribute-preserved c =
           b.address_or_empty.ensures ∙ ap (address_of scope) (b.split.ensures.before ∙ ap prefix b.as_str.ensures) in
           let passes : is_prefixed w ≡ true = sym c.is_prefixed.ensures ∙ b.if-is_prefixed.true in
           let more : filter is_prefixed (take (i + 1) raw) ≡ front ++ w ∷ [] = filter_front_more is_prefixed raw i w c.loop-attribute-test.true c.attribute-item.is passes in
-          let absent = not_true _ (sym b.if-not-branch.false ∙ b.in_ok-insert.ensures.added) in
+          let absent = not-true _ (sym (sym b.if-not-branch.false ∙ b.in_ok-insert.ensures.added)) in
           let unknown : list_any (λ a. same_expanded scope a w) front ≡ false = alike_before scope front w k behind space ∙ (sym (c.loop-attribute.invariant.told k) ∙ absent) in
           record {
             told = λ q.

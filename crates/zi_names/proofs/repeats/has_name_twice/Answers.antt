@@ -6,9 +6,11 @@ use Rattle.std.specs.List.{list_any}
 use Rattle.std.specs.Str.{bytes_eq}
 use Rattle.std.proofs.lemmas.List.{take-append-drop, take_more}
 use Rattle.std.proofs.lemmas.Map.Text.{is_eq-slice_cmp}
+use Rattle.std.proofs.lemmas.Bool.{not-false, not-true}
 use Rattle.zi_names.specs.declared.attributes.Raw.{Raw}
 use Rattle.zi_names.specs.Names.{same_name, has_twice}
-use Rattle.zi_names.proofs.Twice.{any_push, twice_push, twice_found, cond_or, not_false, not_true}
+use Rattle.zi_names.proofs.Twice.{twice_push, twice_found}
+use Rattle.zi_text.proofs.ListLaws.{any_push, cond_or}
 use Rattle.zi_names.proofs.repeats.has_name_twice.Goals as goal
 
 pub returns-then-not-branch : goal.returns-then-not-branch
@@ -19,7 +21,7 @@ returns-then-not-branch c =
     let key = c.as_str.result in
     let split : raw ≡ take i raw ++ w ∷ drop (suc i) raw =
     sym (take-append-drop i raw) ∙ ap (λ v. take i raw ++ v) (drop-cons raw i w c.loop-attribute-test.true ∙ ap (λ v. v ∷ drop (suc i) raw) (sym c.attribute-item.is)) in
-    let there = not_false _ (sym c.if-not-branch.true ∙ c.in_ok-insert.ensures.added) in
+    let there = not-false _ (sym (sym c.if-not-branch.true ∙ c.in_ok-insert.ensures.added)) in
     let known : list_any (λ a. bytes_eq a.name w.name) (take i raw) ≡ true =
     ap (λ v. list_any (λ a. bytes_eq a.name v) (take i raw)) (sym c.as_str.ensures) ∙ (sym (c.loop-attribute.invariant.told key) ∙ there) in
     sym (ap (has_twice same_name) split ∙ twice_found same_name (take i raw) w (drop (suc i) raw) known)
@@ -32,7 +34,7 @@ loop-attribute-preserved c =
     let key = c.as_str.result in
     let front = take i raw in
     let more : take (i + 1) raw ≡ front ++ w ∷ [] = take_more raw i w c.loop-attribute-test.true ∙ ap (λ v. front ++ v ∷ []) (sym c.attribute-item.is) in
-    let absent = not_true _ (sym c.if-not-branch.false ∙ c.in_ok-insert.ensures.added) in
+    let absent = not-true _ (sym (sym c.if-not-branch.false ∙ c.in_ok-insert.ensures.added)) in
     let unknown : list_any (λ a. bytes_eq a.name w.name) front ≡ false =
     ap (λ v. list_any (λ a. bytes_eq a.name v) front) (sym c.as_str.ensures) ∙ (sym (c.loop-attribute.invariant.told key) ∙ absent) in
     record {

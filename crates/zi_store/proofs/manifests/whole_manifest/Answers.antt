@@ -1,11 +1,12 @@
 use Rattle.std.proofs.Common.{◌≡◌, ◌∙◌, sym, ap, subst, true, refl, Err, rules}
 use Rattle.std.proofs.lemmas.Result.{err_from_is_err_and}
 use Rattle.zi_store.specs.ManifestAnswers.{WritesWhole}
-use Rattle.zi_store.proofs.KeepingLemmas.{some_of, stands_later}
+use Rattle.zi_store.proofs.KeepingLemmas.{stands_later}
 use Rattle.zi_store.proofs.WalkLemmas.{failed_passed}
 use Rattle.zi_store.proofs.TreeLemmas.{whole_there}
 use Rattle.zi_store.proofs.ManifestLemmas.{wrote, wrote_less, not_listed}
 use Rattle.zi_store.proofs.SomeTreeLemmas.{whole_some}
+use Rattle.zi_text.proofs.ListLaws.{some_of}
 use Rattle.zi_store.proofs.manifests.whole_manifest.Goals as goal
 
 pub returns-in_err-entries-clause-manifest : goal.returns-in_err-entries-clause-manifest

@@ -1,7 +1,8 @@
 use Rattle.std.proofs.Common.{◌≡◌, ◌∙◌, sym, ap, subst, true, Err, rules}
 use Rattle.zi_store.specs.TreeAnswers.{ReadsWhole}
-use Rattle.zi_store.proofs.KeepingLemmas.{some_of, stands_later}
+use Rattle.zi_store.proofs.KeepingLemmas.{stands_later}
 use Rattle.zi_store.proofs.TreeLemmas.{whole_there, walked, unlisted}
+use Rattle.zi_text.proofs.ListLaws.{some_of}
 use Rattle.zi_store.proofs.trees.whole_tree.Goals as goal
 
 pub returns-in_err-entries-clause-tree : goal.returns-in_err-entries-clause-tree

@@ -1,5 +1,6 @@
 use Rattle.std.proofs.Common.{◌≡◌, ◌∷◌, [], ◌++◌, List, length, refl, ◌∙◌, ap, sym, subst, arith}
 use Rattle.std.proofs.lemmas.List.Sorted.{length_permutation}
+use Rattle.std.proofs.lemmas.List.{length-map}
 use Rattle.zi_policy.specs.declared.types.Policy.{Policy}
 use Rattle.zi_feed.specs.declared.shares.Shares.{Shares}
 use Rattle.zi_universe.specs.declared.types.Candidate.{Candidate}
@@ -8,7 +9,6 @@ use Rattle.zi_universe.specs.Naming.{Uri, joined}
 use Rattle.zi_universe.specs.Candidates.{asked_by_all}
 use Rattle.zi_universe.specs.Stages.{IsSorting}
 use Rattle.zi_universe.specs.Offering.{candidates_of, AreNumbered}
-use Rattle.zi_universe.proofs.NamingLemmas.{length-map}
 use Rattle.zi_universe.proofs.loading.finish.Goals as goal
 
 pub rank-requires : goal.rank-requires
@@ -28,7 +28,7 @@ returns-then-len-gt-MOST_INTERFACES c =
     let P : Policy → Type 0 = λ p. IsSorting p offered cs in
     let sorting : IsSorting c.args.wanted.now.policy offered cs = subst P c.policy.ensures c.in_ok-ranked.ensures.sorting in
     let same : length cs ≡ length offered = length_permutation offered cs sorting.same in
-    let count : length offered ≡ length c.args.offers.offered.items = length-map (λ (o : Offered). o.candidate) c.args.offers.offered.items in
+    let count : length offered ≡ length c.args.offers.offered.items = length-map c.args.offers.offered.items (λ (o : Offered). o.candidate) in
     let asked = c.in_ok-add_asked.ensures ∙ ap (λ (l : List Offered). joined c.args.state.now.names.keys (asked_by_all (candidates_of l))) c.as_slice-all.ensures.value in
     let long = ap (λ (l : List Uri). length l) asked in (
       refl,
@@ -47,7 +47,7 @@ returns c =
     let P : Policy → Type 0 = λ p. IsSorting p offered cs in
     let sorting : IsSorting c.args.wanted.now.policy offered cs = subst P c.policy.ensures c.in_ok-ranked.ensures.sorting in
     let same : length cs ≡ length offered = length_permutation offered cs sorting.same in
-    let count : length offered ≡ length c.args.offers.offered.items = length-map (λ (o : Offered). o.candidate) c.args.offers.offered.items in
+    let count : length offered ≡ length c.args.offers.offered.items = length-map c.args.offers.offered.items (λ (o : Offered). o.candidate) in
     record {
       cs = cs;
       sorting = sorting;

@@ -1,10 +1,12 @@
 use Rattle.std.proofs.Common.{◌≡◌, [], ◌∷◌, ◌||◌, sym, ap, ◌∙◌, inl, inr}
+use Rattle.zi_text.proofs.ListLaws.{cond_or}
 use Rattle.zi_words.proofs.options.rate.Goals as goal
 use Rattle.std.proofs.Common.{refl}
 use Rattle.std.specs.Ordering.{is_eq}
+use Rattle.std.proofs.lemmas.Bool.{not-false, not-true}
 use Rattle.zi_policy.specs.Stabilities.{stability_of}
 use Rattle.zi_words.specs.Taken.{Key, key_cmp, holds}
-use Rattle.zi_words.proofs.TakenLemmas.{is_there, not_true, not_false, cond_or, unrated, rated, with_overrides}
+use Rattle.zi_words.proofs.TakenLemmas.{is_there, unrated, rated, with_overrides}
 
 pub returns-then-not-branch : goal.returns-then-not-branch
 returns-then-not-branch c =
@@ -13,7 +15,7 @@ returns-then-not-branch c =
     let id = c.in-Some.id.now in
     let last = c.in-Some.last.now in
     let key : Key = (c.as_str.result, c.as_str-2.result) in
-    let there = not_false _ (sym c.if-not-branch.true ∙ c.in_ok-insert.ensures.added) in
+    let there = not-false _ (sym (sym c.if-not-branch.true ∙ c.in_ok-insert.ensures.added)) in
     inr (u, rest, c.in_ok-interface.ensures.0, c.in_ok-interface.ensures.1, inr (id, last, key, c.in-Some.ensures.cases.0, (c.as_str.ensures, c.as_str-2.ensures), inl (there, refl)))
 
 pub returns-in-Err : goal.returns-in-Err
@@ -23,7 +25,7 @@ returns-in-Err c =
     let id = c.in-Some.id.now in
     let last = c.in-Some.last.now in
     let key : Key = (c.as_str.result, c.as_str-2.result) in
-    let absent = not_true _ (sym c.if-not-branch.false ∙ c.in_ok-insert.ensures.added) in
+    let absent = not-true _ (sym (sym c.if-not-branch.false ∙ c.in_ok-insert.ensures.added)) in
     unrated c.args.asked.now c.args.asked.now c.args.pairs.now c.insert.new.self c.args.words.now rest last u id key c.in-Err.refusal
     c.in_ok-interface.ensures.0 c.in_ok-interface.ensures.1 c.in-Some.ensures.cases.0 (c.as_str.ensures, c.as_str-2.ensures) absent c.in-Err.ensures
 
@@ -33,7 +35,7 @@ returns c =
     let rest = c.in_ok-interface.behind.now in
     let id = c.in-Some.id.now in
     let key : Key = (c.as_str.result, c.as_str-2.result) in
-    let absent = not_true _ (sym c.if-not-branch.false ∙ c.in_ok-insert.ensures.added) in
+    let absent = not-true _ (sym (sym c.if-not-branch.false ∙ c.in_ok-insert.ensures.added)) in
     let e = c.in-Ok.ensures in
     let a = c.args.asked.now in
     let told : (q : Key) → holds c.insert.new.self q ≡ (holds c.args.pairs.now q || is_eq (key_cmp key q)) =

@@ -3,7 +3,8 @@ use Rattle.std.proofs.lemmas.List.{reverse-append}
 use Rattle.std.specs.Str.{bytes_eq}
 use Rattle.std.specs.BTreeMap.{get_by_text}
 use Rattle.zi_names.specs.Places.{place, IsIndexed}
-use Rattle.zi_names.proofs.PlacesLemmas.{bytes_itself, indexed_less}
+use Rattle.zi_names.proofs.PlacesLemmas.{indexed_less}
+use Rattle.zi_text.proofs.ListLaws.{bytes_itself}
 use Rattle.zi_names.proofs.scope.Scope.pop.Goals as goal
 
 pub restore-requires : goal.restore-requires

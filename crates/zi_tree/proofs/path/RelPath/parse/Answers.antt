@@ -8,7 +8,7 @@ use Rattle.std.proofs.lemmas.Str.{is_utf8-from_IsUtf8}
 use Rattle.std.specs.Str.Iter.{split_text, split_has_more, split_pattern}
 use Rattle.zi_tree.specs.Order.{is_name, has_byte}
 use Rattle.zi_tree.specs.Parts.{is_kept, is_up, is_absolute, between_slashes}
-use Rattle.zi_tree.proofs.Pieces.{or_parts, part_name, names_more, none_of, some_of, kept_more, no_up_more}
+use Rattle.zi_tree.proofs.Pieces.{part_name, names_more, none_of, some_of, kept_more, no_up_more}
 use Rattle.zi_tree.proofs.path.RelPath.parse.Goals as goal
 
 pub returns-then-eq : goal.returns-then-eq
