@@ -9,7 +9,7 @@ use Rattle.zi_digest.specs.declared.Algorithm.{Algorithm}
 use Rattle.zi_tree.specs.Order.{is_plain, has_byte}
 use Rattle.std.specs.Str.{is_utf8}
 use Rattle.std.specs.Prelude.{codes, nat_eq}
-use Rattle.std.proofs.lemmas.Bool.{and_parts, and_from, not_from_false}
+use Rattle.std.proofs.lemmas.Bool.{and_parts, and_from, not_from_false, or_parts}
 use Rattle.zi_tree.proofs.Order.{lt_apart}
 use Rattle.zi_manifest.specs.Sketch.{Sketch, Empty, OfFile, OfLink, OfFolder, joined, text_of, leaf_text, folder_text}
 use Rattle.zi_manifest.specs.Listing.{IsEntryName, IsListing, is_ahead, lines_of, leaf_lines, folder_lines}

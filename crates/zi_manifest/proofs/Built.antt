@@ -5,7 +5,7 @@ use Rattle.std.specs.Ordering.{is_lt, nat_cmp}
 use Rattle.std.specs.Cmp.Lexicographic.{slice_cmp}
 use Rattle.std.proofs.lemmas.List.{append_assoc, append-nil}
 use Rattle.std.proofs.lemmas.Slice.Eq.{bytes_eq-Decides}
-use Rattle.std.proofs.lemmas.Bool.{and_parts, and_from, not-true}
+use Rattle.std.proofs.lemmas.Bool.{and_parts, and_from, not-true, or_parts}
 use Rattle.zi_digest.specs.declared.Algorithm.{Algorithm}
 use Rattle.zi_tree.proofs.Order.{lt_trans, lt_flip, lt_less}
 use Rattle.zi_manifest.specs.Sketch.{Sketch, Empty, OfFile, OfLink, OfFolder, joined}

@@ -1,5 +1,5 @@
 pub mod Walks
-pub mod Opened
+pub mod PlaceLemmas
 pub mod Listed
 pub mod Accepted
 pub mod Built

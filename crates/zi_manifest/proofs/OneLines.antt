@@ -1,12 +1,11 @@
 -- An entry's line has one LF, and tells of one entry.
-use Rattle.std.proofs.Common.{◌≡◌, ℕ, true, false, List, [], ◌∷◌, ◌++◌, arith}
-use Rattle.std.specs.Prelude.{codes, decimal, bytes_eq}
+use Rattle.std.proofs.Common.{◌≡◌, ℕ, true, false, List, ◌∷◌, ◌++◌, arith}
+use Rattle.std.specs.Prelude.{decimal}
 use Rattle.std.specs.Fmt.{signed_decimal}
 use Rattle.std.proofs.lemmas.List.{append_assoc}
 use Rattle.zi_digest.specs.declared.Algorithm.{Algorithm}
 use Rattle.zi_tree.specs.Order.{has_byte}
 use Rattle.zi_manifest.specs.Sketch.{joined}
-use Rattle.zi_manifest.specs.Listing.{IsEntryName}
 use Rattle.zi_manifest.specs.declared.entries.Entry.TheVariants.{File, Link, Folder}
 use Rattle.zi_manifest.proofs.Accepted.{has_append, no_newline, byte_joined}
 use Rattle.zi_manifest.proofs.Cuts.{decimal_has, signed_has, hash_has}

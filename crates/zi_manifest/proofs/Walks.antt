@@ -1,38 +1,14 @@
 -- A folder, entry by entry.
-use Rattle.std.proofs.Common.{◌≡◌, ◌≤◌, ℕ, zero, suc, Bool, true, false, ◌&&◌, List, [], ◌∷◌, ◌++◌, length, Option, Some, None, refl, sym, ◌∙◌, ap, bytes_eq, if◌then◌else◌, drop, arith}
+use Rattle.std.proofs.Common.{◌≡◌, ℕ, Bool, true, false, ◌&&◌, List, [], ◌++◌, length, Option, Some, None, refl, sym, ap, bytes_eq, if◌then◌else◌}
 use Rattle.std.specs.Option.{option_or}
-use Rattle.std.proofs.lemmas.Option.{same_Some}
 use Rattle.zi_digest.specs.declared.Algorithm.{Algorithm}
 use Rattle.zi_tree.specs.Dir.{Dir, Nothing, AFile, ALink, AFolder}
 use Rattle.zi_tree.specs.declared.tree.TreeNode.{TreeNode}
 use Rattle.zi_tree.specs.declared.tree.TreeNode.TheVariants.{File, Link, Folder}
-use Rattle.zi_tree.specs.Views.{Item, dir, entry_of}
-use Rattle.zi_tree.specs.Paths.{items, name_in, node_of}
+use Rattle.zi_tree.specs.Views.{entry_of}
 use Rattle.zi_manifest.specs.Sketch.{hash_of, sketch, joined, file_line, folder_line, leaf_text, folder_text}
 use Rattle.zi_manifest.specs.Manifest.{own_name, is_bad, as_read, leaf_bad, folder_bad}
-use Rattle.zi_manifest.specs.Walk.{shown, bad_name, node_bad, node_text, after, inner_bad, inner_text}
-use Rattle.zi_tree.proofs.Replaced.{dir_items}
-
--- the first entry of what is left
-step : (is : List Item) (i : ℕ) (n : List ℕ) (x : TreeNode) → name_in is i ≡ Some n → node_of is i ≡ Some x → drop i is ≡ (n, x) ∷ drop (suc i) is
-step [] i n x h k = absurd (cc h)
-step ((m, y) ∷ is) zero n x h k = let e = same_Some m n h in let f = same_Some y x k in ap (λ (z : List ℕ). (z, y) ∷ is) e ∙ ap (λ (z : TreeNode). (n, z) ∷ is) f
-step (j ∷ is) (suc i) n x h k = step is i n x h k
-
-pub after_step : (d : Dir) (i : ℕ) (n : List ℕ) (x : TreeNode) → name_in (items d) i ≡ Some n → node_of (items d) i ≡ Some x → after i d ≡ entry_of n x (after (suc i) d)
-after_step d i n x h k = ap dir (step (items d) i n x h k)
-
-pub after_none : (d : Dir) → after 0 d ≡ d
-after_none d = dir_items d
-
-past : (is : List Item) (i : ℕ) → length is ≤ i → drop i is ≡ []
-past [] zero h = refl
-past [] (suc i) h = refl
-past (j ∷ is) zero h = absurd (omega arith)
-past (j ∷ is) (suc i) h = past is i (omega arith)
-
-pub after_all : (d : Dir) (i : ℕ) → length (items d) ≤ i → after i d ≡ Nothing
-after_all d i h = ap dir (past (items d) i h)
+use Rattle.zi_manifest.specs.Walk.{shown, bad_name, node_bad, node_text, inner_bad, inner_text}
 
 pub shown_nothing : (top : Bool) → shown top Nothing ≡ Nothing
 shown_nothing true = refl

@@ -1,6 +1,6 @@
 pub mod Sketch
 pub mod Manifest
 pub mod Walk
-pub mod Frames
+pub mod AtPlace
 pub mod Listing
 pub mod Reading

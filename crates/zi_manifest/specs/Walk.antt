@@ -1,7 +1,5 @@
 -- What one entry of a folder adds to the manifest.
-use Rattle.zi_tree.specs.Views.{dir}
-use Rattle.zi_tree.specs.Paths.{items}
-use Rattle.std.specs.Prelude.{drop, ◌++◌, ℕ, Bool, List, [], Option, None, Some, ◌&&◌, bytes_eq, if◌then◌else◌, length}
+use Rattle.std.specs.Prelude.{◌++◌, ℕ, Bool, List, [], Option, None, Some, ◌&&◌, bytes_eq, if◌then◌else◌, length}
 use Rattle.zi_digest.specs.declared.Algorithm.{Algorithm}
 use Rattle.zi_tree.specs.Dir.{Dir}
 use Rattle.zi_tree.specs.declared.tree.TreeNode.{TreeNode}
@@ -29,10 +27,6 @@ abbrev pub node_text : Algorithm → Bool → List ℕ → TreeNode → List ℕ
 node_text a top n (File b e t) = if is_own top n then [] else file_line (hash_of a b) e t (length b) n
 node_text a top n (Link t) = link_line (hash_of a t) (length t) n
 node_text a top n (Folder d) = []
-
--- the tree from the entry of that number on
-abbrev pub after : ℕ → Dir → Dir
-after i d = dir (drop i (items d))
 
 -- the first bad name that a subfolder's own line and its lines meet
 abbrev pub inner_bad : List ℕ → List ℕ → TreeNode → Option (List ℕ)

@@ -6,8 +6,8 @@ ghost use Rattle.std.specs.Prelude.{bytes_eq};
 ghost use Rattle.zi_manifest.specs.Sketch.{joined};
 ghost use Rattle.zi_manifest.specs.Reading.{Takes, TakesLeaf, TakesFolder, all_rise, rises, all_before, is_above, fresh, back};
 
+use crate::at_place::joined;
 use crate::entries::Entry;
-use crate::frames::joined;
 use std::alloc::Global;
 use zi_text::{List, Memory, Text};
 

@@ -6,8 +6,8 @@ ghost use Rattle.zi_tree.specs.Order.{is_plain};
 ghost use Rattle.std.specs.Fmt.{signed_decimal};
 ghost use Rattle.zi_manifest.specs.Listing.{IsHash, IsSigned64, IsEntryName, digits_of, is_lower_digit};
 
+use crate::at_place::is_bad;
 use crate::cutting::cut;
-use crate::frames::is_bad;
 use itoa::Buffer;
 use zi_digest::Algorithm;
 

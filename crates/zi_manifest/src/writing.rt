@@ -4,12 +4,12 @@ ghost use Rattle.std.specs.Prelude.{◌≡◌, ℕ, List, Err, None, Some, IfOk}
 ghost use Rattle.zi_manifest.specs.Manifest.{first_bad, as_read, manifest, digest_of};
 ghost use Rattle.zi_manifest.specs.declared.writing.ManifestOutFault.TheVariants.{BadName};
 
-use crate::frames::{start, step};
+use crate::at_place::place_line;
 use std::alloc::Global;
 use thiserror::Error;
 use zi_digest::{Algorithm, DigestName, Hasher};
 use zi_text::{Memory, Text};
-use zi_tree::Tree;
+use zi_tree::{Tree, places};
 
 /// Why a tree has no manifest.
 #[derive(Debug, Drop, Error)]
@@ -41,19 +41,19 @@ pub fn write(alloc: Global, t: &Tree, a: Algorithm) -> Result<Vec<u8>, ManifestO
     ensures text { IfOk result (λ m. (first_bad (as_read t.now) ≡ None) × (m.items ≡ manifest a t.now)) }
     ensures bad { (p : List ℕ) → result ≡ Err (BadName p) → first_bad (as_read t.now) ≡ Some p }
 {
-    let mut frames = start(alloc, t)?;
+    let places = places(alloc, t)?;
     let mut out: Vec<u8> = Vec::new(alloc);
-    loop {
-        match step(alloc, a, &mut frames) {
+    for place in &places {
+        match place_line(alloc, a, place) {
             Err(fault) => return Err(fault),
-            Ok(None) => return Ok(out),
-            Ok(Some(piece)) => {
-                let Ok(()) = out.extend_from_slice(piece.as_slice()) else {
+            Ok(line) => {
+                let Ok(()) = out.extend_from_slice(line.as_slice()) else {
                     return Err(ManifestOutFault::Memory);
                 };
             }
         }
     }
+    Ok(out)
 }
 
 /// The digest of a tree: the hash of its manifest by this algorithm. The manifest is hashed line by line as it is made.
@@ -63,13 +63,13 @@ pub fn digest(alloc: Global, t: &Tree, a: Algorithm) -> Result<DigestName, Manif
     ensures name { IfOk result (λ n. (first_bad (as_read t.now) ≡ None) × (n ≡ digest_of a t.now)) }
     ensures bad { (p : List ℕ) → result ≡ Err (BadName p) → first_bad (as_read t.now) ≡ Some p }
 {
-    let mut frames = start(alloc, t)?;
+    let places = places(alloc, t)?;
     let mut hasher = Hasher::new(a);
-    loop {
-        match step(alloc, a, &mut frames) {
+    for place in &places {
+        match place_line(alloc, a, place) {
             Err(fault) => return Err(fault),
-            Ok(None) => return Ok(hasher.finish()),
-            Ok(Some(piece)) => hasher.update(piece.as_slice()),
+            Ok(line) => hasher.update(line.as_slice()),
         }
     }
+    Ok(hasher.finish())
 }

@@ -1,36 +1,19 @@
 -- Bad names of a tree that is to be added.
-use Rattle.std.proofs.Common.{◌≡◌, ℕ, zero, suc, Bool, true, false, ◌&&◌, ◌||◌, List, [], ◌∷◌, ◌++◌, Option, Some, None, refl, sym, ◌∙◌, ap, bytes_eq, if◌then◌else◌}
+use Rattle.std.proofs.Common.{◌≡◌, ℕ, suc, Bool, true, false, ◌&&◌, ◌||◌, List, [], ◌∷◌, ◌++◌, Option, Some, None, refl, sym, ◌∙◌, ap, bytes_eq, if◌then◌else◌}
 use Rattle.std.specs.Option.{option_or}
-use Rattle.std.specs.Str.{is_utf8}
-use Rattle.std.proofs.lemmas.Bool.{and_parts}
 use Rattle.zi_tree.specs.Dir.{Dir, Nothing, AFile, ALink, AFolder}
 use Rattle.zi_tree.specs.declared.tree.TreeNode.{TreeNode}
 use Rattle.zi_tree.specs.declared.tree.TreeNode.TheVariants.{File, Link, Folder}
 use Rattle.zi_tree.specs.Views.{entry_of}
-use Rattle.zi_tree.specs.Paths.{items, name_in, node_of, node_in}
-use Rattle.zi_tree.specs.Order.{is_tree, is_name, is_plain}
-use Rattle.zi_tree.proofs.Order.{parts}
+use Rattle.zi_tree.specs.Paths.{items, name_in, node_of, node_in, after}
+use Rattle.zi_tree.specs.Order.{is_plain}
+use Rattle.zi_tree.proofs.After.{after_step}
 use Rattle.zi_manifest.specs.Sketch.{joined}
 use Rattle.zi_manifest.specs.Manifest.{own_name, has_newline, is_bad, leaf_bad, folder_bad, first_bad, as_read}
-use Rattle.zi_manifest.specs.Walk.{after}
-use Rattle.zi_manifest.proofs.Walks.{after_step}
-use Rattle.zi_session.specs.Walk.{is_leaf}
+use Rattle.zi_session.specs.AtPlace.{is_leaf}
 use Rattle.zi_text.proofs.ListLaws.{first_none}
 
-plain_name : (m n : List ℕ) → is_name m ≡ true → Some m ≡ Some n → is_plain n ≡ true
-plain_name m n h k = let e : m ≡ n = cc k in ap is_plain (sym e) ∙ (and_parts (is_utf8 m) (is_plain m) h).1
-
--- the names of a tree are names
-pub plain_at : (d : Dir) (i : ℕ) (n : List ℕ) → is_tree d ≡ true → name_in (items d) i ≡ Some n → is_plain n ≡ true
-plain_at Nothing i n h k = absurd (cc k)
-plain_at (AFile m b e t rest) zero n h k = plain_name m n (parts m (File b e t) rest h).name k
-plain_at (AFile m b e t rest) (suc i) n h k = plain_at rest i n (parts m (File b e t) rest h).rest_ k
-plain_at (ALink m t rest) zero n h k = plain_name m n (parts m (Link t) rest h).name k
-plain_at (ALink m t rest) (suc i) n h k = plain_at rest i n (parts m (Link t) rest h).rest_ k
-plain_at (AFolder m inside rest) zero n h k = plain_name m n (parts m (Folder inside) rest h).name k
-plain_at (AFolder m inside rest) (suc i) n h k = plain_at rest i n (parts m (Folder inside) rest h).rest_ k
-
--- so each of them makes a path longer
+-- a name makes a path longer
 pub no_child : (m n : List ℕ) (p : List (List ℕ)) (o : Option (List (List ℕ))) → m ≡ n → is_plain n ≡ true → o ≡ (if is_plain m then Some (p ++ m ∷ []) else None) → o ≡ None → ⊥
 no_child m n p o e h i z =
     let t : is_plain m ≡ true = ap is_plain e ∙ h in

@@ -3,7 +3,7 @@ pub mod Runs
 pub mod Placing
 pub mod Remade
 pub mod Small
-pub mod WalkLemmas
+pub mod PlaceLemmas
 pub mod PieceLemmas
 pub mod BeginLemmas
 pub mod MapsLemmas

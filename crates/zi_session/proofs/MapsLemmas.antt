@@ -1,6 +1,5 @@
 -- Look-ups after a change.
 use Rattle.std.proofs.Common.{◌≡◌, ◌≢◌, ℕ, zero, suc, true, false, List, [], ◌∷◌, ◌++◌, map, Option, Some, None, ◌⊎◌, inl, inr, refl, ap, subst, IsSome, bytes_eq, slice_get, slice_set, arith, if◌then◌else◌}
-use Rattle.std.proofs.lemmas.Slice.Eq.{bytes_eq-Decides}
 use mathlib.Core.Path.{fun_ext}
 use Rattle.zi_shelf.specs.Names.{Name, put, IsIn}
 use Rattle.zi_shelf.proofs.TopsLemmas.{test_refl, test_false}

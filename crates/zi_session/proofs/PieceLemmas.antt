@@ -3,7 +3,7 @@ use Rattle.std.proofs.Common.{◌≡◌, ◌<◌, ◌≤◌, ℕ, suc, ◌-◌, 
 use Rattle.std.proofs.lemmas.List.{append_assoc, map-append}
 use Rattle.zi_shelf.specs.Filling.{Work, Append}
 use Rattle.zi_session.specs.Works.{work_of, cut, pieces}
-use Rattle.zi_session.specs.Walk.{calls}
+use Rattle.zi_session.specs.AtPlace.{calls}
 use Rattle.zi_session.specs.declared.work.Work.{Work as Kept}
 
 pub last_piece : (b : List ℕ) → length b ≤ 65536 → pieces b ≡ b ∷ []

@@ -1,15 +1,13 @@
 -- Entries with one placed among them.
-use Rattle.std.proofs.Common.{◌≡◌, Bool, true, false, ◌&&◌, List, [], ◌∷◌, Some, None, refl, sym, ◌∙◌, ap, bytes_eq, if◌then◌else◌}
+use Rattle.std.proofs.Common.{◌≡◌, true, false, List, [], ◌∷◌, Some, None, refl, sym, ap, bytes_eq, if◌then◌else◌}
 use Rattle.std.specs.Ordering.{is_lt}
 use Rattle.std.proofs.lemmas.Slice.Eq.{bytes_eq-Decides}
-use Rattle.std.proofs.lemmas.Bool.{and_parts, and_from, both_ways}
-use Rattle.zi_tree.specs.Dir.{Dir}
+use Rattle.std.proofs.lemmas.Bool.{both_ways}
 use Rattle.zi_tree.specs.declared.tree.TreeNode.{TreeNode}
-use Rattle.zi_tree.specs.declared.tree.TreeNode.TheVariants.{File, Link, Folder}
-use Rattle.zi_tree.specs.Views.{Item, entry_of, dir, node_is_tree}
+use Rattle.zi_tree.specs.Views.{Item, dir, node_is_tree}
 use Rattle.zi_tree.specs.Paths.{node_in, placed, replaced}
 use Rattle.zi_tree.specs.Order.{is_name, is_before, is_tree}
-use Rattle.zi_tree.proofs.Order.{Name, cmp, lt_flip, lt_trans, parts, whole, before_entry, before_parts, before_whole}
+use Rattle.zi_tree.proofs.Order.{Name, cmp, lt_flip, lt_trans, parts, whole, before_parts, before_whole}
 use Rattle.zi_shelf.proofs.TopsLemmas.{test_refl}
 
 pub differ_flip : (n m : Name) → bytes_eq n m ≡ false → bytes_eq m n ≡ false

@@ -14,7 +14,7 @@ use Rattle.zi_session.specs.Machine.{Making}
 use Rattle.zi_session.specs.Phases.{phase_of, residue_of}
 use Rattle.zi_session.specs.StoreRules.{MayBegin}
 use Rattle.zi_session.specs.StoreWorks.{algorithm_in, store_works}
-use Rattle.zi_session.specs.Walk.{calls}
+use Rattle.zi_session.specs.AtPlace.{calls}
 use Rattle.zi_session.specs.Begun.{IsBegun}
 use Rattle.zi_session.specs.declared.session.Session.{Session}
 use Rattle.zi_session.proofs.Remade.{rebuilds, read_free}

@@ -10,7 +10,7 @@ pub mod Standing
 pub mod Stepping
 pub mod StoreRules
 pub mod Tie
-pub mod Walk
+pub mod AtPlace
 pub mod Begun
 pub mod Keeping
 pub mod Alone

@@ -5,7 +5,7 @@ ghost use Rattle.zi_digest.specs.Name.{name_of, algorithm_of, IsDigest};
 ghost use Rattle.zi_digest.specs.declared.DigestName.{DigestName as Name};
 ghost use Rattle.zi_manifest.specs.Manifest.{is_bad, leaf_bad, first_bad, manifest, digest_of};
 ghost use Rattle.zi_session.specs.Works.{works_of};
-ghost use Rattle.zi_session.specs.Walk.{calls, is_leaf};
+ghost use Rattle.zi_session.specs.AtPlace.{calls, is_leaf};
 ghost use Rattle.zi_session.specs.declared.begin.BeginFault.TheVariants.{BadName, Mismatch};
 
 use crate::session::Session;

@@ -1,9 +1,9 @@
-//! The calls that fill for one file or link, added to a list.
+//! The calls that fill for one node of a tree, added to a list.
 
 ghost use Rattle.std.specs.Prelude.{◌≡◌, [], ◌∷◌, ◌++◌, map, OnOk};
 ghost use Rattle.zi_shelf.specs.Filling.{Append};
 ghost use Rattle.zi_session.specs.Works.{work_of, pieces, file_works};
-ghost use Rattle.zi_session.specs.Walk.{calls, leaf_at};
+ghost use Rattle.zi_session.specs.AtPlace.{calls, node_calls};
 
 use crate::work::Work;
 use std::alloc::Global;
@@ -13,14 +13,14 @@ use zi_tree::{RelPath, TreeNode};
 /// The most bytes of one piece.
 const PIECE: usize = 65_536;
 
-/// Lists the calls for a file or link at a path, and none for a folder.
-pub(crate) fn put_leaf(
+/// Lists the calls for a node at a path, for a folder without what is in it.
+pub(crate) fn put_node(
     alloc: Global,
     works: &mut Vec<Work>,
     path: &RelPath,
     node: &TreeNode,
 ) -> Result<(), Memory>
-    ensures { OnOk result (calls works.new.items ≡ calls works.old.items ++ leaf_at path.now node.now) }
+    ensures { OnOk result (calls works.new.items ≡ calls works.old.items ++ node_calls path.now node.now) }
 {
     match node {
         TreeNode::File { bytes, exec, mtime } => {
@@ -31,7 +31,10 @@ pub(crate) fn put_leaf(
             let target = target.copy(alloc)?;
             push(works, Work::MakeLink { path, target })
         }
-        TreeNode::Folder(_) => Ok(()),
+        TreeNode::Folder(_) => {
+            let path = path.copy(alloc)?;
+            push(works, Work::MakeFolder { path })
+        }
     }
 }
 
@@ -84,7 +87,7 @@ fn put_piece(
 }
 
 /// Lists a call.
-pub(crate) fn push(works: &mut Vec<Work>, work: Work) -> Result<(), Memory>
+fn push(works: &mut Vec<Work>, work: Work) -> Result<(), Memory>
     ensures { OnOk result (calls works.new.items ≡ calls works.old.items ++ work_of work ∷ []) }
 {
     works.push(work)?;

@@ -14,7 +14,7 @@
 //! stands: a phase (`phase`), the number of its temporary name, how many calls are done, and the text of that name.
 //! `stepping` has one method for each phase; each makes one call of the shelf and goes on as the answer says. The text of a
 //! temporary name is made before the call that makes its entry, so a step that lacks memory for it has made no call, and no
-//! later step takes memory of its own. `begin` says which tree may be added under which name, `walk` and `files` list the
+//! later step takes memory of its own. `begin` says which tree may be added under which name, `works` and `files` list the
 //! calls: specs/Works.antt says what the list is, by recursion on the tree, StoreWorks.antt which it is for a digest name,
 //! Rebuilding.antt what the calls make.
 //!
@@ -44,7 +44,6 @@ mod put;
 mod session;
 mod step;
 mod stepping;
-mod walk;
 mod work;
 mod works;
 pub mod works_laws;

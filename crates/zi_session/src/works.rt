@@ -1,16 +1,15 @@
 //! The calls that fill an entry of a shelf with a tree and its manifest.
 
-ghost use Rattle.std.specs.Prelude.{◌≡◌, [], ◌∷◌, IfOk};
+ghost use Rattle.std.specs.Prelude.{◌≡◌, [], ◌∷◌, ◌++◌, IfOk, OnOk};
 ghost use Rattle.zi_manifest.specs.Manifest.{own_name};
-ghost use Rattle.zi_session.specs.Works.{works_of};
-ghost use Rattle.zi_session.specs.Walk.{calls};
+ghost use Rattle.zi_session.specs.Works.{node_works, works_of};
+ghost use Rattle.zi_session.specs.AtPlace.{calls};
 
-use crate::files::put_file;
-use crate::walk::put_nodes;
+use crate::files::{put_file, put_node};
 use crate::work::Work;
 use std::alloc::Global;
 use zi_text::Memory;
-use zi_tree::{RelPath, Tree};
+use zi_tree::{RelPath, Tree, places};
 
 /// The calls that fill an entry with a tree and the file `.manifest` with this text.
 pub(crate) fn put_works(alloc: Global, tree: &Tree, text: &[u8]) -> Result<Vec<Work>, Memory>
@@ -21,6 +20,18 @@ pub(crate) fn put_works(alloc: Global, tree: &Tree, text: &[u8]) -> Result<Vec<W
     let path = own_path(alloc)?;
     put_file(alloc, &mut works, &path, text, false, 0)?;
     Ok(works)
+}
+
+/// Lists the calls that make the nodes of a tree.
+fn put_nodes(alloc: Global, works: &mut Vec<Work>, tree: &Tree) -> Result<(), Memory>
+    ensures { OnOk result (calls works.new.items ≡ calls works.old.items ++ node_works tree.now) }
+{
+    let places = places(alloc, tree)?;
+    for place in &places {
+        let path = place.path(alloc)?;
+        put_node(alloc, works, &path, place.node)?;
+    }
+    Ok(())
 }
 
 /// The path of the manifest.

@@ -2,6 +2,7 @@
 use Rattle.std.proofs.Common.{◌≡◌, ℕ, Bool, true, false, ◌||◌, bytes_eq, List, [], ◌∷◌, ◌++◌, length, if◌then◌else◌, Option, Some, None, Result, Ok, Err, OnOk, refl, sym, ◌∙◌, ap, subst}
 use Rattle.std.specs.Option.{option_or}
 use Rattle.std.proofs.lemmas.List.{append-nil}
+use Rattle.std.proofs.lemmas.Map.Made.{option_or-none}
 use Rattle.zi_digest.specs.declared.Algorithm.{Algorithm}
 use Rattle.zi_tree.specs.Dir.{Dir, Nothing, AFile, ALink, AFolder}
 use Rattle.zi_tree.specs.declared.tree.TreeNode.{TreeNode}
@@ -21,7 +22,6 @@ use Rattle.zi_store.specs.declared.manifests.ManifestRead.{ManifestRead}
 use Rattle.zi_store.specs.declared.manifests.ManifestRead.TheVariants as read
 use Rattle.zi_store.specs.declared.stop.Stop.{Stop}
 use Rattle.zi_store.proofs.WritingLemmas.{adds_nothing, adds_then, text_split, bad_split, inner_split, inner_bad_split, adds_inner, line_then}
-use Rattle.zi_manifest.proofs.Opened.{or_none}
 use Rattle.zi_text.proofs.ListLaws.{first_none}
 
 adds_as : (old new : Written) (l m : List ℕ) (b c : Option (List ℕ)) → l ≡ m → b ≡ c → Adds old new l b → Adds old new m c
@@ -73,7 +73,7 @@ pub leaf_some : (a : Algorithm) (p n : List ℕ) (x : TreeNode) (old new : Writt
 leaf_some a p n x old new adds = record {
   tree = dir ((n, x) ∷ []);
   adds = adds_as old new (node_text a false n x) (leaf_text (sketch a (dir ((n, x) ∷ [])))) (node_bad false p n x) (leaf_bad p (dir ((n, x) ∷ [])))
-      (sym (text_entry a false n x Nothing ∙ append-nil (node_text a false n x))) (sym (bad_entry false p n x Nothing ∙ or_none (node_bad false p n x))) adds;
+      (sym (text_entry a false n x Nothing ∙ append-nil (node_text a false n x))) (sym (bad_entry false p n x Nothing ∙ option_or-none (node_bad false p n x))) adds;
 }
 
 -- a folder's own line, and all in it
@@ -88,7 +88,7 @@ inner_some : (a : Algorithm) (p n : List ℕ) (i : Dir) (old new : Written) → 
 inner_some a p n i old new adds = record {
   tree = dir ((n, Folder i) ∷ []);
   adds = adds_as old new (inner_text a p n (Folder i)) (folder_text p (sketch a (dir ((n, Folder i) ∷ [])))) (inner_bad p n (Folder i)) (folder_bad p (dir ((n, Folder i) ∷ [])))
-      (sym (inner_text_entry a p n (Folder i) Nothing ∙ append-nil (inner_text a p n (Folder i)))) (sym (inner_bad_entry p n (Folder i) Nothing ∙ or_none (inner_bad p n (Folder i)))) adds;
+      (sym (inner_text_entry a p n (Folder i) Nothing ∙ append-nil (inner_text a p n (Folder i)))) (sym (inner_bad_entry p n (Folder i) Nothing ∙ option_or-none (inner_bad p n (Folder i)))) adds;
 }
 
 pub named_some : (r : Result (Unit {0}) Stop) (a : Algorithm) (p n q : List ℕ) (old noted new : Written) → q ≡ joined p n → Adds old noted [] (bad_name p n) → OnOk r (AddsFolder a q noted new) → OnOk r (AddsFolders a p old new)

@@ -2,6 +2,7 @@
 use Rattle.std.proofs.Common.{◌≡◌, ℕ, ◌+◌, ◌-◌, ◌<◌, ◌≤◌, Bool, true, false, ℤ, length, if◌then◌else◌, List, [], ◌∷◌, ◌++◌, Option, Some, None, is_some, Result, Ok, Err, OnOk, refl, sym, ◌∙◌, ap, subst, append_assoc, arith}
 use Rattle.std.specs.Option.{option_or}
 use Rattle.std.proofs.lemmas.List.{append-nil}
+use Rattle.std.proofs.lemmas.Map.Made.{option_or-none}
 use Rattle.zi_digest.specs.Name.{name_of}
 use Rattle.zi_digest.specs.declared.Algorithm.{Algorithm}
 use Rattle.zi_digest.specs.declared.DigestName.{DigestName}
@@ -35,11 +36,10 @@ use Rattle.zi_store.proofs.FrontLemmas.{tree_shown}
 use Rattle.zi_store.proofs.StandingLemmas.{folder_there}
 use Rattle.zi_store.proofs.WalkLemmas.{leaves_entry, folders_entry, passes_none, passes_then, stops_nodes, stops_size}
 use Rattle.zi_store.proofs.LoopLemmas.{Split, turn, turn_listed, split_more, split_end, leaves_split, leaves_more, folders_split, folders_more, stops_in}
-use Rattle.zi_manifest.proofs.Opened.{or_none}
 
 -- nothing is added, and one after the other
 pub adds_nothing : (w : Written) → Adds w w [] None
-adds_nothing w = record { text = sym (append-nil w.text.items); first = sym (or_none w.bad) }
+adds_nothing w = record { text = sym (append-nil w.text.items); first = sym (option_or-none w.bad) }
 
 pub adds_then : (old mid new : Written) (l m : List ℕ) (b c : Option (List ℕ)) → Adds old mid l b → Adds mid new m c → Adds old new (l ++ m) (option_or b c)
 adds_then old mid new l m b c p q = record {
@@ -64,7 +64,7 @@ text_more : (a : Algorithm) (done : List Item) (n : Name) (x : TreeNode) → lea
 text_more a done n x = text_split a done ((n, x) ∷ []) ∙ ap (λ l. leaf_text (sketch a (dir done)) ++ l) (text_entry a false n x Nothing ∙ append-nil (node_text a false n x))
 
 bad_more : (p : List ℕ) (done : List Item) (n : Name) (x : TreeNode) → leaf_bad p (dir (done ++ (n, x) ∷ [])) ≡ option_or (leaf_bad p (dir done)) (node_bad false p n x)
-bad_more p done n x = bad_split p done ((n, x) ∷ []) ∙ ap (option_or (leaf_bad p (dir done))) (bad_entry false p n x Nothing ∙ or_none (node_bad false p n x))
+bad_more p done n x = bad_split p done ((n, x) ∷ []) ∙ ap (option_or (leaf_bad p (dir done))) (bad_entry false p n x Nothing ∙ option_or-none (node_bad false p n x))
 
 pub inner_split : (a : Algorithm) (p : List ℕ) (done rest : List Item) → folder_text p (sketch a (dir (done ++ rest))) ≡ folder_text p (sketch a (dir done)) ++ folder_text p (sketch a (dir rest))
 inner_split a p [] rest = refl
@@ -82,7 +82,7 @@ inner_more : (a : Algorithm) (p : List ℕ) (done : List Item) (n : Name) (x : T
 inner_more a p done n x = inner_split a p done ((n, x) ∷ []) ∙ ap (λ l. folder_text p (sketch a (dir done)) ++ l) (inner_text_entry a p n x Nothing ∙ append-nil (inner_text a p n x))
 
 inner_bad_more : (p : List ℕ) (done : List Item) (n : Name) (x : TreeNode) → folder_bad p (dir (done ++ (n, x) ∷ [])) ≡ option_or (folder_bad p (dir done)) (inner_bad p n x)
-inner_bad_more p done n x = inner_bad_split p done ((n, x) ∷ []) ∙ ap (option_or (folder_bad p (dir done))) (inner_bad_entry p n x Nothing ∙ or_none (inner_bad p n x))
+inner_bad_more p done n x = inner_bad_split p done ((n, x) ∷ []) ∙ ap (option_or (folder_bad p (dir done))) (inner_bad_entry p n x Nothing ∙ option_or-none (inner_bad p n x))
 
 -- The files and links of a folder, written up to those left.
 pub record WrittenTo (a : Algorithm) (p : List ℕ) (s : Dir) (left : List Entry) (old new : Written) : Type 0 where
@@ -141,7 +141,7 @@ pub folders_start : (a : Algorithm) (p : List ℕ) (depth : ℕ) (s : Dir) (left
     → Passes old.counts.nodes old.counts.bytes (leaves_met s) new.counts.nodes new.counts.bytes → FoldersTo a p depth s left old new
 folders_start a p depth s left old new h adds walked = record {
   at_ = record { done = []; rest = s; split = refl; is = h };
-  adds = record { text = adds.text ∙ ap (λ l. old.text.items ++ l) (sym (append-nil (leaf_text (sketch a s)))); first = adds.first ∙ ap (option_or old.bad) (sym (or_none (leaf_bad p s))) };
+  adds = record { text = adds.text ∙ ap (λ l. old.text.items ++ l) (sym (append-nil (leaf_text (sketch a s)))); first = adds.first ∙ ap (option_or old.bad) (sym (option_or-none (leaf_bad p s))) };
   walked = subst (λ l. Passes old.counts.nodes old.counts.bytes l new.counts.nodes new.counts.bytes) (sym (append-nil (leaves_met s))) walked;
 }
 
@@ -201,7 +201,7 @@ pub noted_late : (w : Written) (b : Option (List ℕ)) → is_some w.bad ≡ tru
 noted_late w b h = record { text = sym (append-nil w.text.items); first = late w.bad b h }
 
 pub noted_good : (w : Written) (p n : List ℕ) → is_bad n ≡ false → Adds w w [] (bad_name p n)
-noted_good w p n h = record { text = sym (append-nil w.text.items); first = sym (ap (λ t. option_or w.bad (if t then Some (joined p n) else None)) h ∙ or_none w.bad) }
+noted_good w p n h = record { text = sym (append-nil w.text.items); first = sym (ap (λ t. option_or w.bad (if t then Some (joined p n) else None)) h ∙ option_or-none w.bad) }
 
 early : (o b : Option (List ℕ)) → is_some o ≡ false → b ≡ option_or o b
 early None b h = refl
@@ -215,11 +215,11 @@ noted_bad old new p n t h k e text bad = record {
 
 -- the lines of what was noted
 pub adds_leaf : (old noted new : Written) (l : List ℕ) (b : Option (List ℕ)) → Adds old noted [] b → Adds noted new l None → Adds old new l b
-adds_leaf old noted new l b p q = subst (λ o. Adds old new l o) (or_none b) (adds_then old noted new [] l b None p q)
+adds_leaf old noted new l b p q = subst (λ o. Adds old new l o) (option_or-none b) (adds_then old noted new [] l b None p q)
 
 -- a line alone
 pub adds_line : (old new : Written) (line l : List ℕ) → new.text.items ≡ old.text.items ++ line → line ≡ l → new.bad ≡ old.bad → Adds old new l None
-adds_line old new line l text is bad = record { text = text ∙ ap (λ t. old.text.items ++ t) is; first = bad ∙ sym (or_none old.bad) }
+adds_line old new line l text is bad = record { text = text ∙ ap (λ t. old.text.items ++ t) is; first = bad ∙ sym (option_or-none old.bad) }
 
 -- a line, and then others
 pub line_then : (r : Result (Unit {0}) Stop) (old mid new : Written) (line l : List ℕ) (b : Option (List ℕ)) → Adds old mid line None → OnOk r (Adds mid new l b) → OnOk r (Adds old new (line ++ l) b)

@@ -9,3 +9,5 @@ pub mod Pieces
 pub mod Replaced
 pub mod Joins
 pub mod Rests
+pub mod After
+pub mod WalkLemmas

@@ -7,3 +7,5 @@ pub mod Places
 pub mod Parts
 pub mod Ways
 pub mod Limits
+pub mod Walk
+pub mod Waiting

@@ -1,5 +1,5 @@
 -- What stands in a tree, and at a path.
-use Rattle.std.specs.Prelude.{ℕ, Bool, true, false, List, [], ◌∷◌, Option, None, Some, bytes_eq, if◌then◌else◌, is_none, option_map, slice_get}
+use Rattle.std.specs.Prelude.{ℕ, Bool, true, false, List, [], ◌∷◌, Option, None, Some, bytes_eq, if◌then◌else◌, is_none, option_map, slice_get, drop}
 use Rattle.std.specs.Ordering.{is_lt, nat_cmp}
 use Rattle.std.specs.Cmp.Lexicographic.{slice_cmp}
 use Rattle.zi_tree.specs.Dir.{Dir, Nothing, AFile, ALink, AFolder}
@@ -20,6 +20,10 @@ name_in is k = option_map (λ i. i.0) (slice_get is k)
 
 abbrev pub node_of : List Item → ℕ → Option TreeNode
 node_of is k = option_map (λ i. i.1) (slice_get is k)
+
+-- the tree from the entry of that number on
+abbrev pub after : ℕ → Dir → Dir
+after i d = dir (drop i (items d))
 
 -- what stands under a name
 abbrev pub node_in : List ℕ → List Item → Option TreeNode

@@ -4,7 +4,8 @@
 //!
 //! Read specs/Dir.antt, then Paths.antt (what stands at a path) and Order.antt (what every tree keeps). Code: `path`, `tree`
 //! (the type, what stands in it), `search` (a name among entries, by halves), `way` (down a tree and back), `change` (insert,
-//! take and exchange), `apart` (the drop), `limits` (how much a tree may have, where trees are limited).
+//! take and exchange), `apart` (the drop), `limits` (how much a tree may have, where trees are limited), `place` and `walk` (all
+//! nodes in the order of a manifest, specs/Walk.antt).
 //!
 //! Depth is kept off the stack. Going down, the folder that is entered is exchanged with what was above it, so the folders
 //! above hang one in another in the places of those below; going up, each exchange is undone (specs/Ways.antt). No memory is
@@ -16,11 +17,15 @@ mod apart;
 mod change;
 mod limits;
 mod path;
+mod place;
 mod search;
 mod tree;
+mod walk;
 mod way;
 
 pub use change::{InsertFault, TreeLimit};
 pub use limits::{DEPTH_LIMIT, NODES_LIMIT, SIZE_LIMIT};
 pub use path::RelPath;
+pub use place::Place;
 pub use tree::{Tree, TreeNode};
+pub use walk::places;

@@ -1,11 +1,12 @@
-use Rattle.std.proofs.Common.{◌≡◌, ◌++◌, List, ℕ}
+use Rattle.std.proofs.Common.{◌≡◌, ◌++◌, drop, List, ℕ}
+use Rattle.std.specs.List.{flat_map}
 use Rattle.zi_digest.specs.Taken.{HasTaken}
+use Rattle.zi_tree.specs.Walk.{spots}
 use Rattle.zi_manifest.specs.Manifest.{first_bad, as_read, manifest}
-use Rattle.zi_manifest.specs.Frames.{frames_text, frames_bad, frames_steps}
+use Rattle.zi_manifest.specs.AtPlace.{line_at, bad_among}
 use Rattle.zi_manifest.proofs.writing.digest.Given as goal
 
-abbrev pub invariant-loop-fault : goal.invariant-loop-fault
-invariant-loop-fault l = (m : List ℕ) × HasTaken l.hasher l.a m × (m ++ frames_text l.a l.frames.items ≡ manifest l.a l.t) × (frames_bad l.frames.items ≡ first_bad (as_read l.t))
-
-abbrev pub decreases-loop-fault : goal.decreases-loop-fault
-decreases-loop-fault l = frames_steps l.frames.items
+abbrev pub invariant-loop-place : goal.invariant-loop-place
+invariant-loop-place l =
+    let left = spots (drop l.place-index l.place-items) in
+    (m : List ℕ) × HasTaken l.hasher l.a m × (m ++ flat_map (line_at l.a) left ≡ manifest l.a l.t) × (bad_among left ≡ first_bad (as_read l.t))

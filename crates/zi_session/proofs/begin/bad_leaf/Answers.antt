@@ -1,8 +1,8 @@
 use Rattle.std.proofs.Common.{◌≡◌, ◌&&◌, [], true, false, sym, ◌∙◌, ap, arith, add-one}
 use Rattle.zi_manifest.specs.Manifest.{is_bad, leaf_bad}
-use Rattle.zi_manifest.specs.Walk.{after}
-use Rattle.zi_manifest.proofs.Walks.{after_none, after_all}
-use Rattle.zi_session.specs.Walk.{is_leaf}
+use Rattle.zi_tree.specs.Paths.{after}
+use Rattle.zi_tree.proofs.After.{after_none, after_all}
+use Rattle.zi_session.specs.AtPlace.{is_leaf}
 use Rattle.zi_session.proofs.BeginLemmas.{bad_here, good_here}
 use Rattle.zi_session.proofs.begin.bad_leaf.Goals as goal
 

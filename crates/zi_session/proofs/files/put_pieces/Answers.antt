@@ -2,7 +2,7 @@ use Rattle.std.proofs.Common.{◌++◌, map, arith}
 use Rattle.zi_tree.proofs.Items.{on_ok_then}
 use Rattle.zi_shelf.specs.Filling.{Append}
 use Rattle.zi_session.specs.Works.{pieces}
-use Rattle.zi_session.specs.Walk.{calls}
+use Rattle.zi_session.specs.AtPlace.{calls}
 use Rattle.zi_session.proofs.PieceLemmas.{piece_put, last_put}
 use Rattle.zi_session.proofs.files.put_pieces.Goals as goal
 

@@ -1,7 +1,7 @@
 use Rattle.std.proofs.Common.{◌≡◌, ◌++◌, map, length}
 use Rattle.zi_shelf.specs.Filling.{Append}
 use Rattle.zi_session.specs.Works.{pieces}
-use Rattle.zi_session.specs.Walk.{calls}
+use Rattle.zi_session.specs.AtPlace.{calls}
 use Rattle.zi_session.proofs.files.put_pieces.Given as goal
 
 abbrev pub invariant-loop-rest : goal.invariant-loop-rest

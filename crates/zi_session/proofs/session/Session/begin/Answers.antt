@@ -2,7 +2,7 @@ use Rattle.std.proofs.Common.{◌≡◌, ◌∙◌, ap, Vec, Global}
 use Rattle.zi_digest.specs.Name.{spelling}
 use Rattle.zi_session.specs.Machine.{Making}
 use Rattle.zi_session.specs.Phases.{phase_of, residue_of}
-use Rattle.zi_session.specs.Walk.{calls}
+use Rattle.zi_session.specs.AtPlace.{calls}
 use Rattle.zi_session.specs.declared.work.Work.{Work as Kept}
 use Rattle.zi_session.proofs.StoreLemmas.{may_begin, works_for, fit_of, begun}
 use Rattle.zi_session.proofs.session.Session.begin.Goals as goal
