@@ -5,7 +5,6 @@
 mod building;
 mod documents;
 mod hashing;
-mod in_order;
 mod manifests;
 mod proofs;
 mod searching;

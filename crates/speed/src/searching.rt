@@ -4,13 +4,13 @@
 //! variables are those up to the greatest that stands in it. `bench/search.py` holds the time against that of other solvers, and
 //! `tests/proofs.py` checks the lemmas.
 
-use crate::in_order::InOrder;
 use crate::{line, number};
 use std::alloc::Global;
 use std::io::{self, Write};
 use zi_formula::{Constraints, Formula, Lit, is_well_formed};
 use zi_proof::{Certificate, write};
 use zi_sat::{Found, Search};
+use zi_search_rows::InOrder;
 use zi_text::{List, Memory};
 
 /// The literal that a word is; the word 0 and any other is none.

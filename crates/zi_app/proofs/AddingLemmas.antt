@@ -1,29 +1,24 @@
 -- What the outcomes of `store add` follow from.
-use Rattle.std.proofs.Common.{◌≡◌, ◌≢◌, ℕ, ◌<◌, ◌-◌, ◌^◌, inl, inr, List, Option, Some, None, refl, sym, ◌∙◌, ap, subst, arith}
+use Rattle.std.proofs.Common.{◌≡◌, ◌≢◌, ℕ, ◌<◌, ◌-◌, ◌^◌, inl, inr, List, Option, None, refl, sym, ◌∙◌, ap, subst}
 use Rattle.zi_digest.specs.declared.DigestName.{DigestName}
 use Rattle.zi_digest.specs.Name.{spelling}
-use Rattle.zi_text.specs.Count.{Rose}
 use Rattle.zi_outside.specs.Views.{Feeding}
 use Rattle.zi_tree.specs.Dir.{Dir}
 use Rattle.zi_shelf.specs.Names.{Name}
 use Rattle.zi_shelf.specs.Filling.{Work}
-use Rattle.zi_shelf.specs.Shelved.{Top, Reply, Did, Exists, Failed, Memory as NoRoom}
 use Rattle.zi_shelf.specs.Shelving.{Shelving, IsSure}
 use Rattle.zi_session.specs.Begun.{IsBegun}
-use Rattle.zi_session.specs.Keeping.{CountFits, KeepsShelf}
-use Rattle.zi_session.specs.Machine.{Phase, Making, Filling, Settling, Renaming, Storing, Removing, Leaving, Ended, Stopped, Stored, Present, Crowded as FullOf, Fault}
-use Rattle.zi_session.specs.Phases.{tmp_name, blamed_name, phase_of, residue_of}
+use Rattle.zi_session.specs.Keeping.{KeepsShelf}
+use Rattle.zi_session.specs.Machine.{Phase, Making, Stored, Present, Fault}
+use Rattle.zi_session.specs.Phases.{phase_of, residue_of}
 use Rattle.zi_session.specs.Standing.{Standing, standing}
-use Rattle.zi_session.specs.StoreRules.{IsDigestName}
 use Rattle.zi_session.specs.StoreWorks.{store_works}
-use Rattle.zi_session.specs.Stepping.{IsRun, Says, SaysOn, Blames}
+use Rattle.zi_session.specs.Stepping.{IsRun}
 use Rattle.zi_session.specs.declared.phase.Phase.{Phase as SessionPhase}
 use Rattle.zi_session.specs.declared.phase.Phase.TheVariants.{Makes, Fills, Settles, Renames, Stores, Removes, Leaves, IsStored, IsPresent, IsCrowded, IsUnmade, IsStuck, IsFaulty}
 use Rattle.zi_session.specs.declared.session.Session.{Session}
 use Rattle.zi_session.specs.declared.step.Step.{Step}
 use Rattle.zi_session.specs.declared.step.Step.TheVariants as step
-use Rattle.zi_session.specs.Alone.{Tops, Ending}
-use Rattle.zi_session.proofs.TiedLemmas.{no_tmp}
 use Rattle.zi_session.proofs.AloneLemmas.{ends_alone, begun_own}
 use Rattle.zi_words.specs.Forms.{Word}
 use Rattle.zi_app.specs.declared.gathering.GatherFault.{GatherFault}
@@ -32,15 +27,15 @@ use Rattle.zi_outcome.specs.declared.outcome.Outcome.{Outcome}
 use Rattle.zi_world.specs.Shelves.{Untouched, Lasts}
 use Rattle.zi_world.specs.World.{World}
 use Rattle.zi_app.specs.Gathering.{Gathers, Refuses}
-use Rattle.zi_app.specs.Adding.{HasRun, Tries, Costs, AddsNothing, AddsTo, Adds, KeepsStored, beginning}
-use Rattle.zi_app.specs.AddingParts.{files_outcome, IsEnd, Closes, Lent, AddsTree}
+use Rattle.zi_app.specs.Adding.{HasRun, Tries, AddsNothing, AddsTo, Adds, KeepsStored, beginning}
+use Rattle.zi_app.specs.AddingParts.{files_outcome, Closes, Lent, AddsTree}
 use Rattle.zi_world.specs.Asking.{FeedsStay}
 use Rattle.zi_tree.specs.declared.change.TreeLimit.TheVariants as limit
 use Rattle.zi_world.proofs.AskingLemmas.{asks_stay}
 use Rattle.zi_world.proofs.ShelvesLemmas.{untouched, untouched_lasts}
 use Rattle.zi_app.proofs.GatheringLemmas.{gathers_some}
-use Rattle.zi_adding.proofs.HistoryLaws.{not_tmp, kept_by, others_by}
-use Rattle.zi_adding.proofs.AddingLemmas.{fault_end, says_end, on_end, not_risen, costs}
+use Rattle.zi_adding.proofs.HistoryLaws.{kept_by, others_by}
+use Rattle.zi_adding.proofs.AddingLemmas.{costs}
 use Rattle.zi_text.proofs.ListLaws.{some_is, some_of}
 
 -- Why there is no tree of the files.
@@ -62,8 +57,6 @@ refuses_stay files f g (gather.TooLarge limit.Size number) r = asks_stay _ f g r
 refuses_stay files f g (gather.TooLarge limit.Nodes number) r = asks_stay _ f g r.1.asked.asked
 refuses_stay files f g (gather.TooLarge limit.Depth number) r = absurd r
 refuses_stay files f g gather.Memory r = asks_stay _ f g r.1.asked
-
--- The last step of a session.
 
 -- A session that has begun has no entry yet.
 no_residue : (p : SessionPhase) (n k : ℕ) → Making 0 ≡ phase_of p n k → residue_of p n ≡ None
@@ -90,8 +83,6 @@ begins_at name d x n w p r =
 begun_at : (name : DigestName) (d : Dir) (x : Session) → IsBegun name d x → standing x ≡ beginning name d
 begun_at name d x b = begins_at name d (standing x) b.stands.named b.stands.makes b.stands.phase (no_residue x.phase x.number x.done b.stands.phase)
 
--- A shelf whose count was below its end and is as it was has not failed.
-
 pub has_run : (name : DigestName) (d : Dir) (x : Session) (y : Standing) (before after : Shelving) (answer : Step) → IsBegun name d x → answer ≢ step.More → (before.sure → IsSure before)
     → IsRun (standing x) before answer y after → KeepsShelf (standing x) before answer y after → HasRun name d before after answer
 has_run name d x y before after answer b ne is run keeps = record {
@@ -101,7 +92,7 @@ has_run name d x y before after answer b ne is run keeps = record {
       (λ s. let t = some_of before.told (is s).tells in keeps.no_rise t.0 s t.1 (begun_own name d x t.0.shelf b)) is;
   alone = λ s h e. ends_alone name d x y before after s answer b h e ne run;
   later = keeps.later;
-  kept_by = keeps.stays;
+  stays = keeps.stays;
 }
 
 -- A tree that is to be added, by the answer of the last step.
@@ -136,7 +127,7 @@ tree_adds name files f g before after d outcome a (inr (inr (inl (right, ne, inr
 tree_adds name files f g before after d outcome a (inr (inr (inr (e, u)))) =
     subst (λ x. AddsTo name files (world f before) (world g after) x) (sym e) (inl (gathers_some files f g d a, u))
 
--- What kept_by.
+-- What stays.
 
 same_keeps : (name : DigestName) (before after : Shelving) → Untouched before after → KeepsStored name before after
 same_keeps name before after u = record { keeps = λ s h e. (s, u.told ∙ e, λ n y d at. at, λ n d ne. refl) }
@@ -159,7 +150,7 @@ tree_keeps name before after d outcome (inr (inr (inl (right, ne, m, u)))) = sam
 tree_keeps name before after d outcome (inr (inr (inr (e, u)))) = same_keeps name before.shelf after.shelf u.0
 
 run_lasts : (name : DigestName) (d : Dir) (before after : Shelving) (answer : Step) → HasRun name d before after answer → Lasts before after
-run_lasts name d before after answer r = record { tells = λ s h e. let a = r.alone s h e in some_is after.told a.0 a.1; later = r.later; kept_by = r.stays }
+run_lasts name d before after answer r = record { tells = λ s h e. let a = r.alone s h e in some_is after.told a.0 a.1; later = r.later; stays = r.stays }
 
 tree_lasts : (name : DigestName) (before after : Lent) (d : Dir) (outcome : Outcome) → AddsTree name d before after outcome → Lasts before.shelf after.shelf
 tree_lasts name before after d outcome (inl c) = run_lasts name d before.shelf after.shelf c.answer c.run

@@ -19,8 +19,9 @@ use Rattle.zi_session.specs.Stepping.{IsRun}
 use Rattle.zi_session.specs.Alone.{EndsAlone}
 use Rattle.zi_session.specs.declared.step.Step.{Step}
 use Rattle.zi_session.specs.declared.step.Step.TheVariants as step
+use Rattle.zi_adding.specs.Trying.{Costs}
 use Rattle.zi_words.specs.Forms.{Word}
-use Rattle.zi_world.specs.Shelves.{Untouched, Lasts, ShelfFailed}
+use Rattle.zi_world.specs.Shelves.{Untouched, Lasts}
 use Rattle.zi_outcome.specs.Writing.{StopsShort}
 use Rattle.zi_world.specs.Asking.{FeedsStay}
 use Rattle.zi_world.specs.World.{World, NothingWritten}
@@ -37,11 +38,6 @@ pub record IsToAdd (name : DigestName) (files : List Word) (before after : Feedi
 -- a session of this name and tree before its first call
 abbrev pub beginning : DigestName → Dir → Standing
 beginning name d = record { name = spelling name; works = store_works (spelling name) d; phase = Making 0; residue = None }
-
--- a fault is answered where the shelf failed, and any other answer where no call of it did
-abbrev pub Costs : Step → Shelving → Shelving → Type 0
-Costs (step.Fault tmp) before after = ShelfFailed before after
-Costs other before after = after.faults ≡ before.faults
 
 -- One session added this tree under this name. Its steps, one after the other, are all that was done to the shelf, and the last
 -- of them answered this.

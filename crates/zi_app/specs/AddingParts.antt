@@ -9,6 +9,7 @@ use Rattle.zi_shelf.specs.Shelving.{Shelving}
 use Rattle.zi_session.specs.Phases.{blamed_name}
 use Rattle.zi_session.specs.declared.step.Step.{Step}
 use Rattle.zi_session.specs.declared.step.Step.TheVariants as step
+use Rattle.zi_adding.specs.Trying.{IsRight}
 use Rattle.zi_app.specs.declared.gathering.GatherFault.{GatherFault}
 use Rattle.zi_app.specs.declared.gathering.GatherFault.TheVariants as gather
 use Rattle.zi_world.specs.Shelves.{Untouched}
@@ -26,14 +27,6 @@ files_outcome (gather.Twice name) = Overlap name
 files_outcome (gather.TooLarge what limit) = TreeTooLarge what limit
 files_outcome gather.Memory = Memory
 
--- the last step of a session may answer this, and after a fault the text names what the call named
-abbrev pub IsEnd : Step → List ℕ → Type 0
-IsEnd step.More blamed = ⊥
-IsEnd step.Over blamed = ⊥
-IsEnd (step.Crowded tried) blamed = tried ≡ 10000
-IsEnd (step.Fault tmp) blamed = blamed ≡ blamed_name tmp
-IsEnd answer blamed = Unit {0}
-
 -- the outcome of the last step
 abbrev pub Closes : Step → Sinking → Sinking → Outcome → Type 0
 Closes step.Stored old new outcome = Prints stored_line old new outcome
@@ -47,10 +40,6 @@ Closes step.Over old new outcome = ⊥
 -- the outcome of a mismatch
 abbrev pub Mismatches : DigestName → DigestName → Outcome → Type 0
 Mismatches name found outcome = (outcome ≡ Mismatch (spelling name) (spelling found)) ⊎ (outcome ≡ Memory)
-
--- no name of the tree is bad, and its digest is the name
-abbrev pub IsRight : DigestName → Dir → Type 0
-IsRight name d = (first_bad d ≡ None) × (digest_of (algorithm_of name) d ≡ name)
 
 -- what the adding of a tree is lent
 pub record Lent : Type 1 where

@@ -6,7 +6,8 @@ ghost use Rattle.zi_tree.specs.Dir.{Dir};
 ghost use Rattle.zi_session.specs.Begun.{IsBegun};
 ghost use Rattle.zi_words.specs.Store.{is_file};
 ghost use Rattle.zi_app.specs.Adding.{Adds, HasRun};
-ghost use Rattle.zi_app.specs.AddingParts.{files_outcome, IsEnd, Closes, Mismatches, AddsTree};
+ghost use Rattle.zi_adding.specs.Answers.{IsEnd};
+ghost use Rattle.zi_app.specs.AddingParts.{files_outcome, Closes, Mismatches, AddsTree};
 
 use crate::gathering::{GatherFault, gather};
 use std::alloc::Global;

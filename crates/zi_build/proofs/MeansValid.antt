@@ -18,7 +18,7 @@ use Rattle.zi_universe.specs.Candidates.{asks, kind_asks}
 use Rattle.zi_choice.specs.Choice.{Choice, pick, candidate_at, chosen, number, command_of, command_at, deps_of, needs_of, command_place}
 use Rattle.zi_choice.specs.Walk.{Use, Walk, Walks, is_listed, is_used, leads_to, wanted}
 use Rattle.zi_choice.specs.Valid.{Has, Suits, IsMet, AreMet, IsValid, target}
-use Rattle.zi_choice.proofs.WalkLaws.{one_value, true_false}
+use Rattle.zi_choice.proofs.WalkLaws.{one_value}
 use Rattle.zi_choice.specs.Vars.{Var, Cand, Cmd, Wide, candidates_of}
 use Rattle.zi_build.specs.Clauses.{is_admitted, named_by}
 use Rattle.zi_choice.proofs.Base.{all_from, if_some_from, candidate_is, chosen_is, chosen_from, Stands, stands_at, found_of}

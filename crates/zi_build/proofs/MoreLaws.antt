@@ -1,5 +1,5 @@
 -- What a command adds, and clauses of candidates, each of which stands once.
-use Rattle.std.proofs.Common.{◌≡◌, ℕ, suc, ◌==◌, ◌<◌, Bool, true, false, cond, ◌&&◌, List, [], ◌∷◌, ◌++◌, length, map, refl, sym, ap, ◌∙◌, subst, arith, Option, Some, None, append_assoc, ne_eqb}
+use Rattle.std.proofs.Common.{◌≡◌, ℕ, suc, ◌==◌, ◌<◌, Bool, true, false, cond, ◌&&◌, List, [], ◌∷◌, ◌++◌, length, map, refl, sym, ap, ◌∙◌, subst, arith, Option, Some, None, ne_eqb}
 use Rattle.std.specs.Prelude.{slice_get}
 use Rattle.zi_parts.specs.declared.types.Dep.{Dep}
 use Rattle.zi_choice.specs.Choice.{needs_of, with_runner}

@@ -1,8 +1,6 @@
 //! The constraints, a function for each kind.
 ghost use Rattle.std.specs.Prelude.{◌≡◌, ◌≤◌, ◌<◌, ◌++◌, ◌∷◌, [], true, false, not, length, map, option_map, slice_get, Some, IfSome, OnOk, Option, ℕ};
-ghost use Rattle.zi_universe.specs.Candidates.{asks};
 ghost use Rattle.zi_choice.specs.Choice.{number, needs_of};
-ghost use Rattle.zi_choice.specs.Valid.{group};
 ghost use Rattle.zi_choice.specs.Vars.{Cand, Cmd, Wide, candidates_of, var_number};
 ghost use Rattle.zi_build.specs.Clauses.{is_admitted, refused_one, named_one, admission, admitted_one, among, at_target, naming, named_by, need, needs, of_width, of_command, of_candidate, of_interface, group_of, one_var, root_one, wanted_one, of_requirement, rules, each, clause, no, yes, lit_of, keep, having, same_var, without, two_or_more, One_of};
 ghost use Rattle.zi_choice.specs.Choice.{command_place};
@@ -11,12 +9,13 @@ ghost use Rattle.zi_build.specs.There.{Listed};
 
 use crate::variables::Variable;
 use crate::writing::{Plan, Writer, is_full, lit, number, put, put_clause, put_two};
+use zi_choice::group;
 use zi_formula::{Lent, Lit};
 use zi_inherited::Inherited;
 use zi_parts::{Command, Dep, DepKind};
 use zi_policy::Width;
 use zi_text::{Memory, Text};
-use zi_universe::{Candidate, Interface, Requirement};
+use zi_universe::{Candidate, Interface, Requirement, asks};
 
 // Whether a candidate's version is admitted.
 fn is_admitted(dep: &Dep, k: &Candidate) -> bool
@@ -26,28 +25,6 @@ fn is_admitted(dep: &Dep, k: &Candidate) -> bool
         .as_slice()
         .iter()
         .all(|r| r.admits(&k.imp.version))
-}
-
-// Whether a dependency asks for its interface.
-fn asks(dep: &Dep) -> bool
-    ensures { result ≡ asks dep.now }
-{
-    match dep.kind {
-        DepKind::Essential => true,
-        DepKind::Recommended => true,
-        DepKind::Restricts => false,
-    }
-}
-
-// The bit group of a candidate.
-#[tactic(auto, unfolding(zi_policy::specs::Platform::group_of))]
-fn group(k: &Candidate) -> Width
-    ensures { result ≡ group k.now }
-{
-    match &k.imp.arch {
-        None => Width::Any,
-        Some(arch) => zi_policy::group(arch),
-    }
 }
 
 // The number of the interface that a dependency is on.

@@ -2,18 +2,17 @@
 ghost use Rattle.std.specs.Prelude.{◌≡◌, ◌↔◌, ◌≤◌, ◌<◌, IsTrue, IsSome, IfSome, IsSomeAnd, All, Some, length, option_copied};
 ghost use Rattle.std.specs.List.{list_all};
 ghost use Rattle.zi_version.specs.Range.{admits};
-ghost use Rattle.zi_universe.specs.Candidates.{asks};
 ghost use Rattle.zi_choice.specs.Choice.{number, pick, chosen, command_at, needs_of};
-ghost use Rattle.zi_choice.specs.Valid.{Has, Suits, IsMet, AreMet, group};
+ghost use Rattle.zi_choice.specs.Valid.{Has, Suits, IsMet, AreMet};
 ghost use Rattle.zi_choice.specs.Traces.{as_use};
 ghost use Rattle.zi_check.specs.Parts.{universe_of, picks_of, IsEssential, IsUseMet, IsCandidateMet, IsOf, SomeAre};
 
-use zi_choice::{Names, Used};
+use zi_choice::{Names, Used, group};
 use zi_inherited::Inherited;
 use zi_parts::{Command, Dep, DepKind};
 use zi_policy::Width;
 use zi_text::Text;
-use zi_universe::{Candidate, Requirement};
+use zi_universe::{Candidate, Requirement, asks};
 
 /// Over what a choice is looked at: a universe with its names, and what is picked for each interface.
 #[derive(Clone, Copy)]
@@ -84,17 +83,6 @@ fn is_admitted(dep: &Dep, k: &Candidate) -> bool
         .as_slice()
         .iter()
         .all(|r| r.admits(&k.imp.version))
-}
-
-// Whether a dependency asks for its interface.
-fn asks(dep: &Dep) -> bool
-    ensures { result ≡ asks dep.now }
-{
-    match dep.kind {
-        DepKind::Essential => true,
-        DepKind::Recommended => true,
-        DepKind::Restricts => false,
-    }
 }
 
 // Whether it must be there.
@@ -212,17 +200,6 @@ pub(crate) fn is_root_right(on: &Setting, req: &Requirement) -> bool
             None => true,
             Some(name) => has(on, 0, name),
         },
-    }
-}
-
-// The bit group of a candidate.
-#[tactic(auto, unfolding(zi_policy::specs::Platform::group_of))]
-fn group(k: &Candidate) -> Width
-    ensures { result ≡ group k.now }
-{
-    match &k.imp.arch {
-        None => Width::Any,
-        Some(arch) => zi_policy::group(arch),
     }
 }
 

@@ -1,8 +1,8 @@
 -- Small lemmas on lists, options and lookups.
-use Rattle.std.proofs.Common.{◌≡◌, ℕ, zero, suc, ◌==◌, ◌+◌, Bool, true, false, cond, ◌||◌, List, [], ◌∷◌, get_or, refl, sym, ap, ◌∙◌, subst, arith, Option, Some, None, ◌⊎◌, inl, inr, eq-eqb}
-use Rattle.std.specs.Prelude.{slice_get, All, IsSome, IfSome, option_and_then, find, bytes_eq}
+use Rattle.std.proofs.Common.{◌≡◌, ℕ, zero, suc, ◌==◌, ◌+◌, Bool, true, false, cond, ◌||◌, List, [], ◌∷◌, get_or, refl, sym, ap, ◌∙◌, subst, arith, Option, Some, None, ◌⊎◌, inl, inr}
+use Rattle.std.specs.Prelude.{slice_get, All, IfSome, option_and_then, find, bytes_eq}
 use Rattle.std.specs.List.{position_from, list_any}
-use Rattle.std.proofs.lemmas.Bool.{false≢true, or_left, or_right, or_cases}
+use Rattle.std.proofs.lemmas.Bool.{false≢true, or_cases}
 use Rattle.std.proofs.lemmas.Option.{slice_get_within, slice_get-get_or, get_or_from_slice_get, same_Some}
 use Rattle.zi_parts.specs.declared.types.Command.{Command}
 use Rattle.zi_universe.specs.declared.types.Candidate.{Candidate}

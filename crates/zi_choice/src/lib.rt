@@ -10,7 +10,7 @@
 //! `OrderLaws.earlier_strict`, `BestLaws.best_one`.
 //!
 //! Code: `names` (a universe with its names: a table of addresses, and for each candidate a `table` of its commands, made
-//! once), `walking` (the walk), `traced` (choices, walks as values, `trace`), `numbering` (`variable`). No call recurses
+//! once), `walking` (the walk), `traced` (choices, walks as values, `trace`), `numbering` (`variable`), `groups` (`group`). No call recurses
 //! along a walk: what is still to be followed stands in a list of tasks. specs/Tasks.antt says of each step that where the
 //! later tasks run from the walk so far to an end, the earlier ones run to the same end. `advance` does tasks until one lists
 //! or uses something new, `finish` calls it as long as one does; what is left to list and use shrinks (Left.antt).
@@ -18,6 +18,7 @@
 //! earliest of the finitely many that fit.
 #![tactic(auto)]
 
+mod groups;
 pub mod laws;
 mod names;
 mod numbering;
@@ -25,6 +26,7 @@ mod table;
 mod traced;
 mod walking;
 
+pub use groups::group;
 pub use names::Names;
 pub use numbering::variable;
 pub use traced::{Choice, Place, Traced, Used, trace, trace_picks};

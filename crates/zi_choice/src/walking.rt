@@ -1,6 +1,5 @@
 //! A walk, task by task, without recursion.
 ghost use Rattle.std.specs.Prelude.{◌≡◌, ◌≤◌, ◌<◌, ◌+◌, ◌∷◌, ◌++◌, [], true, false, Some, length, IfOk, IfSome, OnOk, option_copied, map};
-ghost use Rattle.zi_universe.specs.Candidates.{asks};
 ghost use Rattle.zi_choice.specs.Choice.{chosen, command_of, needs_of};
 ghost use Rattle.zi_choice.specs.Walk.{Visits, Needs, NeedsEach, Follows, leads_to};
 ghost use Rattle.zi_choice.specs.Tasks.{universe_of, picks_of, walk_of, Does, Runs, Steps, Moves, WalksOn, size, sizes, dep_size, deps_size, IsFurther, IsSame};
@@ -11,9 +10,9 @@ use crate::traced::{Used, picked};
 use indexmap::IndexSet;
 use std::alloc::Global;
 use zi_inherited::Inherited;
-use zi_parts::{Command, Dep, DepKind};
+use zi_parts::{Command, Dep};
 use zi_text::{Memory, Text};
-use zi_universe::{Candidate, Universe};
+use zi_universe::{Candidate, Universe, asks};
 
 /// Over what a walk goes: a universe with its names, and what is picked for each interface.
 #[derive(Clone, Copy)]
@@ -61,17 +60,6 @@ fn command_of<'u>(on: &Setting<'u>, i: u32, k: &'u Candidate, name: &Text) -> Op
     let place = on.names.command_place(i, candidate, name)?;
     let command = k.imp.commands.get(place)?;
     Some(command.as_ref())
-}
-
-// Whether a dependency asks for its interface.
-fn asks(dep: &Dep) -> bool
-    ensures { result ≡ asks dep.now }
-{
-    match dep.kind {
-        DepKind::Essential => true,
-        DepKind::Recommended => true,
-        DepKind::Restricts => false,
-    }
 }
 
 // Where a dependency leads.

@@ -14,10 +14,20 @@ use Rattle.zi_xml.specs.Chars.{is_between, is_char}
 use Rattle.zi_docout.specs.Amiss.{is_carried}
 use Rattle.zi_demo.specs.Feeds.{address, numbers, numbered, p_q_r}
 use Rattle.zi_demo.specs.Plain.{is_plain, are_plain, ArePlain}
-use Rattle.zi_doc_laws.proofs.CarriedLaws.{plain_char}
 
 small : (c : ℕ) → is_plain c ≡ true → c < 128
 small c h = grind (arith, nat_tests)
+
+either : (a b c d e f : Bool) → a ≡ true → a || b || c || d || e || f ≡ true
+either true b c d e f h = refl
+either false b c d e f h = cc
+
+wider : (c : ℕ) → is_plain c ≡ true → is_between 32 55295 c ≡ true
+wider c h = grind (arith, nat_tests)
+
+is_one : (c : ℕ) → is_plain c ≡ true → is_char c ≡ true
+unfolding is_char
+is_one c h = either (is_between 32 55295 c) _ _ _ _ _ (wider c h)
 
 ascii : (t : List ℕ) → are_plain t ≡ true → IsAscii t
 ascii [] h i = IsAscii-nil i
@@ -28,7 +38,7 @@ are_chars : (t : List ℕ) → are_plain t ≡ true → list_all is_char t ≡ t
 are_chars [] h = refl
 are_chars (c ∷ t) h =
     let k = and_parts (is_plain c) (are_plain t) h in
-    and_from (is_char c) (list_all is_char t) (plain_char c k.0) (are_chars t k.1)
+    and_from (is_char c) (list_all is_char t) (is_one c k.0) (are_chars t k.1)
 
 pub carried : (t : List ℕ) → are_plain t ≡ true → is_carried t ≡ true
 unfolding is_carried

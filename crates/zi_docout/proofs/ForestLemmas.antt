@@ -7,7 +7,7 @@ use Rattle.zi_elements.specs.declared.element.Node.TheVariants as nodes
 use Rattle.zi_elements.specs.Forest.{Forest, none, words, child, joined, node_step, element_step, node_view, nodes_view}
 use Rattle.zi_docout.specs.Canonical.{lines_text, rest_text, indent, tag_text}
 use Rattle.zi_docout.specs.Amiss.{texts, count, Standing, standing}
-use Rattle.zi_doc_laws.proofs.FineLaws.{joined_none, joined_assoc}
+use Rattle.zi_doc_laws.proofs.FineLaws.{joined_none}
 
 pub node_alone : (x : Node) → nodes_view (x ∷ []) ≡ node_view x
 node_alone x = joined_none (node_view x)

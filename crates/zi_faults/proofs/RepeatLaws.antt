@@ -1,6 +1,6 @@
 -- Elements that repeat an earlier one.
 use Rattle.std.proofs.Common.{◌≡◌, ℕ, Bool, true, false, cond, ◌&&◌, ◌||◌, ◌<◌, ◌≤◌, ◌+◌, suc, List, [], ◌∷◌, map, drop, length, get_or, Option, Some, None, Bor, refl, sym, ap, ◌∙◌, arith}
-use Rattle.std.specs.Prelude.{if◌then◌else◌, is_some, unwrap_or, bytes_eq, not, codes}
+use Rattle.std.specs.Prelude.{if◌then◌else◌, is_some, unwrap_or, bytes_eq, codes}
 use Rattle.std.specs.List.{list_any}
 use Rattle.std.proofs.Math.Seq.{drop-cons}
 use Rattle.std.proofs.lemmas.List.{drop_all, map-append}

@@ -262,7 +262,10 @@ fn has_bad_rename(alloc: Global, e: &Part) -> Result<bool, Memory>
     if !e.is(Kind::Rename) {
         return Ok(false);
     }
-    Ok(is_amiss_path(alloc, attribute(e.element(), "source"))? || is_amiss_dest(alloc, attribute(e.element(), "dest"))?)
+    Ok(
+        is_amiss_path(alloc, attribute(e.element(), "source"))?
+            || is_amiss_dest(alloc, attribute(e.element(), "dest"))?,
+    )
 }
 
 // A `remove` that isn't of the form.
@@ -283,7 +286,8 @@ fn has_bad_step(alloc: Global, ways: Ways, said: &Carried, e: &Part) -> Result<b
 fn has_no_interface(e: &Part) -> bool
     ensures { result ≡ has_no_interface (element_view e.now) }
 {
-    (names_interface(e) && !has(e.element(), "interface")) || (e.is(Kind::Feed) && !has(e.element(), "src"))
+    (names_interface(e) && !has(e.element(), "interface"))
+        || (e.is(Kind::Feed) && !has(e.element(), "src"))
 }
 
 // A stability that a feed may not say.

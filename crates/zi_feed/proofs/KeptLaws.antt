@@ -6,8 +6,8 @@ use Rattle.std.proofs.lemmas.Bool.{false≢true}
 use Rattle.std.proofs.lemmas.List.{map-append}
 use Rattle.std.proofs.lemmas.List.Elements.{filter-append}
 use Rattle.std.proofs.lemmas.List.Folds.{list_any-append}
+use Rattle.std.proofs.Math.Bool.{or-true}
 use Rattle.zi_reading.specs.Words.{latest}
-use Rattle.zi_text.proofs.ListLaws.{or_true}
 
 or_same : (a b : Bool) → (a ≡ true → b ≡ true) → b ≡ (a || b)
 or_same true b h = h refl
@@ -70,7 +70,7 @@ shared_by like test alike x (y ∷ ys) h t = by (like x y) (λ k. shared_by like
   where
     by : (b : Bool) → (list_any (like x) ys ≡ true → list_any test ys ≡ true) → like x y ≡ b → (b || list_any (like x) ys) ≡ true → (test y || list_any test ys) ≡ true
     by true k e h = ap (λ v. v || list_any test ys) (sym (alike x y e) ∙ t)
-    by false k e h = ap (λ v. test y || v) (k h) ∙ or_true (test y)
+    by false k e h = ap (λ v. test y || v) (k h) ∙ or-true (test y)
 
 pub any_latest : {X : Type 0} (like : X → X → Bool) (test : X → Bool) → ((x y : X) → like x y ≡ true → test x ≡ test y) → (xs : List X)
     → list_any test (latest like xs) ≡ list_any test xs

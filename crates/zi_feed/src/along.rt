@@ -118,12 +118,7 @@ fn all_of(alloc: Global, ways: Ways, e: &Part) -> Result<Own, Memory>
 }
 
 /// What an element adds that is active under a policy; all of it where there is none.
-pub fn own_of(
-    alloc: Global,
-    ways: Ways,
-    policy: Option<&Policy>,
-    e: &Part,
-) -> Result<Own, Memory>
+pub fn own_of(alloc: Global, ways: Ways, policy: Option<&Policy>, e: &Part) -> Result<Own, Memory>
     ensures { IfOk result (λ o. o ≡ kept_own (option_copied policy.entry) (own_of (ways_of ways.entry) (element_view e.now))) }
 {
     let own = all_of(alloc, ways, e)?;

@@ -127,12 +127,7 @@ fn impl_with(
 /// The implementation of an element, where this stands along its path, itself included; none where its version is none, which
 /// is a fault.
 #[tactic(auto, unfolding(crate::specs::Impls::impl_from, crate::specs::Inward::impl_at))]
-pub fn impl_at(
-    alloc: Global,
-    ways: Ways,
-    around: &Around,
-    e: &Part,
-) -> Result<Option<Impl>, Memory>
+pub fn impl_at(alloc: Global, ways: Ways, around: &Around, e: &Part) -> Result<Option<Impl>, Memory>
     requires added { IsAdded around.now.added }
     requires version { around.now.made.version ≡ option_and_then a_version (version_text (said_by around.now.said)) }
     requires made { around.now.made ≡ made_of (ways_of ways) (said_by around.now.said) }

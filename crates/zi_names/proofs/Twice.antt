@@ -1,10 +1,11 @@
 -- Items that are alike a later one, front by front.
 use Rattle.std.proofs.Common.{◌≡◌, Bool, true, false, cond, ◌||◌, not, List, [], ◌∷◌, ◌++◌, refl, ap, ◌∙◌}
 use Rattle.std.specs.List.{list_any}
-use Rattle.std.proofs.lemmas.List.Folds.{list_any-append, or-false}
+use Rattle.std.proofs.lemmas.List.Folds.{list_any-append}
 use Rattle.std.proofs.lemmas.Bool.{or_parts}
+use Rattle.std.proofs.Math.Bool.{or-false, or-true}
 use Rattle.zi_names.specs.Names.{has_twice}
-use Rattle.zi_text.proofs.ListLaws.{or_true, by_or, any_push, any_among}
+use Rattle.zi_text.proofs.ListLaws.{by_or, any_push, any_among}
 
 -- an item that none before is alike
 pub twice_push : {X : Type 0} (alike : X → X → Bool) (xs : List X) (x : X) → has_twice alike xs ≡ false → list_any (λ y. alike y x) xs ≡ false
@@ -23,4 +24,4 @@ twice_found alike [] x ys h = cc
 twice_found alike (y ∷ xs) x ys h =
     by_or (alike y x) (list_any (λ z. alike z x) xs) h
     (λ e. ap (λ v. v || has_twice alike (xs ++ x ∷ ys)) (any_among (alike y) xs x ys e))
-    (λ e. ap (λ v. list_any (alike y) (xs ++ x ∷ ys) || v) (twice_found alike xs x ys e) ∙ or_true (list_any (alike y) (xs ++ x ∷ ys)))
+    (λ e. ap (λ v. list_any (alike y) (xs ++ x ∷ ys) || v) (twice_found alike xs x ys e) ∙ or-true (list_any (alike y) (xs ++ x ∷ ys)))

@@ -1,5 +1,5 @@
 -- A text that is put piece by piece.
-use Rattle.std.proofs.Common.{◌≡◌, ℕ, suc, inr, ◌+◌, List, [], ◌∷◌, ◌++◌, length, take, refl, sym, ap, subst, ◌∙◌, arith, append_assoc, min, Option, Some, None, Result, Ok, Err}
+use Rattle.std.proofs.Common.{◌≡◌, ℕ, inr, ◌+◌, List, ◌∷◌, ◌++◌, length, take, refl, sym, ap, subst, ◌∙◌, arith, append_assoc, min, Option, Some, None, Result, Ok, Err}
 use Rattle.std.proofs.lemmas.List.{append-nil, take_min, take-append-le}
 use Rattle.zi_text.specs.Count.{Rose}
 use Rattle.zi_outside.specs.Views.{Sinking}

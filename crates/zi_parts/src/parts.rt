@@ -196,12 +196,7 @@ fn add_ranges(alloc: Global, elements: &[Part], ranges: &mut List<Range>) -> Res
 
 // The restrictions of versions in an element of these parts.
 #[tactic(auto, unfolding(crate::specs::Values::ranges_of))]
-fn ranges_of(
-    alloc: Global,
-    ways: Ways,
-    e: &Element,
-    parts: &[Part],
-) -> Result<List<Range>, Memory>
+fn ranges_of(alloc: Global, ways: Ways, e: &Element, parts: &[Part]) -> Result<List<Range>, Memory>
     requires { part_views parts.now ≡ parts_of (ways_of ways) (element_view e.now) }
     ensures { IfOk result (λ rs. rs ≡ ranges_of (ways_of ways.entry) (element_view e.now)) }
 {
@@ -284,13 +279,7 @@ pub fn dep_of(alloc: Global, ways: Ways, part: &Part) -> Result<Dep, Memory>
     ensures { IfOk result (λ d. d ≡ dep_of (ways_of ways.entry) (element_view part.now)) }
 {
     let parts = parts(alloc, ways, part)?;
-    dep_with(
-        alloc,
-        ways,
-        part.element(),
-        kind_of(part),
-        parts.as_slice(),
-    )
+    dep_with(alloc, ways, part.element(), kind_of(part), parts.as_slice())
 }
 
 // The dependencies that elements mean.

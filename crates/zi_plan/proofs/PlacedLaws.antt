@@ -1,5 +1,5 @@
 -- Selections that are placed one after another.
-use Rattle.std.proofs.Common.{◌≡◌, ℕ, suc, ◌+◌, ◌<◌, ◌≤◌, List, [], ◌∷◌, ◌++◌, length, drop, get_or, map, refl, sym, ap, ◌∙◌, arith, Option, Some, None, Ok, append_assoc, drop-cons, add-one, option_map, unwrap_or}
+use Rattle.std.proofs.Common.{◌≡◌, ℕ, ◌+◌, ◌<◌, ◌≤◌, List, [], ◌∷◌, ◌++◌, length, drop, get_or, map, refl, sym, ap, ◌∙◌, arith, Option, Some, None, Ok, append_assoc, option_map, unwrap_or}
 use Rattle.std.proofs.lemmas.List.{append-nil, drop_all}
 use Rattle.zi_sels.specs.declared.types.Selection.{Selection}
 use Rattle.zi_plan.specs.declared.placing.InFolder.{InFolder}

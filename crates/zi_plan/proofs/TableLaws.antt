@@ -3,9 +3,8 @@ use Rattle.std.proofs.Common.{◌≡◌, ℕ, suc, ◌+◌, ◌<◌, ◌≤◌, 
 use Rattle.std.specs.Option.{option_or, is_some}
 use Rattle.std.specs.Borrow.{Bor}
 use Rattle.std.specs.Map.{lookup}
-use Rattle.std.proofs.lemmas.Slice.Eq.{bytes_eq-Decides}
 use Rattle.std.proofs.lemmas.List.{take_more, take_all, drop_all, map-append}
-use Rattle.std.proofs.lemmas.Map.Made.{option_or-none}
+use Rattle.zi_text.proofs.ListLaws.{option_or-none}
 use Rattle.zi_parts.specs.declared.types.Command.{Command}
 use Rattle.zi_plan.specs.declared.placing.InFolder.{InFolder}
 use Rattle.zi_plan.specs.declared.table.Wanted.{Wanted}

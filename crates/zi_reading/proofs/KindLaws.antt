@@ -148,6 +148,14 @@ read_in_kind parent name k e = ap (λ v. is_among v name) (names_in k ∙ ap rea
 pub read_in_none : (parent name : List ℕ) → kind_named parent ≡ None → is_among (read_in parent) name ≡ false
 unfolding read_in
 read_in_none parent name e =
-    rw (none_named parent kind.Interface e _ refl, none_named parent kind.Group e _ refl, none_named parent kind.Implementation e _ refl,
-        none_named parent kind.Requires e _ refl, none_named parent kind.Restricts e _ refl, none_named parent kind.Command e _ refl,
-        none_named parent kind.Runner e _ refl, none_named parent kind.ForEach e _ refl, none_named parent kind.Recipe e _ refl) (among_none name)
+    rw (
+      none_named parent kind.Interface e _ refl,
+      none_named parent kind.Group e _ refl,
+      none_named parent kind.Implementation e _ refl,
+      none_named parent kind.Requires e _ refl,
+      none_named parent kind.Restricts e _ refl,
+      none_named parent kind.Command e _ refl,
+      none_named parent kind.Runner e _ refl,
+      none_named parent kind.ForEach e _ refl,
+      none_named parent kind.Recipe e _ refl,
+    ) (among_none name)

@@ -16,8 +16,8 @@ mod reading;
 mod ways;
 
 pub use forms::{
-    is_dest, is_expression, is_path, is_version, meaning, range_of, stability_of,
-    version_of, words_in,
+    is_dest, is_expression, is_path, is_version, meaning, range_of, stability_of, version_of,
+    words_in,
 };
 pub use kinds::{BINDINGS, Kind, Part};
 pub use reading::{

@@ -15,7 +15,6 @@ use Rattle.zi_sat.specs.declared.entry.Entry.{Entry}
 use Rattle.zi_sat.specs.declared.entry.Why.{Why}
 use Rattle.zi_sat.specs.declared.entry.Why.TheVariants.{Decision, Hint}
 use Rattle.zi_sat.specs.Trail.{lits_of, learn, OpenAll}
-use Rattle.zi_sat.specs.Entries.{Makes}
 use Rattle.zi_sat.specs.Moves.{Move, Decide, Apply, hinted, entries_of, Again, Right, Lawful}
 use Rattle.zi_sat.specs.Marking.{Inside, mark_used, mark_cited, Explains}
 use Rattle.zi_sat.specs.Chain.{Linked, LinkBy, Chained, range_by, range, newest, Explained, kept_hints}

@@ -1,5 +1,5 @@
 -- The lemma of all decisions is new, and silent before each decision that stays.
-use Rattle.std.proofs.Common.{◌≡◌, ℕ, zero, suc, ◌<◌, Bool, true, false, not, ◌&&◌, eqb, cond, List, [], ◌∷◌, ◌++◌, map, length, get_or, take, refl, sym, ap, ◌∙◌, subst, arith, Option, Some, None, inl, inr, append_assoc, append-nil}
+use Rattle.std.proofs.Common.{◌≡◌, ℕ, zero, suc, ◌<◌, Bool, true, false, not, ◌&&◌, eqb, cond, List, [], ◌∷◌, ◌++◌, map, length, get_or, take, refl, sym, ap, ◌∙◌, subst, arith, Option, Some, inl, inr, append_assoc, append-nil}
 use Rattle.std.proofs.lemmas.Bool.{false≢true, false_from_ne_true, eqb-true, and_parts}
 use Rattle.zi_sat.proofs.CountLaws.{or_case, lit_self}
 use Rattle.zi_formula.specs.declared.formula.Lit.{Lit}

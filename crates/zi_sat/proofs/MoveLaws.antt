@@ -1,22 +1,21 @@
 -- Trails that came about rightly: longer, shorter, under more lemmas, and what they refute.
 use Rattle.std.proofs.Common.{◌≡◌, ℕ, zero, suc, ◌<◌, ◌≤◌, Bool, true, false, not, ◌&&◌, eqb, leb, cond, List, [], ◌∷◌, ◌++◌, map, length, get_or, take, refl, sym, ap, ap₂, ◌∙◌, subst, arith, Option, Some, None, inl, inr, append_assoc, length-append, append-nil}
 use Rattle.std.specs.List.{slice_get}
-use Rattle.std.proofs.lemmas.Bool.{false≢true, and_parts}
+use Rattle.std.proofs.lemmas.Bool.{and_parts}
 use Rattle.std.proofs.lemmas.Bool.Decides.{nat_tests}
 use Rattle.zi_formula.specs.declared.formula.Lit.{Lit}
 use Rattle.zi_formula.specs.declared.formula.Constraint.{Constraint}
 use Rattle.zi_formula.specs.declared.formula.Formula.{Formula}
 use Rattle.zi_formula.specs.Truth.{opposite}
 use Rattle.zi_proof.specs.declared.proof.Lemma.{Lemma}
-use Rattle.zi_proof.specs.Known.{Known, nothing, put, is_open, says, Outcome, Fails, Goes}
+use Rattle.zi_proof.specs.Known.{Known, nothing, put, is_open, Outcome, Fails, Goes}
 use Rattle.zi_proof.specs.Accepted.{citable, cited, step_cited, lemma_clause, walk, assume, walk_from, lits_within, accepted, lemma_accepted, follows_after}
 use Rattle.zi_sat.specs.declared.entry.Entry.{Entry}
 use Rattle.zi_sat.specs.declared.entry.Why.{Why}
 use Rattle.zi_sat.specs.declared.entry.Why.TheVariants.{Decision, Hint}
 use Rattle.zi_sat.specs.Trail.{lits_of, learn, known_from, OpenAll, InAll, all_silent}
 use Rattle.zi_sat.specs.Moves.{Move, Decide, Apply, hinted, entries_of, Applies, Right, Implied, Added, Lawful}
-use Rattle.zi_sat.proofs.TrailLaws.{lits-append, learn-append, known-append}
-use Rattle.zi_sat.proofs.GroupLaws.{lits-hinted}
+use Rattle.zi_sat.proofs.TrailLaws.{learn-append, known-append}
 use Rattle.zi_sat.proofs.WatchLaws.{not_twice}
 use Rattle.zi_sat.proofs.EntryLaws.{lits-hinted as lits-apply}
 use Rattle.zi_sat.proofs.FreshStep.{says_open}

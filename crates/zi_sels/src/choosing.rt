@@ -1,6 +1,5 @@
 //! The selections of a choice.
 ghost use Rattle.std.specs.Prelude.{◌≡◌, ◌++◌, option_copied, is_some, IfOk, OnOk};
-ghost use Rattle.zi_universe.specs.Candidates.{asks};
 ghost use Rattle.zi_choice.specs.Choice.{chosen};
 ghost use Rattle.zi_choice.specs.Valid.{target};
 ghost use Rattle.zi_sels.specs.Chosen.{met, used_command, used_of, selection_by, selected_at, selected, AreSelected};
@@ -14,9 +13,9 @@ use crate::used::UsedTable;
 use std::alloc::Global;
 use zi_choice::{Choice, Names, Used, trace_picks};
 use zi_inherited::{Inherited, Shared};
-use zi_parts::{Command, Dep, DepKind, copy_bindings, copy_digests, copy_text, copy_words};
+use zi_parts::{Command, Dep, copy_bindings, copy_digests, copy_text, copy_words};
 use zi_text::{List, Memory, Text};
-use zi_universe::{Candidate, Interface, Requirement, Universe};
+use zi_universe::{Candidate, Interface, Requirement, Universe, asks};
 
 // From what selections are made: a universe with its names, what is picked for each interface, and the commands that are used.
 #[derive(Drop)]
@@ -34,17 +33,6 @@ fn chosen<'u>(on: &Setting<'u>, i: u32) -> Option<&'u Candidate>
     let pick = *on.picks.get(i as usize)?;
     let interface = on.names.universe().interfaces().get(i as usize)?;
     interface.candidates.as_slice().get(pick? as usize)
-}
-
-// Whether a dependency asks for its interface.
-fn asks(dep: &Dep) -> bool
-    ensures { result ≡ asks dep.now }
-{
-    match dep.kind {
-        DepKind::Essential => true,
-        DepKind::Recommended => true,
-        DepKind::Restricts => false,
-    }
 }
 
 // Whether something is chosen for the interface that a dependency is on.

@@ -9,7 +9,7 @@ use Rattle.zi_reading.specs.Ways.{Ways, AsWritten}
 use Rattle.zi_reading.specs.Reading.{stands, is, is_ours, is_closed, is_unclear, is_part, parts}
 use Rattle.zi_faults.specs.Sites.{Site, here, under, path, sites}
 use Rattle.zi_faults.specs.Said.{Said, said}
-use Rattle.zi_faults.specs.Faults.{fault_at, faults_at, faults_with, kinds_at, all_kinds, has_fault, is_bad_part, repeats_in, lesser, is_first, least}
+use Rattle.zi_faults.specs.Faults.{fault_at, faults_at, faults_with, kinds_at, all_kinds, has_fault, is_bad_part, repeats_in, lesser, is_first}
 use Rattle.zi_feed.specs.Feeds.{part_fault}
 use Rattle.zi_faults.specs.declared.fault.Fault.{Fault}
 use Rattle.zi_faults.specs.declared.fault.FeedKind.{FeedKind}
@@ -70,12 +70,6 @@ sub_filter P test xs h = each_weak (λ x. P x × (test x ≡ true)) P (λ x k. k
 pub each_flat : {A B : Type 0} (P : B → Type 0) (f : A → List B) (Q : A → Type 0) → ((x : A) → Q x → Each P (f x)) → (xs : List A) → Each Q xs → Each P (flat_map f xs)
 each_flat P f Q one [] h = tt
 each_flat P f Q one (x ∷ xs) h = each_append P (f x) (flat_map f xs) (one x h.0) (each_flat P f Q one xs h.1)
-
--- The first of faults is none.
-
-    some : (o : Option Fault) → lesser f o ≡ None → ⊥
-    some None e = cc e
-    some (Some g) e = one (is_first f g) f g e
 
 -- Elements without a fault.
 

@@ -15,7 +15,6 @@ use Rattle.zi_faults.specs.declared.fault.Fault.{Fault}
 use Rattle.zi_parts.specs.declared.types.DepKind.{DepKind}
 use Rattle.zi_parts.specs.declared.types.DepKind.TheVariants.{Essential, Recommended, Restricts}
 use Rattle.zi_reading.proofs.TextLaws.{same_text}
-use Rattle.zi_sels.specs.declared.types.Selection.{Selection}
 use Rattle.zi_sels.specs.declared.types.Selections.{Selections}
 use Rattle.zi_sels.specs.declared.fault.SelsFault.{SelsFault}
 use Rattle.zi_sels.specs.declared.fault.SelsFault.TheVariants as fault

@@ -2,13 +2,10 @@
 use Rattle.std.proofs.Common.{◌≡◌, ℕ, ◌==◌, true, ◌&&◌, List, [], ◌∷◌, ◌++◌, Option, Some, None, refl, ap, ◌∙◌, eqb-true}
 use Rattle.std.specs.Prelude.{All, IfSome, filter, bytes_eq, is_some, option_map, option_and_then}
 use Rattle.std.proofs.lemmas.Bool.{and_parts}
-use Rattle.zi_elements.specs.Namespace.{injector}
-use Rattle.zi_address.specs.Texts.{same}
 use Rattle.zi_reading.specs.Words.{is_among, optional}
 use Rattle.zi_parts.specs.declared.types.Dep.{Dep}
 use Rattle.zi_parts.specs.declared.types.Runner.{Runner}
 use Rattle.zi_parts.specs.declared.types.Command.{Command}
-use Rattle.zi_reading.proofs.TextLaws.{same_text}
 use Rattle.zi_universe.specs.declared.types.Candidate.{Candidate}
 use Rattle.zi_universe.specs.declared.types.Interface.{Interface}
 use Rattle.zi_choice.specs.Choice.{Choice, chosen, command_of, command_at, needs_of, with_runner}

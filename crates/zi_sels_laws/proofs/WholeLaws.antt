@@ -11,7 +11,7 @@ use Rattle.zi_parts.specs.declared.types.Dep.{Dep}
 use Rattle.zi_parts.specs.declared.types.DepKind.TheVariants.{Essential}
 use Rattle.zi_parts.specs.declared.types.Runner.{Runner}
 use Rattle.zi_parts.specs.declared.types.Command.{Command}
-use Rattle.zi_reading.proofs.TextLaws.{same_text, same_refl}
+use Rattle.zi_reading.proofs.TextLaws.{same_text}
 use Rattle.zi_universe.specs.declared.types.Requirement.{Requirement}
 use Rattle.zi_universe.specs.declared.types.Candidate.{Candidate}
 use Rattle.zi_universe.specs.declared.types.Interface.{Interface}

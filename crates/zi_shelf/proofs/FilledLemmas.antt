@@ -9,7 +9,7 @@ use Rattle.zi_shelf.specs.declared.call.ShelfCall.{ShelfCall}
 use Rattle.zi_shelf.specs.Filling.{Work, trees, filled}
 use Rattle.zi_shelf.specs.Told.{change_call}
 use Rattle.zi_shelf.specs.Memory.{top_of, tops_of, later_of, told_of, IsAt}
-use Rattle.zi_shelf.proofs.TopsLemmas.{found_at, at_name, tops_set}
+use Rattle.zi_shelf.proofs.TopsLemmas.{at_name, tops_set}
 use Rattle.zi_shelf.proofs.DoingLemmas.{Led, shelved, does, same_shelf, calls_more}
 use Rattle.zi_shelf.proofs.ReadingLemmas.{top_at}
 

@@ -3,19 +3,19 @@ use Rattle.std.proofs.Common.{◌≡◌, ℕ, Bool, true, false, List, [], ◌�
 use Rattle.std.specs.Ordering.{is_lt, nat_cmp}
 use Rattle.std.specs.Cmp.Lexicographic.{slice_cmp}
 use Rattle.std.proofs.lemmas.Slice.Eq.{bytes_eq-Decides}
-use Rattle.std.proofs.lemmas.Bool.{and_parts, and_from}
+use Rattle.std.proofs.lemmas.Bool.{and_parts}
 use Rattle.zi_tree.specs.Dir.{Dir, Nothing, AFile, ALink, AFolder}
 use Rattle.zi_tree.specs.Order.{is_before, is_tree}
 use Rattle.zi_tree.specs.Paths.{items, node_in, placed, replaced}
 use Rattle.zi_tree.specs.declared.tree.TreeNode.{TreeNode}
 use Rattle.zi_tree.specs.declared.tree.TreeNode.TheVariants.{File, Link, Folder}
 use Rattle.zi_tree.specs.Views.{Item, dir, entry_of}
-use Rattle.zi_tree.proofs.Order.{lt_apart, lt_less, parts, whole, IsFirst}
+use Rattle.zi_tree.proofs.Order.{lt_apart, lt_less, parts, IsFirst}
 use Rattle.zi_tree.proofs.Replaced.{dir_items}
 use Rattle.zi_manifest.specs.Manifest.{own_name, as_read}
 use Rattle.zi_manifest.specs.Walk.{shown}
 use Rattle.zi_store.specs.Entries.{bare, emptied}
-use Rattle.zi_manifest.proofs.Listed.{before_read, tree_read}
+use Rattle.zi_manifest.proofs.Listed.{tree_read}
 use Rattle.zi_text.proofs.ListLaws.{bytes_itself}
 
 -- the name stands behind each of these

@@ -7,7 +7,7 @@ use Rattle.zi_tree.specs.declared.tree.TreeNode.{TreeNode}
 use Rattle.zi_tree.specs.declared.tree.TreeNode.TheVariants.{File, Link, Folder}
 use Rattle.zi_tree.specs.Order.{is_tree, is_plain}
 use Rattle.zi_tree.specs.Paths.{items, node_in, placed, replaced}
-use Rattle.zi_tree.specs.Views.{Item, dir, entry_of, node_is_tree}
+use Rattle.zi_tree.specs.Views.{Item, dir, node_is_tree}
 use Rattle.zi_tree.proofs.Items.{items_of_dir}
 use Rattle.zi_tree.proofs.Replaced.{dir_items}
 use Rattle.zi_manifest.specs.Walk.{shown}

@@ -2,7 +2,6 @@
 use Rattle.std.proofs.Common.{◌≡◌, ℕ, Bool, true, false, ◌||◌, bytes_eq, List, [], ◌∷◌, ◌++◌, length, if◌then◌else◌, Option, Some, None, Result, Ok, Err, OnOk, refl, sym, ◌∙◌, ap, subst}
 use Rattle.std.specs.Option.{option_or}
 use Rattle.std.proofs.lemmas.List.{append-nil}
-use Rattle.std.proofs.lemmas.Map.Made.{option_or-none}
 use Rattle.zi_digest.specs.declared.Algorithm.{Algorithm}
 use Rattle.zi_tree.specs.Dir.{Dir, Nothing, AFile, ALink, AFolder}
 use Rattle.zi_tree.specs.declared.tree.TreeNode.{TreeNode}
@@ -22,7 +21,7 @@ use Rattle.zi_store.specs.declared.manifests.ManifestRead.{ManifestRead}
 use Rattle.zi_store.specs.declared.manifests.ManifestRead.TheVariants as read
 use Rattle.zi_store.specs.declared.stop.Stop.{Stop}
 use Rattle.zi_store.proofs.WritingLemmas.{adds_nothing, adds_then, text_split, bad_split, inner_split, inner_bad_split, adds_inner, line_then}
-use Rattle.zi_text.proofs.ListLaws.{first_none}
+use Rattle.zi_text.proofs.ListLaws.{first_none, option_or-none}
 
 adds_as : (old new : Written) (l m : List ℕ) (b c : Option (List ℕ)) → l ≡ m → b ≡ c → Adds old new l b → Adds old new m c
 adds_as old new l m b c lines bad adds = record { text = adds.text ∙ ap (λ t. old.text.items ++ t) lines; first = adds.first ∙ ap (option_or old.bad) bad }

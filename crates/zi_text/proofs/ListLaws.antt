@@ -3,10 +3,13 @@ use Rattle.std.proofs.Common.{◌≡◌, ℕ, zero, suc, Bool, true, false, ◌&
 use Rattle.std.specs.Prelude.{if◌then◌else◌, bytes_eq, IsSome}
 use Rattle.std.specs.List.{list_any}
 use Rattle.std.specs.Option.{option_or}
-use Rattle.std.specs.Ordering.{Ordering, Less, Equal, Greater, is_lt, is_eq, ordering_then}
+use Rattle.std.specs.Ordering.{is_lt, is_eq, ordering_then}
+use Rattle.std.specs.declared.cmp.Ordering.{Ordering}
+use Rattle.std.specs.declared.cmp.Ordering.TheVariants.{Less, Equal, Greater}
 use Rattle.std.proofs.lemmas.List.{reverse-append}
-use Rattle.std.proofs.lemmas.List.Folds.{list_any-append, or-false}
+use Rattle.std.proofs.lemmas.List.Folds.{list_any-append}
 use Rattle.std.proofs.lemmas.Slice.Eq.{bytes_eq-Decides}
+use Rattle.std.proofs.Math.Bool.{or-false, or-true}
 
 -- Lists.
 
@@ -37,7 +40,7 @@ any_push p xs x = list_any-append p xs (x ∷ []) ∙ ap (λ v. list_any p xs ||
 
 pub any_among : {X : Type 0} (p : X → Bool) (xs : List X) (x : X) (ys : List X) → p x ≡ true → list_any p (xs ++ x ∷ ys) ≡ true
 any_among p [] x ys h = ap (λ v. v || list_any p ys) h
-any_among p (y ∷ xs) x ys h = ap (λ v. p y || v) (any_among p xs x ys h) ∙ or_true (p y)
+any_among p (y ∷ xs) x ys h = ap (λ v. p y || v) (any_among p xs x ys h) ∙ or-true (p y)
 
 -- Options.
 
@@ -48,15 +51,15 @@ pub some_of : {X : Type 0} (o : Option X) → IsSome o → (x : X) × (o ≡ Som
 some_of None h = absurd (cc h)
 some_of (Some x) h = (x, refl)
 
+pub option_or-none : {X : Type 0} (o : Option X) → option_or o None ≡ o
+option_or-none None = refl
+option_or-none (Some x) = refl
+
 pub first_none : (o b : Option (List ℕ)) → option_or o b ≡ None → o ≡ None
 first_none None b h = refl
 first_none (Some x) b h = absurd (cc h)
 
 -- Answers.
-
-pub or_true : (b : Bool) → (b || true) ≡ true
-or_true true = refl
-or_true false = refl
 
 pub by_or : {Q : Type 0} (a b : Bool) → a || b ≡ true → (a ≡ true → Q) → (b ≡ true → Q) → Q
 by_or true b h f g = f refl
@@ -83,6 +86,11 @@ pub both_equal : (a b : Ordering) → is_eq (ordering_then a b) ≡ (is_eq a && 
 both_equal Less b = refl
 both_equal Equal b = refl
 both_equal Greater b = refl
+
+pub both_Equal : (a b : Ordering) → ordering_then a b ≡ Equal → (a ≡ Equal) × (b ≡ Equal)
+both_Equal Less b h = absurd (cc)
+both_Equal Equal b h = (refl, h)
+both_Equal Greater b h = absurd (cc)
 
 -- Texts.
 

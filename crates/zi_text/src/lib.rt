@@ -10,11 +10,11 @@
 mod bytes;
 mod list;
 mod memory;
-mod numeral;
+mod numerals;
 mod text;
 
 pub use bytes::Bytes;
 pub use list::List;
 pub use memory::Memory;
-pub use numeral::numeral;
+pub use numerals::numeral;
 pub use text::Text;

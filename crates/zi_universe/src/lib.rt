@@ -46,5 +46,6 @@ mod wanted;
 
 pub use fault::{BadFeed, LoadFault};
 pub use loading::load;
+pub use naming::asks;
 pub use types::{Candidate, Interface, Limit, Requirement};
 pub use universe::Universe;

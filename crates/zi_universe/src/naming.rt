@@ -84,8 +84,8 @@ pub fn add_imports(
     Ok(())
 }
 
-// Whether a dependency asks for its interface.
-fn asks(dep: &Dep) -> bool
+/// Whether a dependency asks for its interface: an essential and a recommended one do, a mere restriction doesn't.
+pub fn asks(dep: &Dep) -> bool
     ensures { result ≡ asks dep.now }
 {
     match dep.kind {

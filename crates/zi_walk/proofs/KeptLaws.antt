@@ -10,7 +10,7 @@ use Rattle.zi_choice.specs.Choice.{Choice, pick}
 use Rattle.zi_choice.specs.Walk.{Walk, Walks}
 use Rattle.zi_walk.specs.declared.tasks.Task.{Task}
 use Rattle.zi_walk.specs.declared.path.Stop.{Stop}
-use Rattle.zi_walk.specs.Kept.{Stand, Stands, StopIs, PathIs, IsBefore, Rise, Runs, left_of, walk_to, waiting, Awaits, GoesOn, Agrees, interfaces_of, back_at, stop_at, Longer, Comes, Grown, IsReady, Moves, IsFollowed, GoesAlong}
+use Rattle.zi_walk.specs.Kept.{Stand, Stands, StopIs, PathIs, IsBefore, Rise, waiting, GoesOn, Agrees, interfaces_of, back_at, stop_at, Longer, Comes, Grown, IsReady, Moves, IsFollowed, GoesAlong}
 use Rattle.zi_walk.proofs.PartLaws.{take_part, part_item, take_item, part_stays, longer_whole, longer_length, same_longer}
 use Rattle.zi_feed.proofs.ShareLaws.{at_cases}
 use Rattle.zi_walk.proofs.PathLaws.{runs_on}

@@ -14,7 +14,6 @@ use Rattle.zi_universe.specs.declared.types.Interface.{Interface}
 use Rattle.zi_choice.specs.Choice.{Choice, pick}
 use Rattle.zi_choice.specs.Walk.{Place, Walk, Walks}
 use Rattle.zi_choice.specs.Left.{to_come}
-use Rattle.zi_choice.specs.Traces.{as_use}
 use Rattle.zi_choice.specs.Tasks.{place_at}
 use Rattle.zi_choice.proofs.GrowLaws.{grow_each, grow_follow}
 use Rattle.zi_choice.proofs.ThereLaws.{walk_there}

@@ -1,9 +1,8 @@
 -- The induction along the trail: no valid choice has a better candidate at the first place where its walk leaves that of the
 -- trail's choice.
-use Rattle.std.proofs.Common.{◌≡◌, ◌≢◌, ℕ, zero, suc, ◌+◌, ◌<◌, ◌≤◌, Bool, true, false, eqb, cond, List, [], ◌∷◌, ◌++◌, length, refl, sym, ap, ◌∙◌, subst, arith, Option, Some, None}
+use Rattle.std.proofs.Common.{◌≡◌, ◌≢◌, ℕ, zero, suc, ◌+◌, ◌<◌, ◌≤◌, Bool, true, false, eqb, List, [], ◌∷◌, ◌++◌, length, refl, sym, ap, ◌∙◌, subst, arith, Option, Some, None}
 use Rattle.std.specs.Prelude.{slice_get}
 use Rattle.std.proofs.lemmas.Bool.{false≢true}
-use Rattle.std.proofs.lemmas.Bool.Decides.{nat_tests}
 use Rattle.std.proofs.lemmas.Option.{slice_get_within, same_Some}
 use Rattle.zi_formula.specs.declared.formula.Lit.{Lit}
 use Rattle.zi_formula.specs.declared.formula.Constraint.{Constraint}
@@ -29,8 +28,6 @@ use Rattle.zi_choice.proofs.WalkFacts.{faithful}
 use Rattle.zi_build.proofs.Numbers.{number_low, number_high}
 use Rattle.zi_walk.specs.Rule.{is_chosen, is_undecided, so_far, walk_of, open_at, if_none, waits_at, first_open, as_lit, walk_picks}
 use Rattle.zi_walk.proofs.Rules.{FirstAt, first_is, first_none, so_far_picks, NoneWaits, none_open, OpensAt, opens_at}
-use Rattle.zi_sat.proofs.ExplainLaws.{open_some}
-use Rattle.zi_sat.proofs.LessLaws.{put_keep_case}
 use Rattle.zi_sat.proofs.FreshLaws.{self_case, put_extends}
 use Rattle.zi_sat.proofs.ReachLaws.{some_of}
 use Rattle.zi_feed.specs.IdLaws.{none_some}

@@ -1,10 +1,10 @@
 -- Options that may not stand together, one more at the end.
 use Rattle.std.proofs.Common.{◌≡◌, Bool, true, false, ◌||◌, ◌&&◌, List, [], ◌∷◌, ◌++◌, refl, ap, ◌∙◌}
 use Rattle.std.specs.List.{list_any}
-use Rattle.std.proofs.lemmas.List.Folds.{list_any-append, or-false}
 use Rattle.std.proofs.lemmas.Bool.{or_parts}
+use Rattle.std.proofs.Math.Bool.{or-true}
 use Rattle.zi_words.specs.Options.{Item, clash, any_clash}
-use Rattle.zi_text.proofs.ListLaws.{or_true, by_or, any_push, any_among}
+use Rattle.zi_text.proofs.ListLaws.{by_or, any_push, any_among}
 
 -- an option that may stand with each before
 pub clash_push : (xs : List Item) (x : Item) → any_clash xs ≡ false → list_any (λ y. clash y x) xs ≡ false → any_clash (xs ++ x ∷ []) ≡ false
@@ -21,7 +21,7 @@ clash_found [] x ys h = cc
 clash_found (y ∷ xs) x ys h =
     by_or (clash y x) (list_any (λ z. clash z x) xs) h
     (λ e. ap (λ v. v || any_clash (xs ++ x ∷ ys)) (any_among (λ j. clash y j) xs x ys e))
-    (λ e. ap (λ v. list_any (λ j. clash y j) (xs ++ x ∷ ys) || v) (clash_found xs x ys e) ∙ or_true (list_any (λ j. clash y j) (xs ++ x ∷ ys)))
+    (λ e. ap (λ v. list_any (λ j. clash y j) (xs ++ x ∷ ys) || v) (clash_found xs x ys e) ∙ or-true (list_any (λ j. clash y j) (xs ++ x ∷ ys)))
 
 -- no two tests that are alike at each item
 pub any_same : {X : Type 0} (p q : X → Bool) → ((x : X) → p x ≡ q x) → (xs : List X) → list_any p xs ≡ list_any q xs

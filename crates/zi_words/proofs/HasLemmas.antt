@@ -2,14 +2,12 @@
 use Rattle.std.proofs.Common.{◌≡◌, Bool, true, false, ◌||◌, ◌&&◌, List, [], ◌∷◌, ◌++◌, is_some, refl, sym, ap, ◌∙◌, append_assoc}
 use Rattle.std.specs.Prelude.{fold, bytes_eq}
 use Rattle.std.specs.List.{list_any}
-use Rattle.std.specs.declared.cmp.Ordering.{Ordering}
-use Rattle.std.specs.declared.cmp.Ordering.TheVariants.{Less, Equal, Greater}
-use Rattle.std.specs.Ordering.{nat_cmp, is_eq, ordering_then}
+use Rattle.std.specs.Ordering.{nat_cmp, is_eq}
 use Rattle.std.specs.Cmp.Lexicographic.{slice_cmp}
 use Rattle.std.specs.BTreeSet.{BTreeSet}
 use Rattle.std.proofs.lemmas.List.{append-nil}
 use Rattle.std.proofs.lemmas.Map.Text.{is_eq-slice_cmp}
-use Rattle.std.proofs.lemmas.List.Folds.{or-false, and-true}
+use Rattle.std.proofs.Math.Bool.{or-false, and-true, or-true}
 use Rattle.zi_words.specs.declared.kind.Kind.{Kind}
 use Rattle.zi_words.specs.declared.kind.Kind.TheVariants as kind
 use Rattle.zi_words.specs.declared.loader.Loader.{Loader}
@@ -21,7 +19,7 @@ use Rattle.zi_words.proofs.OptionLemmas.{gathered-none, gathered-more}
 use Rattle.zi_words.proofs.ClashLemmas.{any_same, any_never}
 use Rattle.zi_version.proofs.Steps.{and-false}
 use Rattle.zi_version.proofs.SpanLemmas.{or_assoc}
-use Rattle.zi_text.proofs.ListLaws.{or_true, both_equal, any_push}
+use Rattle.zi_text.proofs.ListLaws.{both_equal, any_push}
 
 first_is : (f : Form) (fs : List Form) (args : List Word) → Are (f ∷ fs) args → Is f (first args)
 first_is f fs [] h = absurd h
@@ -29,29 +27,29 @@ first_is f fs (w ∷ args) h = h.0
 
 -- setting one option has that one, and those that were there
 has_set : (k i : Kind) (args : List Word) (a : Asked) → rule_of k ≡ Once → Are (forms i) args → has k (set i args a) ≡ (has k a || alike i k)
-has_set kind.Command kind.Command args a h m = sym (or_true (is_some a.command))
-has_set kind.Command kind.NoCommand args a h m = sym (or_true (is_some a.command))
+has_set kind.Command kind.Command args a h m = sym (or-true (is_some a.command))
+has_set kind.Command kind.NoCommand args a h m = sym (or-true (is_some a.command))
 has_set kind.Command i args a h m = sym (or-false (is_some a.command))
-has_set kind.NoCommand kind.Command args a h m = sym (or_true (is_some a.command))
-has_set kind.NoCommand kind.NoCommand args a h m = sym (or_true (is_some a.command))
+has_set kind.NoCommand kind.Command args a h m = sym (or-true (is_some a.command))
+has_set kind.NoCommand kind.NoCommand args a h m = sym (or-true (is_some a.command))
 has_set kind.NoCommand i args a h m = sym (or-false (is_some a.command))
-has_set kind.Version kind.Version args a h m = sym (or_true a.version)
+has_set kind.Version kind.Version args a h m = sym (or-true a.version)
 has_set kind.Version i args a h m = sym (or-false a.version)
 has_set kind.VersionFor i args a h m = cc
-has_set kind.Os kind.Os args a h m = sym (or_true (is_some a.os))
+has_set kind.Os kind.Os args a h m = sym (or-true (is_some a.os))
 has_set kind.Os i args a h m = sym (or-false (is_some a.os))
-has_set kind.Cpu kind.Cpu args a h m = sym (or_true (is_some a.cpu))
+has_set kind.Cpu kind.Cpu args a h m = sym (or-true (is_some a.cpu))
 has_set kind.Cpu i args a h m = sym (or-false (is_some a.cpu))
 has_set kind.Lang i args a h m = cc
-has_set kind.Level kind.Level args a h m = first_is Level [] args m ∙ sym (or_true (is_some a.level))
+has_set kind.Level kind.Level args a h m = first_is Level [] args m ∙ sym (or-true (is_some a.level))
 has_set kind.Level i args a h m = sym (or-false (is_some a.level))
-has_set kind.Network kind.Network args a h m = first_is Network' [] args m ∙ sym (or_true (is_some a.network))
+has_set kind.Network kind.Network args a h m = first_is Network' [] args m ∙ sym (or-true (is_some a.network))
 has_set kind.Network i args a h m = sym (or-false (is_some a.network))
 has_set kind.Use i args a h m = cc
 has_set kind.Rate i args a h m = cc
-has_set kind.Search kind.Search args a h m = first_is Budget [] args m ∙ sym (or_true (is_some a.search))
+has_set kind.Search kind.Search args a h m = first_is Budget [] args m ∙ sym (or-true (is_some a.search))
 has_set kind.Search i args a h m = sym (or-false (is_some a.search))
-has_set kind.Proof kind.Proof args a h m = sym (or_true a.proof)
+has_set kind.Proof kind.Proof args a h m = sym (or-true a.proof)
 has_set kind.Proof i args a h m = sym (or-false a.proof)
 
 has_fold : (l : Loader) (k : Kind) (is : List Item) (a : Asked) → rule_of k ≡ Once → AreItems l is

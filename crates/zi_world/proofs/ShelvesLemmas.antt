@@ -1,5 +1,5 @@
 -- A shelf that nothing was done to, and one that was only read.
-use Rattle.std.proofs.Common.{◌≡◌, ◌∙◌, sym, refl, subst, Bool, Some, Option, IsSome, arith}
+use Rattle.std.proofs.Common.{◌≡◌, ◌∙◌, refl, Bool, arith}
 use Rattle.zi_shelf.specs.Shelving.{Shelving, Stays}
 use Rattle.zi_shelf.specs.declared.call.CallKind.{CallKind}
 use Rattle.zi_store.specs.Keeping.{Keeps}

@@ -24,7 +24,7 @@ use Rattle.zi_doc_laws.specs.Trees.{IsCarried}
 use Rattle.zi_sels_laws.proofs.LikeLaws.{Each}
 use Rattle.zi_sels_laws.proofs.ItemLaws.{IsProperItem}
 use Rattle.zi_sels_laws.proofs.EachLaws.{each_permuted, each_at}
-use Rattle.zi_sels_laws.proofs.LoadedLaws.{IsGivenCandidate, AreGivenIn, loaded_given}
+use Rattle.zi_sels_laws.proofs.LoadedLaws.{AreGivenIn, loaded_given}
 use Rattle.zi_sels_laws.proofs.SelectedLaws.{each_selected}
 use Rattle.zi_sels_laws.proofs.MadeLaws.{made_proper}
 use Rattle.zi_written_laws.proofs.TextLaws.{passes_carried, IsCarriedOr}

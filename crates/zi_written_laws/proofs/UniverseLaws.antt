@@ -1,7 +1,7 @@
 -- What is loaded can be carried, where the address of the root can be: each interface's address is the root's or one that a feed says.
-use Rattle.std.specs.Prelude.{◌≢◌, if◌then◌else◌, bytes_eq, MatchOption}
+use Rattle.std.specs.Prelude.{◌≢◌, if◌then◌else◌, MatchOption}
 use Rattle.std.proofs.Common.{◌≡◌, ℕ, zero, suc, ◌+◌, ◌<◌, ◌≤◌, Bool, true, false, ◌||◌, List, [], ◌∷◌, ◌++◌, length, take, map, get_or, Option, Some, None, refl, sym, ap, ◌∙◌, subst, add-one, arith}
-use Rattle.std.specs.List.{AllZip, flat_map, filter, list_any}
+use Rattle.std.specs.List.{AllZip, flat_map, filter}
 use Rattle.std.proofs.lemmas.List.{take_all, take_more, length-map}
 use Rattle.zi_policy.specs.declared.types.Policy.{Policy}
 use Rattle.zi_policy.specs.Platform.{listed, is_active}
@@ -22,17 +22,17 @@ use Rattle.zi_feed.specs.Active.{active_command, active_part}
 use Rattle.zi_universe.specs.Candidates.{Store, is_followed, imports_of, standing_of, offered_from, offered_by, is_admitted, admitted_by, admitted, asks, asked, asked_by_runner, asked_by_command, asked_by_impl, asked_by}
 use Rattle.zi_universe.specs.Whole.{uris_of, feed_limit}
 use Rattle.zi_universe.specs.Loading.{Reading, Says, no_feed, IsRead, IsInterface, reached, Loads}
-use Rattle.zi_universe.proofs.NamingLemmas.{all_of-append, joined-append, at_stage, listed-Contains, listed-cons, listed-without_repeats, bytes_eq-refl}
+use Rattle.zi_universe.proofs.NamingLemmas.{all_of-append, joined-append, at_stage, listed-Contains}
 use Rattle.zi_doc_laws.specs.Trees.{IsCarried, HasCarriedTexts}
 use Rattle.zi_xml.specs.Documents.{Spells}
 use Rattle.zi_elements.specs.declared.element.Element.{Element}
 use Rattle.zi_sels_laws.proofs.LikeLaws.{Each, each_append}
-use Rattle.zi_sels_laws.proofs.FreeLaws.{each_weak, each_map, each_of_flat, each_flat, sub_filter, each_filter}
+use Rattle.zi_sels_laws.proofs.FreeLaws.{each_weak, each_map, each_flat, sub_filter, each_filter}
 use Rattle.zi_sels_laws.proofs.EachLaws.{each_permuted}
 use Rattle.zi_written_laws.proofs.ElemLaws.{root_carried}
 use Rattle.zi_written_laws.proofs.PartLaws.{IsCarriedDep, IsCarriedRunner, IsCarriedCommand}
 use Rattle.zi_written_laws.proofs.ImplLaws.{IsCarriedImpl, IsCarriedFeed, feed_carried}
-use Rattle.zi_sels_laws.proofs.LoadedLaws.{each_listed, each_reached}
+use Rattle.zi_sels_laws.proofs.LoadedLaws.{each_reached}
 
 -- What is so of the first of a list that grows by what its members name, and of all that a member names of which it is so, is so of all.
 

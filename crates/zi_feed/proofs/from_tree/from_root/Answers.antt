@@ -8,8 +8,9 @@ use Rattle.zi_feed.proofs.from_tree.from_root.Goals as goal
 
 pub returns-clause-reads : goal.returns-clause-reads
 unfolding feed_of
-returns-clause-reads c =
-    (ap (λ (e : Element). feed_fault (element_view e) c.args.uri.now) (sym c.new-root.ensures) ∙ (sym c.in_ok-fault.ensures ∙ c.in_default.is),
-    c.in_ok-shared_feed.ensures.feed
-    ∙ (kept_whole (option_copied c.args.policy) (feed_of (element_view c.new-root.result) c.args.uri.now) _ _ _ refl c.in_ok-imports.ensures c.in_ok-found.ensures.impls
-    ∙ ap (λ (e : Element). kept_feed (option_copied c.args.policy) (feed_of (element_view e) c.args.uri.now)) c.new-root.ensures))
+returns-clause-reads c = (
+  ap (λ (e : Element). feed_fault (element_view e) c.args.uri.now) (sym c.new-root.ensures) ∙ (sym c.in_ok-fault.ensures ∙ c.in_default.is),
+  c.in_ok-shared_feed.ensures.feed
+      ∙ (kept_whole (option_copied c.args.policy) (feed_of (element_view c.new-root.result) c.args.uri.now) _ _ _ refl c.in_ok-imports.ensures c.in_ok-found.ensures.impls
+      ∙ ap (λ (e : Element). kept_feed (option_copied c.args.policy) (feed_of (element_view e) c.args.uri.now)) c.new-root.ensures),
+)

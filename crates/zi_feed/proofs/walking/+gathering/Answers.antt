@@ -1,4 +1,4 @@
-use Rattle.std.proofs.Common.{◌≡◌, ◌++◌, map, codes, refl, sym, ap, arith, ◌∙◌, rules}
+use Rattle.std.proofs.Common.{◌≡◌, ◌++◌, map, codes, refl, sym, ap, arith, ◌∙◌}
 use Rattle.std.proofs.lemmas.Result.{IfOk-weaker}
 use Rattle.zi_elements.specs.declared.element.Element.{Element}
 use Rattle.zi_elements.specs.Forest.{element_view, nodes_view}
@@ -14,10 +14,23 @@ use Rattle.zi_feed.proofs.walking.+gathering.Goals as goal
 pub gather-gather_node-requires : goal.gather-gather_node-requires
 gather-gather_node-requires t c =
     let s = size_at c.as_slice-node-items.result.now c.loop-node.node-index c.node-item.result c.loop-node-test.true c.node-item.is in
-    let e = ap (λ ns. size (nodes_view ns)) (c.as_slice-node-items.ensures ∙ ap (λ (d : Element). d.children) c.element.ensures) in
-    (omega (arith, s, e), (c.requires.checked, (c.requires.added, (c.requires.made, (c.loop-node.invariant.right,
-    fit_grown c.args.found.now.gathered.shares c.loop-node.found.gathered.shares c.args.around.now.numbers c.args.around.now.made.version c.args.around.now.made.langs
-    c.args.around.now.added.deps c.loop-node.invariant.tables c.requires.fit)))))
+    let e = ap (λ ns. size (nodes_view ns)) (c.as_slice-node-items.ensures ∙ ap (λ (d : Element). d.children) c.element.ensures) in (
+      omega (arith, s, e),
+      (
+        c.requires.checked,
+        (
+          c.requires.added,
+          (
+            c.requires.made,
+            (
+              c.loop-node.invariant.right,
+              fit_grown c.args.found.now.gathered.shares c.loop-node.found.gathered.shares c.args.around.now.numbers c.args.around.now.made.version c.args.around.now.made.langs
+                  c.args.around.now.added.deps c.loop-node.invariant.tables c.requires.fit,
+            ),
+          ),
+        ),
+      ),
+    )
 
 pub gather-loop-node-preserved : goal.gather-loop-node-preserved
 gather-loop-node-preserved t c = record {
@@ -42,10 +55,22 @@ gather_at-returns-then-not-branch-2-clause-impls t c =
     IfOk-weaker c.see.result _ _ (λ x h. nothing_added _ _ (gathers_seen _ _ _ _ _ (sym c.in_ok-gathers.ensures ∙ c.if-not-branch-2.true))) c.see.ensures.checked
 
 pub gather_at-gather-requires : goal.gather_at-gather-requires
-gather_at-gather-requires t c =
-    (omega arith, (c.in_ok-inner.ensures.checked, (c.in_ok-inner.ensures.latest, (c.in_ok-inner.ensures.made,
-    (shared_grown c.args.found.now.gathered.shares c.around_with.new.shares c.args.found.now.gathered.impls c.in_ok-inner.ensures.adds c.requires.shared,
-    c.in_ok-inner.ensures.fit)))))
+gather_at-gather-requires t c = (
+  omega arith,
+  (
+    c.in_ok-inner.ensures.checked,
+    (
+      c.in_ok-inner.ensures.latest,
+      (
+        c.in_ok-inner.ensures.made,
+        (
+          shared_grown c.args.found.now.gathered.shares c.around_with.new.shares c.args.found.now.gathered.impls c.in_ok-inner.ensures.adds c.requires.shared,
+          c.in_ok-inner.ensures.fit,
+        ),
+      ),
+    ),
+  ),
+)
 
 pub gather_at-returns-then-is-clause-checked : goal.gather_at-returns-then-is-clause-checked
 gather_at-returns-then-is-clause-checked t c =

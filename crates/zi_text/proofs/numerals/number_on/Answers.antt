@@ -1,6 +1,6 @@
 use Rattle.std.proofs.Common.{refl, ◌∙◌, get_or}
 use Rattle.zi_text.proofs.NumeralLaws.{none_fits, product_great, sum_great, read_all}
-use Rattle.zi_text.proofs.numeral.number_on.Goals as goal
+use Rattle.zi_text.proofs.numerals.number_on.Goals as goal
 
 pub returns-in_err-checked_mul : goal.returns-in_err-checked_mul
 returns-in_err-checked_mul c =
