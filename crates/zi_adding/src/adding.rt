@@ -15,7 +15,7 @@ use zi_text::Text;
 use zi_tree::Tree;
 
 /// How a tree came to stand under its name.
-#[derive(Clone, Copy, Debug, PartialEq, Eq)]
+#[derive(Clone, Copy, PartialEq, Eq)]
 pub enum Added {
     /// It was stored.
     Stored,
@@ -24,7 +24,7 @@ pub enum Added {
 }
 
 /// Why a tree wasn't added.
-#[derive(Debug, Drop)]
+#[derive(Drop)]
 pub enum AddFault {
     /// No manifest has the name at this path of the tree, the parts joined by `/`.
     BadName { path: Text },
@@ -39,7 +39,7 @@ pub enum AddFault {
 }
 
 // How a session ended.
-#[derive(Debug, Drop)]
+#[derive(Drop)]
 struct Ended {
     // The answer of its last step.
     step: Step,

@@ -34,7 +34,7 @@ fn refused_files(fault: GatherFault) -> Outcome
 }
 
 /// How a session ended.
-#[derive(Debug, Drop)]
+#[derive(Drop)]
 struct Ended {
     /// The answer of its last step.
     step: Step,

@@ -22,7 +22,7 @@ use zi_text::Text;
 use zi_tree::TreeLimit;
 
 /// What is said of a stored tree.
-#[derive(Debug, Drop)]
+#[derive(Drop)]
 pub enum Checked {
     /// Its digest is its name.
     Sound,

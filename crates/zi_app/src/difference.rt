@@ -19,7 +19,7 @@ use zi_tree::RelPath;
 const MANIFEST_LIMIT: u64 = 64 * 1024 * 1024;
 
 /// How the manifest that stands in a stored tree differs from the computed one.
-#[derive(Clone, Copy, Debug, PartialEq, Eq)]
+#[derive(Clone, Copy, PartialEq, Eq)]
 pub enum Difference {
     /// No manifest stands there.
     NoManifest,

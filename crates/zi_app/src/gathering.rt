@@ -15,14 +15,14 @@ use zi_words::last_part;
 pub(crate) const FILE_LIMIT: u64 = 67_108_864;
 
 /// A file as it goes into the tree: its name there, and its bytes.
-#[derive(Debug, Drop)]
+#[derive(Drop)]
 pub(crate) struct Part {
     pub(crate) name: Text,
     pub(crate) bytes: Bytes,
 }
 
 /// Why there is no tree of the files.
-#[derive(Debug, Drop)]
+#[derive(Drop)]
 pub(crate) enum GatherFault {
     /// The feeds failed at this file.
     Read { file: Text },
@@ -80,7 +80,7 @@ fn get_part<F: Feeds>(alloc: Global, file: &Text, feeds: &mut F) -> Result<Part,
 
 /// What was got of the files. Their bytes are held as long as all together have no more than their limit; past it the rest are
 /// only looked at, and their names are held.
-#[derive(Debug, Drop)]
+#[derive(Drop)]
 pub(crate) struct Held {
     pub(crate) parts: List<Part>,
     /// How many bytes more may come.

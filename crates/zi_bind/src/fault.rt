@@ -1,7 +1,7 @@
 use zi_text::{Memory, Text};
 
 /// Why bindings weren't applied.
-#[derive(Debug, Drop)]
+#[derive(Drop)]
 pub enum ApplyFault {
     /// A binding by this element isn't built.
     Unbuilt { element: Text },
@@ -23,7 +23,7 @@ impl From<Memory> for ApplyFault {
 }
 
 /// Why an argument stands for nothing.
-#[derive(Debug, Drop)]
+#[derive(Drop)]
 pub enum BindFault {
     /// A variable that isn't set is referred to.
     Unset { name: Text },

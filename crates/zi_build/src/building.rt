@@ -14,7 +14,7 @@ use zi_text::Memory;
 use zi_universe::{Requirement, Universe};
 
 /// Why there is no formula.
-#[derive(Clone, Copy, Debug, PartialEq, Eq)]
+#[derive(Clone, Copy, PartialEq, Eq)]
 pub enum BuildFault {
     /// Its clauses and groups would have more literals than this.
     TooLarge {

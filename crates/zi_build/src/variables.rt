@@ -12,7 +12,7 @@ use zi_universe::{Candidate, Universe};
 const MOST_COMMANDS: u32 = 4_000_000;
 
 /// A variable, by what it says.
-#[derive(Clone, Copy, Debug, PartialEq, Eq)]
+#[derive(Clone, Copy, PartialEq, Eq)]
 pub(crate) enum Variable {
     /// A candidate of an interface is chosen.
     Choosing(u32, u32),

@@ -14,11 +14,21 @@ use zi_universe::{Candidate, Universe};
 /// A universe with its names: each interface is found by its address, and each command of a candidate by its name, in
 /// constant time. Contracts see the list of interfaces, as of the universe itself. It is made once, in time and memory linear
 /// in the addresses and the commands.
-#[derive(Drop)]
 pub struct Names<'u> {
     universe: &'u Universe,
     addresses: IndexSet<Text>,
     commands: List<List<CommandTable>>,
+}
+
+// One call wherever one is dropped.
+impl<'u> Drop for Names<'u> {
+    fn drop(self) {
+        let Names {
+            universe: _,
+            addresses: _,
+            commands: _,
+        } = self;
+    }
 }
 
 impl<'u> Model for Names<'u> {

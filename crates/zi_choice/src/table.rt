@@ -10,9 +10,15 @@ use zi_parts::Command;
 use zi_text::{Memory, Text};
 
 /// The places of a candidate's commands by their names; of commands that share a name the first one's.
-#[derive(Drop)]
 pub(crate) struct CommandTable {
     pub places: IndexMap<Text, usize>,
+}
+
+// One call wherever one is dropped.
+impl Drop for CommandTable {
+    fn drop(self) {
+        let CommandTable { places: _ } = self;
+    }
 }
 
 // One place more, unless there is one of that name.

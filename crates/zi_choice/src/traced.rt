@@ -14,14 +14,14 @@ use zi_text::{List, Memory, Text};
 use zi_universe::{Requirement, Universe};
 
 /// A choice: for each interface of a universe the number of a candidate, or none.
-#[derive(Debug, Drop, PartialEq, Eq)]
+#[derive(Drop)]
 pub struct Choice {
     /// What is chosen for each interface, by the candidate's number from 0 in rank order.
     pub picks: List<Option<u32>>,
 }
 
 /// An interface of a walk, with what is chosen for it.
-#[derive(Clone, Copy, Debug, PartialEq, Eq)]
+#[derive(Clone, Copy, PartialEq, Eq)]
 pub struct Place {
     /// The interface's number, from 0.
     pub interface: u32,
@@ -30,7 +30,7 @@ pub struct Place {
 }
 
 /// A command that is used.
-#[derive(Debug, Drop, PartialEq, Eq, Hash)]
+#[derive(Drop, PartialEq, Eq, Hash)]
 pub struct Used {
     /// The interface's number, from 0.
     pub interface: u32,
@@ -39,12 +39,18 @@ pub struct Used {
 }
 
 /// A walk: where a choice leads from the root, depth first and in document order.
-#[derive(Debug, Drop, PartialEq, Eq)]
 pub struct Traced {
     /// The interfaces that it comes to, each once.
     pub places: List<Place>,
     /// The commands that are used on the way, each once.
     pub used: List<Used>,
+}
+
+// One call wherever one is dropped.
+impl Drop for Traced {
+    fn drop(self) {
+        let Traced { places: _, used: _ } = self;
+    }
 }
 
 /// What is picked for an interface.

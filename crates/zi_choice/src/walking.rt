@@ -24,10 +24,16 @@ pub(crate) struct Setting<'u> {
 }
 
 /// What a walk has come to: the interfaces by their numbers, and the commands that are used.
-#[derive(Drop)]
 pub(crate) struct Way {
     pub order: IndexSet<u32>,
     pub used: IndexSet<Used>,
+}
+
+// One call wherever one is dropped.
+impl Drop for Way {
+    fn drop(self) {
+        let Way { order: _, used: _ } = self;
+    }
 }
 
 /// What is still to be done.

@@ -10,7 +10,6 @@ use zi_text::List;
 use zi_universe::{Requirement, Universe};
 
 /// The best choice, and from what it was chosen.
-#[derive(Drop)]
 pub struct Chosen {
     /// What was asked for.
     pub req: Requirement,
@@ -24,4 +23,17 @@ pub struct Chosen {
     pub sels: Selections,
     /// Each element of its document can be written.
     pub ghost written: { first_amiss (tree sels) ≡ None },
+}
+
+// One call wherever one is dropped.
+impl Drop for Chosen {
+    fn drop(self) {
+        let Chosen {
+            req: _,
+            stored: _,
+            universe: _,
+            choice: _,
+            sels: _,
+        } = self;
+    }
 }

@@ -9,7 +9,7 @@ use zi_text::{Memory, Text};
 use zi_universe::{Interface, Universe};
 
 /// How many interfaces and candidates a universe has, how many interfaces have a candidate chosen, and how many their first.
-#[derive(Clone, Copy, Debug)]
+#[derive(Clone, Copy)]
 pub struct Counts {
     pub interfaces: usize,
     pub candidates: usize,

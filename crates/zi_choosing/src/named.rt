@@ -13,9 +13,15 @@ use zi_text::{List, Memory, Text};
 use zi_universe::{Candidate, Interface, Universe};
 
 // The places of selections by their interfaces; of those for one interface the first one's.
-#[derive(Drop)]
 struct Places {
     by_interface: IndexMap<Text, usize>,
+}
+
+// One call wherever one is dropped.
+impl Drop for Places {
+    fn drop(self) {
+        let Places { by_interface: _ } = self;
+    }
 }
 
 // Whether a candidate stands in the feed that a selection says, under its id.

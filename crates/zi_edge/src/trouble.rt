@@ -8,7 +8,7 @@ use std::process::ExitStatus;
 use zi_text::Memory;
 
 /// Why a call failed.
-#[derive(Clone, Copy, Debug)]
+#[derive(Clone, Copy)]
 pub enum Reason {
     /// The system refused it.
     System(io::Error),
@@ -32,7 +32,7 @@ impl Display for Reason {
 }
 
 /// Why a call of the system did nothing useful.
-#[derive(Clone, Copy, Debug)]
+#[derive(Clone, Copy)]
 pub enum Trouble {
     /// The system refused it, or what was found doesn't fit.
     Failed(Reason),

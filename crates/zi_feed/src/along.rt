@@ -27,7 +27,6 @@ pub struct Own {
 }
 
 /// What the elements along a path add, outer ones first.
-#[derive(Drop)]
 pub struct Added {
     pub deps: Inherited<Dep>,
     /// Those that no later one of their name replaces.
@@ -35,6 +34,18 @@ pub struct Added {
     /// Whether a command `run` is among them.
     pub has_run: bool,
     pub bindings: Inherited<Binding>,
+}
+
+// One call wherever one is dropped.
+impl Drop for Added {
+    fn drop(self) {
+        let Added {
+            deps: _,
+            commands: _,
+            has_run: _,
+            bindings: _,
+        } = self;
+    }
 }
 
 // The dependencies that are active.

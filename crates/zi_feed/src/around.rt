@@ -18,7 +18,6 @@ use zi_reading::{Part, Ways};
 use zi_text::Memory;
 
 /// What stands along a path.
-#[derive(Drop)]
 pub struct Around<'a> {
     /// What its elements say.
     pub said: Carried<'a>,
@@ -28,6 +27,18 @@ pub struct Around<'a> {
     pub made: Made,
     /// The numbers of what is shared of it.
     pub numbers: Numbers,
+}
+
+// One call wherever one is dropped.
+impl<'a> Drop for Around<'a> {
+    fn drop(self) {
+        let Around {
+            said: _,
+            added: _,
+            made: _,
+            numbers: _,
+        } = self;
+    }
 }
 
 /// What stands where there is no element yet.

@@ -4,7 +4,6 @@ use zi_parts::{Impl, Import};
 use zi_text::{List, Text};
 
 /// What a feed says.
-#[derive(Debug, Drop)]
 pub struct Feed {
     /// The address that it was read under.
     pub uri: Text,
@@ -12,4 +11,15 @@ pub struct Feed {
     pub imports: List<Import>,
     /// Its implementations, in the order of the document.
     pub impls: List<Impl>,
+}
+
+// One call wherever one is dropped.
+impl Drop for Feed {
+    fn drop(self) {
+        let Feed {
+            uri: _,
+            imports: _,
+            impls: _,
+        } = self;
+    }
 }

@@ -1,18 +1,19 @@
 //! What implementations and imports mean.
-ghost use Rattle.std.specs.Prelude.{◌≡◌, IfOk, option_copied, option_and_then, unwrap_or};
+ghost use Rattle.std.specs.Prelude.{◌≡◌, IfOk, codes, option_copied, option_and_then, unwrap_or};
 ghost use Rattle.std.specs.List.{filter_map};
 ghost use Rattle.zi_version.specs.Range.{a_version};
-ghost use Rattle.zi_elements.specs.Forest.{element_view};
+ghost use Rattle.zi_elements.specs.Forest.{element_view, value};
 ghost use Rattle.zi_policy.specs.Platform.{arch_of};
 ghost use Rattle.zi_policy.specs.declared.types.Stability.TheVariants.{Testing};
 ghost use Rattle.zi_reading.specs.Ways.{ways_of};
 ghost use Rattle.zi_reading.specs.Forms.{stability_of};
 ghost use Rattle.zi_reading.specs.Reading.{parts as parts_in};
+ghost use Rattle.zi_reading.specs.Words.{latest};
 ghost use Rattle.zi_parts.specs.Digests.{digests_of};
 ghost use Rattle.zi_parts.specs.Methods.{method_of};
 ghost use Rattle.zi_faults.specs.Said.{version_text};
 ghost use Rattle.zi_faults.specs.Carrying.{said_by};
-ghost use Rattle.zi_feed.specs.Impls.{local_of, langs_of, impl_with, import_of};
+ghost use Rattle.zi_feed.specs.Impls.{are_alike, local_of, langs_of, impl_with, import_of, with_main};
 ghost use Rattle.zi_feed.specs.Inward.{made_of, IsAdded, impl_at};
 
 use crate::along::commands_along;
@@ -22,11 +23,12 @@ use std::alloc::Global;
 use zi_digest::DigestName;
 use zi_elements::Element;
 use zi_faults::own_path;
-use zi_inherited::Shared;
+use zi_inherited::{Inherited, Shared};
 use zi_parts::{
-    Impl, Import, Method, address_in, copied, copied_arch, digests_of, methods_of, value_text,
+    Binding, Command, Dep, Impl, Import, Method, address_in, copied, copied_arch, digests_of,
+    methods_of, value_text,
 };
-use zi_policy::Stability;
+use zi_policy::{Arch, Stability};
 use zi_reading::{Part, Ways, attribute, lent, parts, stability_of};
 use zi_text::{List, Memory, Text};
 use zi_version::Version;
@@ -87,6 +89,74 @@ fn sources_of(alloc: Global, ways: Ways, part: &Part) -> Result<Sources, Memory>
     })
 }
 
+// The texts of an implementation, and its platform.
+#[derive(Drop)]
+struct Told {
+    id: Text,
+    arch: Option<Arch>,
+    released: Option<Text>,
+    local: Option<Text>,
+}
+
+// What an element and its path tell of it.
+fn told_of(alloc: Global, ways: Ways, around: &Around, e: &Element) -> Result<Told, Memory>
+    requires arch { around.now.made.arch ≡ option_and_then arch_of (said_by around.now.said).arch }
+    requires made { around.now.made ≡ made_of (ways_of ways) (said_by around.now.said) }
+    ensures { IfOk result
+        (λ t. t
+        ≡ record {
+          id = value (codes "id") (element_view e.now);
+          arch = option_and_then arch_of (said_by around.now.said).arch;
+          released = (said_by around.now.said).released;
+          local = local_of (ways_of ways.entry) (said_by around.now.said) (element_view e.now);
+        }) }
+{
+    let id = value_text(alloc, e, "id")?;
+    let arch = copied_arch(alloc, &around.made.arch)?;
+    let released = copied(alloc, around.said.released)?;
+    let local = local_of(alloc, ways, around, e)?;
+    Ok(Told {
+        id,
+        arch,
+        released,
+        local,
+    })
+}
+
+// What an implementation shares with the others of its groups.
+#[derive(Drop)]
+struct Along {
+    langs: Shared<List<Text>>,
+    deps: Inherited<Dep>,
+    commands: Inherited<Shared<Command>>,
+    bindings: Inherited<Binding>,
+}
+
+// What stands along a path of it.
+fn along_of(alloc: Global, around: &Around) -> Result<Along, Memory>
+    requires added { IsAdded around.now.added }
+    requires langs { around.now.made.langs ≡ langs_of (said_by around.now.said).langs }
+    ensures { IfOk result
+        (λ a. a
+        ≡ record {
+          langs = langs_of (said_by around.now.said).langs;
+          deps = around.now.added.deps;
+          commands = with_main (said_by around.now.said).main (latest are_alike around.now.added.commands);
+          bindings = around.now.added.bindings;
+        }) }
+{
+    let langs = around.made.langs.share()?;
+    let deps = around.added.deps.share()?;
+    let commands = commands_along(alloc, around.said.main, &around.added)?;
+    let bindings = around.added.bindings.share()?;
+    Ok(Along {
+        langs,
+        deps,
+        commands,
+        bindings,
+    })
+}
+
 // The implementation of an element, of this version.
 fn impl_with(
     alloc: Global,
@@ -107,19 +177,31 @@ fn impl_with(
     let e = part.element();
     let Sources { digests, methods } = sources_of(alloc, ways, part)?;
     let methods = Shared::new(alloc, methods)?;
+    let Told {
+        id,
+        arch,
+        released,
+        local,
+    } = told_of(alloc, ways, around, e)?;
+    let Along {
+        langs,
+        deps,
+        commands,
+        bindings,
+    } = along_of(alloc, around)?;
     Ok(Impl {
-        id: value_text(alloc, e, "id")?,
+        id,
         version,
-        arch: copied_arch(alloc, &around.made.arch)?,
+        arch,
         stability: stability_in(lent(around.said.stability)),
-        langs: around.made.langs.share()?,
-        released: copied(alloc, around.said.released)?,
-        local: local_of(alloc, ways, around, e)?,
+        langs,
+        released,
+        local,
         digests,
         methods,
-        deps: around.added.deps.share()?,
-        commands: commands_along(alloc, around.said.main, &around.added)?,
-        bindings: around.added.bindings.share()?,
+        deps,
+        commands,
+        bindings,
         place: e.place,
     })
 }

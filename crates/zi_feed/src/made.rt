@@ -22,7 +22,6 @@ use zi_text::{List, Memory, Text};
 use zi_version::Version;
 
 /// What is made of what is said along a path.
-#[derive(Drop)]
 pub struct Made {
     /// The version with its modifier, where it is one.
     pub version: Option<Version>,
@@ -32,6 +31,18 @@ pub struct Made {
     pub langs: Shared<List<Text>>,
     /// Where the local path lies, in a feed that is local.
     pub local: Option<Text>,
+}
+
+// One call wherever one is dropped.
+impl Drop for Made {
+    fn drop(self) {
+        let Made {
+            version: _,
+            arch: _,
+            langs: _,
+            local: _,
+        } = self;
+    }
 }
 
 /// The platform that a text is, where it is one.

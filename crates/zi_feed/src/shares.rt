@@ -18,7 +18,7 @@ use zi_text::{List, Memory, Text};
 use zi_version::Version;
 
 /// A group or an implementation, by what it adds to the dependencies around it.
-#[derive(Debug, Drop)]
+#[derive(Drop)]
 pub struct Level {
     /// The number of the level around it, which is less than its own, where some of the dependencies stand around it.
     pub outer: usize,
@@ -29,7 +29,7 @@ pub struct Level {
 }
 
 /// The numbers of an implementation.
-#[derive(Clone, Copy, Debug)]
+#[derive(Clone, Copy)]
 pub struct Numbers {
     /// That of its version.
     pub version: usize,
@@ -40,7 +40,6 @@ pub struct Numbers {
 }
 
 /// What implementations share.
-#[derive(Debug, Drop)]
 pub struct Shares {
     /// The versions by their numbers; none where there is none, which no implementation has.
     pub versions: List<Option<Version>>,
@@ -52,6 +51,18 @@ pub struct Shares {
     pub of: List<Numbers>,
 }
 
+// One call wherever one is dropped.
+impl Drop for Shares {
+    fn drop(self) {
+        let Shares {
+            versions: _,
+            langs: _,
+            levels: _,
+            of: _,
+        } = self;
+    }
+}
+
 /// The implementations that were found so far, with what they share.
 #[derive(Drop)]
 pub struct Gathered {
@@ -60,7 +71,7 @@ pub struct Gathered {
 }
 
 /// A feed, with what its implementations share.
-#[derive(Debug, Drop)]
+#[derive(Drop)]
 pub struct ReadFeed {
     /// The feed.
     pub feed: Feed,

@@ -14,9 +14,15 @@ use zi_text::{Memory, Text};
 
 /// Names of trees that are stored: those that were when a call began, and those that it added. Contracts see the list of their
 /// spellings; a name is found in constant time.
-#[derive(Drop)]
 pub struct Stored {
     names: IndexSet<Text>,
+}
+
+// One call wherever one is dropped.
+impl Drop for Stored {
+    fn drop(self) {
+        let Stored { names: _ } = self;
+    }
 }
 
 impl Model for Stored {

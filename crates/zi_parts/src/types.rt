@@ -8,7 +8,6 @@ use zi_tree::RelPath;
 use zi_version::{Range, Version};
 
 /// A feed whose implementations count too.
-#[derive(Debug, Drop)]
 pub struct Import {
     /// Its address.
     pub uri: Text,
@@ -18,8 +17,18 @@ pub struct Import {
     pub langs: List<Text>,
 }
 
+// One call wherever one is dropped.
+impl Drop for Import {
+    fn drop(self) {
+        let Import {
+            uri: _,
+            arch: _,
+            langs: _,
+        } = self;
+    }
+}
+
 /// An implementation, with what it takes from its groups, which is held once for all of a group. Its copies share all of it.
-#[derive(Debug, Drop)]
 pub struct Impl {
     /// Its name, which isn't empty and stands once in the feed.
     pub id: Text,
@@ -49,8 +58,29 @@ pub struct Impl {
     pub place: u64,
 }
 
+// One call wherever one is dropped.
+impl Drop for Impl {
+    fn drop(self) {
+        let Impl {
+            id: _,
+            version: _,
+            arch: _,
+            stability: _,
+            langs: _,
+            released: _,
+            local: _,
+            digests: _,
+            methods: _,
+            deps: _,
+            commands: _,
+            bindings: _,
+            place: _,
+        } = self;
+    }
+}
+
 /// A dependency on another interface.
-#[derive(Debug, Drop, PartialEq, Eq)]
+#[derive(PartialEq, Eq)]
 pub struct Dep {
     /// The interface's address.
     pub interface: Text,
@@ -66,6 +96,20 @@ pub struct Dep {
     pub bindings: List<Binding>,
 }
 
+// One call wherever one is dropped.
+impl Drop for Dep {
+    fn drop(self) {
+        let Dep {
+            interface: _,
+            kind: _,
+            ranges: _,
+            condition: _,
+            commands: _,
+            bindings: _,
+        } = self;
+    }
+}
+
 /// How a dependency is meant.
 #[derive(Clone, Copy, Debug, PartialEq, Eq)]
 pub enum DepKind {
@@ -78,7 +122,7 @@ pub enum DepKind {
 }
 
 /// A way to run an implementation.
-#[derive(Debug, Drop, PartialEq, Eq)]
+#[derive(Drop, PartialEq, Eq)]
 pub struct Command {
     /// Its name.
     pub name: Text,
@@ -97,7 +141,7 @@ pub struct Command {
 }
 
 /// What runs a command: a command of another interface.
-#[derive(Debug, Drop, PartialEq, Eq)]
+#[derive(PartialEq, Eq)]
 pub struct Runner {
     /// The dependency on it, with the one command that is asked of it.
     pub dep: Dep,
@@ -105,8 +149,15 @@ pub struct Runner {
     pub words: List<Word>,
 }
 
+// One call wherever one is dropped.
+impl Drop for Runner {
+    fn drop(self) {
+        let Runner { dep: _, words: _ } = self;
+    }
+}
+
 /// One argument, or arguments that are repeated.
-#[derive(Debug, Drop, PartialEq, Eq)]
+#[derive(Drop, PartialEq, Eq)]
 pub enum Word {
     /// An argument, before variables are replaced.
     Arg(Text),
@@ -122,7 +173,7 @@ pub enum Word {
 }
 
 /// How an implementation is made known to a program.
-#[derive(Debug, Drop, PartialEq, Eq)]
+#[derive(Drop, PartialEq, Eq)]
 pub enum Binding {
     /// By a variable of the environment.
     Env {
@@ -145,7 +196,7 @@ pub enum Binding {
 }
 
 /// What a binding adds.
-#[derive(Debug, Drop, PartialEq, Eq)]
+#[derive(Drop, PartialEq, Eq)]
 pub enum Extra {
     /// A path inside the implementation's folder.
     Insert(Text),
@@ -165,7 +216,7 @@ pub enum Mode {
 }
 
 /// A way to fetch an implementation.
-#[derive(Debug, Drop)]
+#[derive(Drop)]
 pub struct Method {
     /// Its steps, in their order.
     pub steps: List<Step>,

@@ -2,7 +2,7 @@ use zi_bind::BindFault;
 use zi_text::{Memory, Text};
 
 /// Why selections can't be launched: the first check that fails.
-#[derive(Debug, Drop)]
+#[derive(Drop)]
 pub enum PlanFault {
     /// Nothing is selected for an interface on the chain of runners.
     NoSelection { interface: Text },

@@ -19,11 +19,21 @@ pub struct Wanted<'a> {
 
 /// What is selected: the first selection of each interface, and the first command of each of its names, each of which is found in
 /// constant time. Contracts see the list of all selections in their folders.
-#[derive(Drop)]
 pub struct Table<'a> {
     all: &'a [InFolder<'a>],
     selected: HashMap<&'a str, InFolder<'a>>,
     commands: HashMap<Wanted<'a>, &'a Command>,
+}
+
+// One call wherever one is dropped.
+impl<'a> Drop for Table<'a> {
+    fn drop(self) {
+        let Table {
+            all: _,
+            selected: _,
+            commands: _,
+        } = self;
+    }
 }
 
 impl<'a> Model for Table<'a> {

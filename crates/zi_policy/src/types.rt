@@ -32,7 +32,7 @@ pub enum Network {
 }
 
 /// A stability that replaces the feed's for one implementation.
-#[derive(Debug, Drop, PartialEq, Eq)]
+#[derive(Drop)]
 pub struct Override {
     /// The interface's address.
     pub interface: Text,
@@ -43,7 +43,6 @@ pub struct Override {
 }
 
 /// What the user asks for, whatever the program.
-#[derive(Debug, Drop, PartialEq, Eq)]
 pub struct Policy {
     /// The operating system to run on.
     pub os: Text,
@@ -61,8 +60,23 @@ pub struct Policy {
     pub overrides: List<Override>,
 }
 
+// One call wherever one is dropped.
+impl Drop for Policy {
+    fn drop(self) {
+        let Policy {
+            os: _,
+            machine: _,
+            langs: _,
+            level: _,
+            network: _,
+            uses: _,
+            overrides: _,
+        } = self;
+    }
+}
+
 /// An operating system and a machine; `*` is any.
-#[derive(Debug, Drop, PartialEq, Eq)]
+#[derive(Drop, PartialEq, Eq)]
 pub struct Arch {
     /// The operating system.
     pub os: Text,
@@ -71,7 +85,7 @@ pub struct Arch {
 }
 
 /// When a dependency is active: where both hold, and what is absent holds.
-#[derive(Debug, Drop, PartialEq, Eq)]
+#[derive(Drop, PartialEq, Eq)]
 pub struct Condition {
     /// An operating system that the policy's runs.
     pub os: Option<Text>,

@@ -8,7 +8,7 @@ use zi_policy::Policy;
 use zi_text::Text;
 
 /// Where languages stand in a policy's list. It is computed once for languages that many implementations share.
-#[derive(Clone, Copy, Debug)]
+#[derive(Clone, Copy)]
 pub struct Places {
     /// By their bases.
     pub base: usize,
@@ -32,7 +32,7 @@ impl Places {
 
 /// What a policy makes of an implementation: the components of its rank that the policy has a part in. It is computed once,
 /// and then serves each comparison.
-#[derive(Clone, Copy, Debug)]
+#[derive(Clone, Copy)]
 pub struct Rating {
     /// The place of its languages in the policy's list, by their bases.
     pub base: usize,

@@ -4,7 +4,6 @@ use zi_text::{List, Text};
 use zi_version::Version;
 
 /// What decides whether an implementation of an interface may be used, and where it stands among the others.
-#[derive(Debug, Drop)]
 pub struct Standing {
     /// Its version.
     pub version: Version,
@@ -26,6 +25,24 @@ pub struct Standing {
     pub stored: bool,
     /// Whether it can be fetched.
     pub retrievable: bool,
+}
+
+// One call wherever one is dropped.
+impl Drop for Standing {
+    fn drop(self) {
+        let Standing {
+            version: _,
+            id: _,
+            feed: _,
+            place: _,
+            arch: _,
+            langs: _,
+            stability: _,
+            local: _,
+            stored: _,
+            retrievable: _,
+        } = self;
+    }
 }
 
 /// Why an implementation isn't usable. Of several reasons the first of these counts.

@@ -11,7 +11,7 @@ use std::marker::Model;
 use zi_elements::Element;
 
 /// The kinds of elements that are read (the Zero Install feed format): their local names in the namespace of feeds.
-#[derive(Clone, Copy, Debug, PartialEq, Eq)]
+#[derive(Clone, Copy, PartialEq, Eq)]
 pub enum Kind {
     /// `interface`, the root of a feed.
     Interface,

@@ -3,7 +3,7 @@ use zi_text::{Memory, Text};
 use zi_tree::TreeLimit;
 
 /// Why a way to fetch makes no tree: the first fault in the order of `make_tree`.
-#[derive(Debug, Drop)]
+#[derive(Drop)]
 pub enum RecipeFault {
     /// The web failed at this address: its count of faults rose.
     FetchRead { href: Text },

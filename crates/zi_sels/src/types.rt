@@ -3,7 +3,7 @@ use zi_parts::{Binding, Command, Dep};
 use zi_text::{List, Text};
 
 /// What is selected for a program.
-#[derive(Debug, Drop, PartialEq, Eq)]
+#[derive(Drop, PartialEq, Eq)]
 pub struct Selections {
     /// The root's address.
     pub interface: Text,
@@ -14,7 +14,7 @@ pub struct Selections {
 }
 
 /// An implementation that is selected for an interface.
-#[derive(Debug, Drop, PartialEq, Eq)]
+#[derive(PartialEq, Eq)]
 pub struct Selection {
     /// The interface's address.
     pub interface: Text,
@@ -40,4 +40,24 @@ pub struct Selection {
     pub commands: List<Command>,
     /// Its bindings.
     pub bindings: List<Binding>,
+}
+
+// One call wherever one is dropped.
+impl Drop for Selection {
+    fn drop(self) {
+        let Selection {
+            interface: _,
+            id: _,
+            version: _,
+            from_feed: _,
+            local: _,
+            arch: _,
+            released: _,
+            stability: _,
+            digests: _,
+            deps: _,
+            commands: _,
+            bindings: _,
+        } = self;
+    }
 }

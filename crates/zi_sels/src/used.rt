@@ -17,10 +17,16 @@ struct Key<'u> {
 }
 
 /// The commands that are used. Each is found in constant time. Contracts see the list of them.
-#[derive(Drop)]
 pub struct UsedTable<'u> {
     used: &'u [Used],
     keys: HashSet<Key<'u>>,
+}
+
+// One call wherever one is dropped.
+impl<'u> Drop for UsedTable<'u> {
+    fn drop(self) {
+        let UsedTable { used: _, keys: _ } = self;
+    }
 }
 
 impl<'u> Model for UsedTable<'u> {

@@ -4,7 +4,7 @@ use zi_choice::Choice;
 use zi_proof::{Certificate, Proof};
 
 /// What the solver comes to.
-#[derive(Debug, Drop)]
+#[derive(Drop)]
 pub enum Answer {
     /// The best choice.
     Best {

@@ -11,9 +11,15 @@ use zi_feed::ReadFeed;
 use zi_text::{Memory, Text};
 
 /// Feeds of distinct addresses, in the order in which they were got. Contracts see the list of them.
-#[derive(Drop)]
 pub struct FeedTable {
     feeds: IndexMap<Text, ReadFeed>,
+}
+
+// One call wherever one is dropped.
+impl Drop for FeedTable {
+    fn drop(self) {
+        let FeedTable { feeds: _ } = self;
+    }
 }
 
 impl Model for FeedTable {

@@ -4,7 +4,6 @@ use zi_text::{List, Text};
 use zi_version::Range;
 
 /// A version limit that the user gives for one interface.
-#[derive(Debug, Drop)]
 pub struct Limit {
     /// The interface's address.
     pub interface: Text,
@@ -12,8 +11,17 @@ pub struct Limit {
     pub range: Range,
 }
 
+// One call wherever one is dropped.
+impl Drop for Limit {
+    fn drop(self) {
+        let Limit {
+            interface: _,
+            range: _,
+        } = self;
+    }
+}
+
 /// What is wanted.
-#[derive(Debug, Drop)]
 pub struct Requirement {
     /// The address of the program's interface, the root.
     pub interface: Text,
@@ -23,8 +31,18 @@ pub struct Requirement {
     pub limits: List<Limit>,
 }
 
+// One call wherever one is dropped.
+impl Drop for Requirement {
+    fn drop(self) {
+        let Requirement {
+            interface: _,
+            command: _,
+            limits: _,
+        } = self;
+    }
+}
+
 /// An implementation that may be used for an interface.
-#[derive(Debug, Drop)]
 pub struct Candidate {
     /// What decides where it stands among the others.
     pub standing: Standing,
@@ -32,8 +50,18 @@ pub struct Candidate {
     pub imp: Impl,
 }
 
+// One call wherever one is dropped.
+impl Drop for Candidate {
+    fn drop(self) {
+        let Candidate {
+            standing: _,
+            imp: _,
+        } = self;
+    }
+}
+
 /// An interface with its candidates.
-#[derive(Debug, Drop)]
+#[derive(Drop)]
 pub struct Interface {
     /// Its address.
     pub uri: Text,

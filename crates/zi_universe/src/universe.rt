@@ -9,7 +9,7 @@ use zi_text::List;
 /// The interfaces that a program may need, the root first, in the order in which they are asked for. Contracts see the list
 /// of them. It is made by `load` alone: the addresses are distinct, each interface that a candidate asks for is there, and
 /// the candidates of each stand in rank order.
-#[derive(Debug, Drop)]
+#[derive(Drop)]
 pub struct Universe {
     interfaces: List<Interface>,
 }

@@ -30,13 +30,25 @@ pub struct Overridden<'a> {
 
 /// What a loading is for: what is wanted, by which policy, and which trees are stored. Contracts see these three. The
 /// stabilities that overrides give, the limits of an interface and the names of the trees are each found in constant time.
-#[derive(Drop)]
 pub struct Wanted<'a> {
     req: &'a Requirement,
     policy: &'a Policy,
     stored: IndexSet<Text>,
     stabilities: HashMap<Overridden<'a>, Stability>,
     limits: HashMap<&'a str, List<&'a Limit>>,
+}
+
+// One call wherever one is dropped.
+impl<'a> Drop for Wanted<'a> {
+    fn drop(self) {
+        let Wanted {
+            req: _,
+            policy: _,
+            stored: _,
+            stabilities: _,
+            limits: _,
+        } = self;
+    }
 }
 
 impl<'a> Model for Wanted<'a> {

@@ -13,10 +13,16 @@ use zi_text::{Memory, Text};
 
 /// A version, which contracts see as the text that it was written as. Two are equal where they are written alike, so `1.2` and
 /// `1.2-` aren't; their order is `cmp`.
-#[derive(Debug, Drop)]
 pub struct Version {
     text: Text,
     words: Shared<Vec<Word>>,
+}
+
+// One call wherever one is dropped.
+impl Drop for Version {
+    fn drop(self) {
+        let Version { text: _, words: _ } = self;
+    }
 }
 
 impl Model for Version {

@@ -31,11 +31,21 @@ pub(crate) struct Setting<'w, 'u> {
 }
 
 /// What was taken in of the trail, up to which variable all are decided by that, and the walk as far as it is settled.
-#[derive(Drop)]
 pub(crate) struct Kept<'u> {
     pub taken: Vec<Entry>,
     pub low: u32,
     pub path: Path<'u>,
+}
+
+// One call wherever one is dropped.
+impl<'u> Drop for Kept<'u> {
+    fn drop(self) {
+        let Kept {
+            taken: _,
+            low: _,
+            path: _,
+        } = self;
+    }
 }
 
 impl<'u> Kept<'u> {

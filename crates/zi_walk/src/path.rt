@@ -29,7 +29,6 @@ pub(crate) struct Stop {
 }
 
 /// A walk up to a place. Every place is followed, but the last one may wait.
-#[derive(Drop)]
 pub(crate) struct Path<'u> {
     alloc: Global,
     // the interfaces that the walk has come to
@@ -40,6 +39,20 @@ pub(crate) struct Path<'u> {
     tasks: Tasks<'u>,
     // the list of what is left to be done
     left: usize,
+}
+
+// One call wherever one is dropped.
+impl<'u> Drop for Path<'u> {
+    fn drop(self) {
+        let Path {
+            alloc: _,
+            order: _,
+            stops: _,
+            used: _,
+            tasks: _,
+            left: _,
+        } = self;
+    }
 }
 
 impl<'u> Path<'u> {

@@ -13,13 +13,25 @@ use zi_universe::{Requirement, Universe};
 /// It picks the first undecided candidate in rank order at the first undecided place of the walk; once the walk is decided,
 /// the opposite of the first undecided variable. It keeps the walk as far as it is decided, and takes it up where it stood: it goes
 /// back with the trail, so that a pick costs what came since.
-#[derive(Drop)]
 pub struct Walk<'u> {
     requirement: &'u Requirement,
     names: Names<'u>,
     numbering: Numbering<'u>,
     alloc: Global,
     kept: Kept<'u>,
+}
+
+// One call wherever one is dropped.
+impl<'u> Drop for Walk<'u> {
+    fn drop(self) {
+        let Walk {
+            requirement: _,
+            names: _,
+            numbering: _,
+            alloc: _,
+            kept: _,
+        } = self;
+    }
 }
 
 impl<'u> Model for Walk<'u> {

@@ -8,7 +8,7 @@ use zi_text::Text;
 
 /// An address, which contracts see as its bytes in UTF-8 (RFC 3629): it begins with `http://`, `https://` or `/`, and each of its
 /// characters is one that XML 1.0 can carry (production 2, Char) and no tab, LF or CR.
-#[derive(Debug, Drop)]
+#[derive(Drop)]
 pub struct Address {
     text: Text,
 }

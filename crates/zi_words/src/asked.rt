@@ -3,7 +3,7 @@ use zi_text::{List, Text};
 use zi_version::Range;
 
 /// Versions wanted of an interface; without one, of the program's.
-#[derive(Debug, Drop)]
+#[derive(Drop)]
 pub struct Limit {
     /// The interface's address, if it isn't the program's.
     pub interface: Option<Text>,
@@ -12,7 +12,7 @@ pub struct Limit {
 }
 
 /// What the options that were read say, each list in their order.
-#[derive(Debug, Drop)]
+#[derive(Drop)]
 pub struct Asked {
     /// The command of `--command`, or that `--no-command` stands.
     pub command: Option<Option<Text>>,

@@ -1,6 +1,6 @@
 /// An option of the commands that load feeds. But for `--version-for`, `--lang`, `--use` and `--rate` each stands at most once,
 /// `--command` doesn't stand with `--no-command`, and no pair of an address and an id stands twice behind `--rate`.
-#[derive(Clone, Copy, Debug, PartialEq, Eq)]
+#[derive(Clone, Copy, PartialEq, Eq)]
 pub enum Kind {
     /// `--command NAME`: the command of the program that is wanted; `run` where neither this nor the next is said.
     Command,

@@ -5,7 +5,7 @@ ghost use Rattle.zi_words.specs.Words.{takes_more, count_of};
 use crate::kind::Kind;
 
 /// A command that loads feeds.
-#[derive(Clone, Copy, Debug, PartialEq, Eq)]
+#[derive(Clone, Copy, PartialEq, Eq)]
 pub enum Loader {
     /// `select [options] ROOT`, which alone has `--proof`.
     Select,

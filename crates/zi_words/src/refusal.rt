@@ -2,7 +2,7 @@ use std::alloc::AllocFailed;
 use zi_text::Memory;
 
 /// Why the words that are left aren't right.
-#[derive(Clone, Copy, Debug, PartialEq, Eq)]
+#[derive(Clone, Copy, PartialEq, Eq)]
 pub enum Refusal {
     /// So many words are left from the wrong one on; none where one is missing.
     Left(usize),

@@ -7,7 +7,7 @@ use zi_text::{List, Text};
 use zi_version::Range;
 
 /// The versions of an interface that are wanted.
-#[derive(Debug, Drop)]
+#[derive(Drop)]
 pub struct Wanted {
     /// The interface's address.
     pub interface: Text,
@@ -16,7 +16,7 @@ pub struct Wanted {
 }
 
 /// Which program is wanted, and how it is to be chosen.
-#[derive(Debug, Drop)]
+#[derive(Drop)]
 pub struct Ask {
     /// The address of the program's interface.
     pub root: Address,
@@ -31,7 +31,7 @@ pub struct Ask {
 }
 
 /// What is asked for.
-#[derive(Debug, Drop)]
+#[derive(Drop)]
 pub enum Request {
     /// `select`: the selections of a program, or with `proof` the proof that they are the best.
     Select { ask: Ask, proof: bool },
@@ -62,7 +62,7 @@ pub enum Request {
 }
 
 /// Why words ask for nothing.
-#[derive(Clone, Copy, Debug, PartialEq, Eq)]
+#[derive(Clone, Copy, PartialEq, Eq)]
 pub enum WordsFault {
     /// They aren't right. The index, from 0, is the number of words in their longest front that is also a front of some
     /// right list of words: that of the first wrong word, or of the words where one is missing at the end.
