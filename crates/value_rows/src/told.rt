@@ -124,7 +124,7 @@ fn put_entered(out: &mut Sheet, entered: &Entered) {
 }
 
 /// Adds what is said of a start tag of this name and these attributes.
-fn put_opened(alloc: Global, out: &mut Sheet, told: &mut Told, name: &Text, raw: List<Raw>) {
+fn put_opened(alloc: Global, out: &mut Sheet, told: &mut Told, name: &str, raw: List<Raw>) {
     match told.scopes.enter(alloc, name, raw) {
         Ok(entered) => put_entered(out, &entered),
         Err(Memory) => out.lose(),
@@ -135,9 +135,7 @@ fn put_opened(alloc: Global, out: &mut Sheet, told: &mut Told, name: &Text, raw:
 /// then on, up to `leave`.
 pub(crate) fn put_tag(alloc: Global, out: &mut Sheet, row: &str, told: &mut Told) {
     let (name, attributes) = halves(row);
-    let mut tag = Text::new(alloc);
     let mut raw = List::new(alloc);
-    out.needs(tag.push_str(name));
     out.needs(take_raw(alloc, &mut raw, attributes));
-    put_opened(alloc, out, told, &tag, raw);
+    put_opened(alloc, out, told, name, raw);
 }

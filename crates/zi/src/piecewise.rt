@@ -9,7 +9,7 @@ use zi_folder::{Reason, Trouble};
 use zi_outside::{FeedsFault, Got};
 
 // The most bytes that are read at once.
-const PIECE: usize = 16_384;
+const PIECE: usize = 4_096;
 
 /// What stands under a name.
 #[derive(Drop)]

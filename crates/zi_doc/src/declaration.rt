@@ -261,7 +261,7 @@ impl Reader {
         self.returned = false;
         match self.owner {
             Owner::Attr => {
-                self.value = Text::new(alloc);
+                self.value.clear();
                 self.value_returned = false;
                 self.mode = Mode::Valuing;
                 Ok(())

@@ -13,6 +13,7 @@ mod content;
 mod declaration;
 mod fault;
 mod laws;
+mod letters;
 mod markup;
 mod reader;
 mod references;

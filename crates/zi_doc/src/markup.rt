@@ -139,9 +139,8 @@ impl Reader {
                 place: self.place,
             });
         }
-        let mut written = Vec::new(alloc);
-        written.push(c)?;
-        self.written = written;
+        self.written.clear();
+        self.written.push(c)?;
         self.raw = List::new(alloc);
         self.rooted = true;
         self.returned = false;

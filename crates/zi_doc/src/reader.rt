@@ -10,6 +10,7 @@ ghost use Rattle.zi_elements.specs.declared.element.Element.{Element as Tree};
 
 use crate::fault::{DocFault, DocKind};
 use crate::laws::one_answer;
+use crate::letters::Letters;
 use crate::state::{Mode, Owner, Reader, Word};
 use std::alloc::Global;
 use std::{mem, str};
@@ -29,7 +30,7 @@ impl Reader {
             opens: Vec::new(alloc),
             scopes: Scopes::new(alloc)?,
             before: List::new(alloc),
-            letters: Text::new(alloc),
+            letters: Letters::new(alloc),
             returned: false,
             brackets: 0,
             rooted: false,
@@ -38,10 +39,10 @@ impl Reader {
             outer_returned: false,
             written: Vec::new(alloc),
             raw: List::new(alloc),
-            attr: Text::new(alloc),
+            attr: Letters::new(alloc),
             owner: Owner::Attr,
             quote: '"',
-            value: Text::new(alloc),
+            value: Letters::new(alloc),
             value_returned: false,
             in_value: false,
             refer_at: 0,
@@ -102,6 +103,20 @@ impl Reader {
             Mode::Closing => self.closing(alloc, at, c),
         }
     }
+
+    // The same. Most characters stand in values and names, so those are looked at first.
+    fn turn(&mut self, alloc: Global, at: u64, c: char) -> Result<(), DocFault>
+        requires sound { IsSound self.old }
+        requires room { at < 2 ^ 63 }
+        ensures { Takes (doing_in self.old.mode self.old) self.old at c result self.new }
+    {
+        match self.mode {
+            Mode::Valuing => self.valuing(alloc, at, c),
+            Mode::AttrNaming => self.attr_naming(at, c),
+            Mode::Naming => self.naming(alloc, at, c),
+            _ => self.step(alloc, at, c),
+        }
+    }
 }
 
 impl Reader {
@@ -158,7 +173,7 @@ fn read_text(alloc: Global, text: &str) -> Result<Element, DocFault>
     let mut at = 0;
     let mut rest = text.chars();
     while let Some(c) = rest.next() {
-        match reader.step(alloc, at, c) {
+        match reader.turn(alloc, at, c) {
             Ok(()) => {}
             Err(e) => return Err(e),
         }

@@ -1,7 +1,7 @@
-use std::alloc::Global;
+use crate::letters::Letters;
 use zi_elements::{Attr, Node};
 use zi_names::{Raw, Scopes};
-use zi_text::{List, Memory, Text};
+use zi_text::{List, Text};
 
 // What is being read. The comment says what was read last.
 #[derive(Clone, Copy, Debug, PartialEq, Eq)]
@@ -91,7 +91,7 @@ pub struct Open {
     pub local: Text,
     pub attrs: List<Attr>,
     pub before: List<Node>,
-    pub letters: Text,
+    pub letters: Letters,
     pub returned: bool,
     pub place: u64,
 }
@@ -105,7 +105,7 @@ pub struct Reader {
     pub scopes: Scopes,
     // the children and the text so far, and whether a CR was last
     pub before: List<Node>,
-    pub letters: Text,
+    pub letters: Letters,
     pub returned: bool,
     // how many `]` stand just before, up to two
     pub brackets: u8,
@@ -118,10 +118,10 @@ pub struct Reader {
     // the tag: its name, its attributes, and the attribute that is being read
     pub written: Vec<char>,
     pub raw: List<Raw>,
-    pub attr: Text,
+    pub attr: Letters,
     pub owner: Owner,
     pub quote: char,
-    pub value: Text,
+    pub value: Letters,
     pub value_returned: bool,
     // the reference: where it stands, its place, its name, its number
     pub in_value: bool,

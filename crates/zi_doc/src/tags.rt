@@ -11,23 +11,29 @@ ghost use Rattle.zi_doc.specs.Moves.{Starts, Moves, Lands, Takes, near_bytes};
 
 use crate::chars::{is_first, is_name, is_plain, is_white};
 use crate::fault::{DocFault, DocKind};
+use crate::letters::Letters;
 use crate::state::{Mode, Open, Owner, Reader, Word};
-use crate::texts::{refuse, text_of};
+use crate::texts::{letters_of, refuse};
 use std::alloc::Global;
 use std::mem;
 use zi_elements::{Element, Node};
 use zi_names::{Entered, Raw, Started};
-use zi_text::{List, Memory, Text};
+use zi_text::{List, Memory};
 
 const NEAR: Option<char> = Some('\u{FFFD}');
 
-// Adds a text, unless it is empty.
+// So many characters of a name, as many as most have, need no more room.
+const NAME: usize = 16;
+
+// Adds the letters as a text, unless there is none; they are read anew from then on.
 #[tactic(auto, using(crate::proofs::Stacks::flush_some, crate::proofs::Stacks::flush_none))]
-fn settle(before: &mut List<Node>, letters: Text) -> Result<(), Memory>
-    ensures { OnOk result (before.new ≡ before.old ++ flush letters) }
+fn settle(alloc: Global, before: &mut List<Node>, letters: &mut Letters) -> Result<(), Memory>
+    ensures flushed { OnOk result (before.new ≡ before.old ++ flush letters.old) }
+    ensures none { OnOk result (letters.new ≡ []) }
 {
     if !letters.is_empty() {
-        before.push(Node::Words(letters))?;
+        let words = letters.take(alloc)?;
+        before.push(Node::Words(words))?;
     }
     Ok(())
 }
@@ -80,7 +86,7 @@ impl Reader {
         ensures { Takes (doing_in Mode.Spaced self.old) self.old at c result self.new }
     {
         if is_first(c) {
-            self.attr = Text::new(alloc);
+            self.attr.clear();
             self.attr.push(c)?;
             self.returned = false;
             self.mode = Mode::AttrNaming;
@@ -134,8 +140,9 @@ impl Reader {
             self.mode = Mode::Valuing;
             Ok(())
         } else if c == self.quote {
-            let name = mem::replace(&mut self.attr, Text::new(alloc));
-            let value = mem::replace(&mut self.value, Text::new(alloc));
+            let name = self.scopes.text(alloc, self.attr.as_str())?;
+            self.attr.clear();
+            let value = self.value.take(alloc)?;
             self.raw.push(Raw { name, value })?;
             self.returned = false;
             self.mode = Mode::Valued;
@@ -156,9 +163,9 @@ impl Reader {
         requires { IsKept self.old }
         ensures { Starts self.old result self.new }
     {
-        let name = text_of(alloc, self.written.as_slice())?;
+        let name = letters_of(alloc, self.written.as_slice())?;
         let raw = mem::replace(&mut self.raw, List::new(alloc));
-        match self.scopes.enter(alloc, &name, raw)? {
+        match self.scopes.enter(alloc, name.as_str(), raw)? {
             Entered::Started(started) => Ok(started),
             Entered::BadPrefix => Err(DocFault::Bad {
                 kind: DocKind::Prefix,
@@ -182,13 +189,14 @@ impl Reader {
         };
         let Started { space, name, attrs } = started;
         let attrs = fitted(attrs);
+        let written = Vec::with_capacity(alloc, NAME)?;
         let open = Open {
-            written: mem::replace(&mut self.written, Vec::new(alloc)),
+            written: mem::replace(&mut self.written, written),
             space,
             local: name,
             attrs,
             before: mem::replace(&mut self.before, List::new(alloc)),
-            letters: mem::replace(&mut self.letters, Text::new(alloc)),
+            letters: mem::replace(&mut self.letters, Letters::new(alloc)),
             returned: self.outer_returned,
             place: self.place,
         };
@@ -227,8 +235,7 @@ impl Reader {
     fn adopt(&mut self, alloc: Global, element: Element) -> Result<(), Memory>
         ensures { OnOk result (self.new ≡ record self.old { before = self.old.before ++ flush self.old.letters ++ Child element ∷ []; letters = []; returned = false; brackets = 0; rooted = true; mode = Mode.Inside }) }
     {
-        let letters = mem::replace(&mut self.letters, Text::new(alloc));
-        settle(&mut self.before, letters)?;
+        settle(alloc, &mut self.before, &mut self.letters)?;
         self.before.push(Node::Child(element))?;
         self.returned = false;
         self.brackets = 0;
@@ -320,7 +327,8 @@ impl Reader {
         } = top;
         self.leave_scope();
         let mut children = mem::replace(&mut self.before, before);
-        settle(&mut children, mem::replace(&mut self.letters, letters))?;
+        settle(alloc, &mut children, &mut self.letters)?;
+        self.letters = letters;
         let children = fitted(children);
         let element = Element {
             space,

@@ -4,8 +4,9 @@ ghost use Rattle.zi_xml.specs.Machine.{common, is_xml as names_xml};
 ghost use Rattle.zi_doc.specs.Moves.{near_bytes};
 
 use crate::fault::{DocFault, DocKind};
+use crate::letters::Letters;
 use std::alloc::Global;
-use zi_text::{Memory, Text};
+use zi_text::Memory;
 
 /// An ASCII letter as a small one.
 #[tactic(auto, unfolding(zi_xml::specs::Chars::small))]
@@ -38,16 +39,16 @@ pub fn is_xml(target: &str) -> bool
     same_letters(target.as_bytes(), b"xml")
 }
 
-/// The text of these characters.
+/// These characters as letters.
 #[tactic(auto, using(crate::proofs::TextLemmas::encodes_push))]
-pub fn text_of(alloc: Global, chars: &[char]) -> Result<Text, Memory>
+pub fn letters_of(alloc: Global, chars: &[char]) -> Result<Letters, Memory>
     ensures { IfOk result (λ t. t ≡ encode_utf8_all chars.now) }
 {
-    let mut text = Text::new(alloc);
+    let mut letters = Letters::with_room(alloc, chars.len())?;
     for c in chars {
-        text.push(*c)?;
+        letters.push(*c)?;
     }
-    Ok(text)
+    Ok(letters)
 }
 
 /// How many bytes two texts share at their front.

@@ -23,7 +23,10 @@ fn put_word_byte(text: &mut Vec<u8>, b: u8) -> Result<(), Memory>
         b'<' => put(text, b"&lt;"),
         b'>' => put(text, b"&gt;"),
         b'\r' => put(text, b"&#13;"),
-        _ => put(text, &[b]),
+        _ => {
+            text.push(b)?;
+            Ok(())
+        }
     }
 }
 

@@ -20,7 +20,7 @@ use crate::carrying::{Carried, is_wrong_local};
 use crate::fault::{Fault, FeedKind};
 use crate::said::own_path;
 use std::alloc::Global;
-use std::collections::BTreeSet;
+use std::collections::HashSet;
 use zi_digest::Algorithm;
 use zi_elements::Element;
 use zi_parts::{attribute_by, digest_by, importance_of, mode_of};
@@ -498,7 +498,8 @@ fn least_but_first(elements: &[&Element], kind: FeedKind) -> Option<Fault>
     found
 }
 
-/// The least fault of this kind at elements that have an attribute alike with an earlier one. Memory is the one refusal.
+/// The least fault of this kind at elements that have an attribute alike with an earlier one. Fewer than two aren't looked at.
+/// Memory is the one refusal.
 pub fn least_shared(
     alloc: Global,
     name: &str,
@@ -507,7 +508,10 @@ pub fn least_shared(
 ) -> Result<Option<Fault>, Memory>
     ensures { IfOk result (λ f. f ≡ least (map (λ r. fault_at r kind) (repeated (share name.now) (views elements.now)))) }
 {
-    let mut values: BTreeSet<&str> = BTreeSet::new(alloc);
+    if elements.len() < 2 {
+        return Ok(None);
+    }
+    let mut values: HashSet<&str> = HashSet::new(alloc);
     let mut found = None;
     for e in elements {
         if let Some(text) = attribute(e, name) {

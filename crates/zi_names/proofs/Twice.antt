@@ -1,5 +1,5 @@
 -- Items that are alike a later one, front by front.
-use Rattle.std.proofs.Common.{◌≡◌, Bool, true, false, cond, ◌||◌, not, List, [], ◌∷◌, ◌++◌, refl, ap, ◌∙◌}
+use Rattle.std.proofs.Common.{◌≡◌, ◌<◌, Bool, true, false, cond, ◌||◌, not, List, [], ◌∷◌, ◌++◌, length, refl, ap, ◌∙◌, arith}
 use Rattle.std.specs.List.{list_any}
 use Rattle.std.proofs.lemmas.List.Folds.{list_any-append}
 use Rattle.std.proofs.lemmas.Bool.{or_parts}
@@ -25,3 +25,9 @@ twice_found alike (y ∷ xs) x ys h =
     by_or (alike y x) (list_any (λ z. alike z x) xs) h
     (λ e. ap (λ v. v || has_twice alike (xs ++ x ∷ ys)) (any_among (alike y) xs x ys e))
     (λ e. ap (λ v. list_any (alike y) (xs ++ x ∷ ys) || v) (twice_found alike xs x ys e) ∙ or-true (list_any (alike y) (xs ++ x ∷ ys)))
+
+-- fewer than two
+pub few_once : {X : Type 0} (alike : X → X → Bool) (xs : List X) → length xs < 2 → false ≡ has_twice alike xs
+few_once alike [] few = refl
+few_once alike (x ∷ []) few = refl
+few_once alike (x ∷ y ∷ xs) few = absurd (omega (arith, few))

@@ -1,37 +1,32 @@
-//! The local names of a document, each held once.
+//! The names of a document, each held once.
 ghost use Rattle.std.specs.Prelude.{◌≡◌, IfOk};
 
 use std::alloc::Global;
-use std::collections::BTreeMap;
 use std::marker::Model;
 use zi_text::{Memory, Text};
 
-// So many names are held once; of more each use is a text of its own.
-const MOST: usize = 4_096;
+// So many names are held once, more than feeds have; of more each use is a text of its own.
+const MOST: usize = 64;
 
-// Local names that were read. Contracts see nothing of it, since what it gives is the text that is asked for.
+// Names that were read, the first of them first: a tag has few of the few that a document has, and those are found sooner
+// by looking at one behind the other than by their order. Contracts see nothing of it, since what it gives is the text that is
+// asked for.
 #[derive(Drop)]
 pub struct Known {
-    texts: BTreeMap<String, Text>,
+    texts: Vec<Text>,
 }
 
 impl Model for Known {
-    ghost use Rattle.std.specs.Prelude.{◌≡◌, List, ℕ, IfSome};
-    ghost use Rattle.std.specs.BTreeMap.{get_by_text};
-
     ghost Value = { Unit {0} };
 
     ghost view = { λ k. tt };
-
-    // each name stands under itself
-    ghost invariant = { λ k. (name : List ℕ) → IfSome (get_by_text k.texts name) (λ t. t ≡ name) };
 }
 
 impl Known {
     // None is known.
     pub fn new(alloc: Global) -> Known {
         Known {
-            texts: BTreeMap::new(alloc),
+            texts: Vec::new(alloc),
         }
     }
 
@@ -39,13 +34,14 @@ impl Known {
     pub fn text(&mut self, alloc: Global, name: &str) -> Result<Text, Memory>
         ensures { IfOk result (λ t. t ≡ name.now) }
     {
-        if let Some(text) = self.texts.get(name) {
-            return text.copy(alloc);
+        for text in &self.texts {
+            if text.len() == name.len() && text.as_str() == name {
+                return text.copy(alloc);
+            }
         }
         let text = Text::from_str(alloc, name)?;
         if self.texts.len() < MOST {
-            let key = String::from_str(alloc, name)?;
-            self.texts.insert(key, text.copy(alloc)?)?;
+            self.texts.push(text.copy(alloc)?)?;
         }
         Ok(text)
     }

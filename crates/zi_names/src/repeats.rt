@@ -15,10 +15,14 @@ fn is_prefixed(attribute: &Raw) -> bool
     has_colon(attribute.name.as_str()) && !is_declaration(attribute)
 }
 
-// Whether two attributes have one name as it is written.
+// Whether two attributes have one name as it is written. Fewer than two aren't looked at.
+#[tactic(auto, using(crate::proofs::Twice::few_once))]
 fn has_name_twice(alloc: Global, raw: &[Raw]) -> Result<bool, Memory>
     ensures { IfOk result (λ b. b ≡ has_twice same_name raw.now) }
 {
+    if raw.len() < 2 {
+        return Ok(false);
+    }
     let mut seen: BTreeSet<&str> = BTreeSet::new(alloc);
     for attribute in raw {
         if !seen.insert(attribute.name.as_str())? {

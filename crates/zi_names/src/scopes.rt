@@ -19,7 +19,7 @@ pub struct Scopes {
     scope: Scope,
     // How many bindings each open element declares, the outermost first.
     counts: Vec<usize>,
-    // The local names so far, each held once.
+    // The names so far, each held once.
     known: Known,
 }
 
@@ -48,19 +48,28 @@ impl Scopes {
 
     /// Takes a start tag, of this name as it is written and with these attributes. Memory is its one refusal.
     /// After anything but `Started` nothing is promised of the scopes.
-    pub fn enter(&mut self, alloc: Global, name: &Text, raw: List<Raw>) -> Result<Entered, Memory>
+    pub fn enter(&mut self, alloc: Global, name: &str, raw: List<Raw>) -> Result<Entered, Memory>
         ensures { IfOk result (λ e. Enters name.now raw self.old self.new e) }
     {
         let count = self.scope.declare(alloc, raw.as_slice())?;
         self.counts.push(count)?;
-        if has_bad_prefix(name.as_str(), raw.as_slice(), &self.scope) {
+        if has_bad_prefix(name, raw.as_slice(), &self.scope) {
             return Ok(Entered::BadPrefix);
         }
         if has_repeated(alloc, raw.as_slice(), &self.scope)? {
             return Ok(Entered::Repeated);
         }
-        let tag = started(alloc, name.as_str(), raw, &self.scope, &mut self.known)?;
+        let tag = started(alloc, name, raw, &self.scope, &mut self.known)?;
         Ok(Entered::Started(tag))
+    }
+
+    /// The text of a name. It shares the bytes of the first of that name, as long as not too many are held. Memory is its one
+    /// refusal.
+    pub fn text(&mut self, alloc: Global, name: &str) -> Result<Text, Memory>
+        ensures text { IfOk result (λ t. t ≡ name.now) }
+        ensures same { self.new ≡ self.old }
+    {
+        self.known.text(alloc, name)
     }
 
     /// Takes the end tag of the innermost element. Where none is open, nothing changes.

@@ -13,11 +13,11 @@ use zi_elements::Attr;
 use zi_text::{List, Memory, Text};
 
 /// Whether a name isn't qualified, or has a prefix that isn't declared (Namespaces in XML 1.0, 4 and 5).
-#[tactic(auto, unfolding(crate::specs::Names::is_bad_name))]
+#[tactic(auto, unfolding(crate::specs::Names::is_bad_name, crate::specs::Names::is_qualified))]
 fn is_bad_name(name: &str, scope: &Scope) -> bool
     ensures { result ≡ is_bad_name scope.now name.now }
 {
-    !is_qualified(name) || (has_colon(name) && scope.address(split(name).0).is_none())
+    has_colon(name) && (!is_qualified(name) || scope.address(split(name).0).is_none())
 }
 
 /// Whether an attribute has a bad name or declares what may not be declared.
@@ -56,7 +56,7 @@ fn resolved(alloc: Global, attribute: Raw, scope: &Scope, known: &mut Known) -> 
     if !has_colon(name.as_str()) {
         return Ok(Attr {
             space: Text::new(alloc),
-            name: known.text(alloc, name.as_str())?,
+            name,
             value,
         });
     }

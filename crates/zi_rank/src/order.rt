@@ -1,7 +1,7 @@
 ghost use Rattle.std.specs.Prelude.{◌≡◌, ◌↔◌, IsTrue, drop, true};
 ghost use Rattle.zi_rank.specs.Reasons.{runs_on};
 ghost use Rattle.zi_rank.specs.Rank.{in_turn, rank_cmp, Before};
-ghost use Rattle.zi_rank.specs.Ratings.{rated_components, rated_cmp, numbered_cmp};
+ghost use Rattle.zi_rank.specs.Ratings.{rated_components, rated_cmp, numbered_components, numbered_cmp};
 
 use crate::rating::Rating;
 use crate::reasons::at_hand;
@@ -53,6 +53,17 @@ fn compare_rated(q: &Rating, c: &Standing, r: &Rating, d: &Standing) -> Ordering
     languages.then(mark.then(there.then(levels.then(from_version(q, c, r, d)))))
 }
 
+// By the numbers of the versions, and then by what comes behind, which is looked at only where they are the same.
+fn from_number(q: &Rating, m: usize, c: &Standing, r: &Rating, n: usize, d: &Standing) -> Ordering
+    ensures { result ≡ in_turn (drop 4 numbered_components) (q.now, m, c.now) (r.now, n, d.now) }
+{
+    match n.cmp(&m) {
+        Ordering::Less => Ordering::Less,
+        Ordering::Equal => from_os(q, c, r, d),
+        Ordering::Greater => Ordering::Greater,
+    }
+}
+
 /// The order of two implementations by their ratings and by numbers in place of their versions, which stand before them.
 /// Under a policy whose ratings these are, and where the numbers stand to each other as the versions do, it is that of
 /// `compare`. It takes no memory, and looks into neither version.
@@ -71,9 +82,7 @@ pub fn compare_numbered(
     let mark = r.preferred.cmp(&q.preferred);
     let there = r.ready.cmp(&q.ready);
     let levels = r.level.cmp(&q.level);
-    let version = n.cmp(&m);
-    let rest = version.then(from_os(q, c, r, d));
-    languages.then(mark.then(there.then(levels.then(rest))))
+    languages.then(mark.then(there.then(levels.then(from_number(q, m, c, r, n, d)))))
 }
 
 /// The order of two implementations under a policy: `Less` where the first stands before the second, by the first of the

@@ -5,7 +5,7 @@ use Rattle.std.specs.Ordering.{is_lt}
 use Rattle.std.specs.List.{IsDistinct, AllByRecursion}
 use Rattle.std.proofs.lemmas.List.{get_or-map, length-map}
 use Rattle.std.proofs.lemmas.List.Elements.{All-nil, All-cons, All-head, All-tail}
-use Rattle.std.proofs.lemmas.List.Sorted.{ranks_by, sorted_far, IsPermutation-map, All-permutation}
+use Rattle.std.proofs.lemmas.List.Sorted.{ranks_by, sorted_far, IsPermutation-map, IsPermutation-refl, All-permutation}
 use Rattle.std.proofs.lemmas.Map.Keys.{IsDistinct-IsPermutation, IsDistinct-head, IsDistinct-tail, IsDistinct-cons, apart_from_distinct, IsDistinct-from_apart}
 use Rattle.std.proofs.lemmas.Bool.Decides.{nat_tests}
 use Rattle.std.proofs.lemmas.Bool.{both_ways}
@@ -251,3 +251,10 @@ module _ (req : Requirement) (p : Policy) (stored : Store) (interface : Uri) whe
       far_all : (ks : List (Uri × ℕ)) → AllByRecursion (IsFrom f.uri 0) ks → AllByRecursion (λ k. AllByRecursion (λ l. alike k l ≡ false) (map place_of (admitted req p stored interface fs))) ks
       far_all [] a = tt
       far_all (k ∷ ks) a = (weaker (λ l. listed l.0 (addresses fs) ≡ true) (λ l. alike k l ≡ false) (far_one k a.0.0) (map place_of (admitted req p stored interface fs)) (from_feeds fs), far_all ks a.1)
+
+-- of fewer than two, each stands before all behind it
+pub few_sorting : (p : Policy) (os : List Offered) → length os < 2 → IsSorting p (candidates_of os) (candidates_of os)
+few_sorting p os few = record {
+  same = IsPermutation-refl (candidates_of os);
+  ranked = λ placed i j d lt within. absurd (let e : length (candidates_of os) ≡ length os = length-map os (λ (o : Offered). o.candidate) in omega (arith, few, lt, within, e));
+}

@@ -15,6 +15,7 @@ use Rattle.zi_feed.specs.Shares.{NumbersFit, AreLevels, deps_at}
 use Rattle.zi_universe.specs.declared.types.Candidate.{Candidate}
 use Rattle.zi_universe.specs.declared.offers.Offered.{Offered}
 use Rattle.zi_universe.specs.declared.offers.Key.{Key}
+use Rattle.zi_universe.specs.declared.numbers.PlacedVersion.{PlacedVersion}
 use Rattle.zi_universe.specs.declared.ranking.PlacedCandidate.{PlacedCandidate}
 use Rattle.zi_universe.specs.declared.ranking.RatedCandidate.{RatedCandidate}
 use Rattle.zi_universe.specs.Naming.{Uris, joined}
@@ -84,6 +85,19 @@ pub record IsBehindLess (versions : List (List ℕ)) (v : List ℕ) (n : ℕ) : 
 pub record AreNumbersOf (versions : List (List ℕ)) (numbers : List ℕ) : Type 0 where
   pub count : length numbers ≡ length versions
   pub alike : (i j : ℕ) → (v w : List ℕ) → slice_get versions i ≡ Some v → slice_get versions j ≡ Some w → nat_cmp (get_or numbers i 0) (get_or numbers j 0) ≡ version_cmp v w
+
+-- Versions with their places.
+
+abbrev pub versions_of : List PlacedVersion → List (List ℕ)
+versions_of ps = map (λ p. p.version.now) ps
+
+-- each stands at its place
+abbrev pub AreAt : List (List ℕ) → List PlacedVersion → Type 0
+AreAt versions ps = All (λ p. slice_get versions p.place ≡ Some p.version.now) ps
+
+-- each of so many places is that of one
+abbrev pub HasPlaces : ℕ → List PlacedVersion → Type 0
+HasPlaces n ps = (k : ℕ) → k < n → (i : ℕ) × (p : PlacedVersion) × (slice_get ps i ≡ Some p) × (p.place ≡ k)
 
 -- Ratings.
 

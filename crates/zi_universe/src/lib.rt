@@ -21,8 +21,8 @@
 //! What many implementations share is looked at once for all of them: beside a feed its reader gives numbers of versions, of
 //! languages and of the groups that add dependencies, and those of one number have one value (`zi_feed`). Candidates carry
 //! these numbers until they are ranked and named (specs/Offering.antt): `ranking` orders the versions that have different
-//! numbers and then compares how many of them are less, and finds places of languages by their numbers; `naming` leaves out a
-//! group that it named before. Nothing of the numbers is in the universe, nor in what is promised of it.
+//! numbers and then compares how many of them are less (`numbers`), and finds places of languages by their numbers; `naming` leaves
+//! out a group that it named before. Nothing of the numbers is in the universe, nor in what is promised of it.
 //!
 //! proofs: LookupLemmas (what the maps of `wanted` find), KeyLemmas (what maps by numbers find), OfferingLemmas (candidates with
 //! their numbers), LevelLemmas (what was named once), NumberLemmas (numbers stand to each other as the versions do), LoadedLemmas
@@ -36,6 +36,7 @@ pub mod laws;
 mod limits;
 mod loading;
 mod naming;
+mod numbers;
 mod offers;
 mod ranking;
 mod reading;

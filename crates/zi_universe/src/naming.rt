@@ -236,6 +236,30 @@ fn add_command(alloc: Global, command: &Command, names: &mut IndexSet<Text>) -> 
     add_runner(alloc, &command.runner, names)
 }
 
+// Adds what the dependencies of a candidate ask for. Where it has none, nothing is looked up.
+fn add_needs(
+    alloc: Global,
+    feeds: &[Shared<Shares>],
+    one: &Offered,
+    named: &mut HashSet<Key>,
+    names: &mut IndexSet<Text>,
+) -> Result<(), Memory>
+    requires numbered { IsNumbered feeds.now one.now }
+    requires named { AreNamed feeds.now named.old.keys names.old.keys }
+    ensures names { OnOk result (names.new.keys ≡ joined names.old.keys (asked one.now.candidate.imp.deps)) }
+    ensures named { OnOk result (AreNamed feeds.now named.new.keys names.new.keys) }
+{
+    if one.candidate.imp.deps.is_empty() {
+        return Ok(());
+    }
+    let key = Key {
+        feed: one.feed,
+        number: one.numbers.level,
+    };
+    add_level(alloc, feeds, key, named, names)?;
+    Ok(())
+}
+
 // Adds what a candidate asks for: its dependencies, and then its commands.
 fn add_one(
     alloc: Global,
@@ -249,11 +273,7 @@ fn add_one(
     ensures names { OnOk result (names.new.keys ≡ joined names.old.keys (asked_by_impl one.now.candidate.imp)) }
     ensures named { OnOk result (AreNamed feeds.now named.new.keys names.new.keys) }
 {
-    let key = Key {
-        feed: one.feed,
-        number: one.numbers.level,
-    };
-    add_level(alloc, feeds, key, named, names)?;
+    add_needs(alloc, feeds, one, named, names)?;
     add_inherited_commands(alloc, &one.candidate.imp.commands, names)?;
     Ok(())
 }

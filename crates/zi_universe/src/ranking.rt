@@ -1,13 +1,12 @@
 //! Candidates in rank order. What a policy makes of each is computed once; the places of languages, and the number of a version
 //! among those of the interface, once for all candidates that share them.
-ghost use Rattle.std.specs.Prelude.{◌≡◌, ◌<◌, ℕ, List as Items, map, All, length, slice_get, Some, IfOk, IsPermutation, IsSortedBy};
-ghost use Rattle.std.specs.Ordering.{is_lt};
+ghost use Rattle.std.specs.Prelude.{◌≡◌, ◌<◌, ℕ, List as Items, map, All, length, slice_get, Some, IfOk};
 ghost use Rattle.zi_feed.specs.Shares.{Grows};
-ghost use Rattle.zi_version.specs.Value.{version_cmp};
 ghost use Rattle.zi_rank.specs.Ratings.{places_of};
 ghost use Rattle.zi_universe.specs.Stages.{IsSorting};
-ghost use Rattle.zi_universe.specs.Offering.{candidates_of, AreNumbered, version_at, langs_at, HasVersion, HasLangs, FindsVersions, FindsPlaces, ArePlacedIn, StandsAt, IsBehindLess, AreNumbersOf, rated_one};
+ghost use Rattle.zi_universe.specs.Offering.{candidates_of, AreNumbered, version_at, langs_at, HasVersion, HasLangs, FindsVersions, FindsPlaces, ArePlacedIn, StandsAt, rated_one};
 
+use crate::numbers::numbers_of;
 use crate::offers::{Key, Offered};
 use std::alloc::Global;
 use std::collections::HashMap;
@@ -117,49 +116,6 @@ fn place_all(
     Ok(Placing { versions, placed })
 }
 
-// The same versions once more.
-fn copies_of(alloc: Global, versions: &[Version]) -> Result<Vec<Version>, Memory>
-    ensures { IfOk result (λ vs. vs.items ≡ versions.now) }
-{
-    let mut copies = Vec::with_capacity(alloc, versions.len())?;
-    for version in versions {
-        copies.push(version.copy(alloc)?)?;
-    }
-    Ok(copies)
-}
-
-// The same versions in their order.
-fn sorted(alloc: Global, versions: &[Version]) -> Result<Vec<Version>, Memory>
-    ensures same { IfOk result (λ vs. IsPermutation versions.now vs.items) }
-    ensures sorted { IfOk result (λ vs. IsSortedBy (λ v w. is_lt (version_cmp v w)) vs.items) }
-{
-    let mut copies = copies_of(alloc, versions)?;
-    copies.sort_unstable_by(|v, w| v.cmp(w));
-    Ok(copies)
-}
-
-// How many of the versions, which are in order, are less than one.
-fn less_than(sorted: &[Version], version: &Version) -> usize
-    requires { IsSortedBy (λ v w. is_lt (version_cmp v w)) sorted.now }
-    ensures { IsBehindLess sorted.now version.now result }
-{
-    sorted.partition_point(|v| v.cmp(version).is_lt())
-}
-
-// How many of the versions are less than each of them.
-fn numbers_of(alloc: Global, versions: &[Version]) -> Result<Vec<usize>, Memory>
-    ensures { IfOk result (λ ns. AreNumbersOf versions.now ns.items) }
-{
-    let sorted = sorted(alloc, versions)?;
-    let order = sorted.as_slice();
-    let mut numbers = Vec::with_capacity(alloc, versions.len())?;
-    for version in versions {
-        let number = less_than(order, version);
-        numbers.push(number)?;
-    }
-    Ok(numbers)
-}
-
 // The languages that a feed has under a number.
 fn langs_at<'a>(feeds: &'a [Shared<Shares>], key: Key) -> &'a List<Text>
     requires { HasLangs feeds.now key }
@@ -171,7 +127,7 @@ fn langs_at<'a>(feeds: &'a [Shared<Shares>], key: Key) -> &'a List<Text>
 }
 
 // The places of languages, which are computed where they aren't known yet.
-fn places_of(
+fn places_once(
     feeds: &[Shared<Shares>],
     key: Key,
     policy: &Policy,
@@ -189,6 +145,26 @@ fn places_of(
     let places = Places::of(langs.as_slice(), policy);
     known.insert(key, places)?;
     Ok(places)
+}
+
+// The places of languages. Where there is none, nothing is looked up.
+fn places_of(
+    feeds: &[Shared<Shares>],
+    key: Key,
+    policy: &Policy,
+    known: &mut HashMap<Key, Places>,
+) -> Result<Places, Memory>
+    requires there { HasLangs feeds.now key }
+    requires finds { FindsPlaces policy.now feeds.now known.old.entries }
+    ensures finds { IfOk result (λ _. FindsPlaces policy.now feeds.now known.new.entries) }
+    ensures at { IfOk result (λ x. (ls : Items (Items ℕ)) → langs_at feeds.now key ≡ Some ls → x ≡ places_of policy.now ls) }
+{
+    let langs = langs_at(feeds, key);
+    if langs.is_empty() {
+        let places = Places::of(langs.as_slice(), policy);
+        return Ok(places);
+    }
+    places_once(feeds, key, policy, known)
 }
 
 // Candidates with their ratings, where these are the numbers of the versions.
@@ -235,7 +211,8 @@ fn unrated(alloc: Global, rated: Vec<RatedCandidate>) -> Result<Vec<Offered>, Me
     Ok(offered)
 }
 
-/// Candidates in rank order. Memory is the one refusal.
+/// Candidates in rank order; of fewer than two nothing is computed. Memory is the one refusal.
+#[tactic(auto, using(crate::proofs::RankedLemmas::few_sorting))]
 pub fn rank(
     alloc: Global,
     feeds: &[Shared<Shares>],
@@ -246,6 +223,9 @@ pub fn rank(
     ensures sorting { IfOk result (λ os. IsSorting policy.now (candidates_of offered.items) (candidates_of os.items)) }
     ensures numbered { IfOk result (λ os. AreNumbered feeds.now os.items) }
 {
+    if offered.len() < 2 {
+        return Ok(offered);
+    }
     ranks_are_strict();
     let placing = place_all(alloc, feeds, offered)?;
     let Placing { versions, placed } = placing;

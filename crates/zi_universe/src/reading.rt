@@ -92,11 +92,13 @@ pub fn fetch<F: Feeds>(
     ensures asks { MatchResult result (λ _. AreAsked (uri.now ∷ []) (F.seen feeds.old) (F.seen feeds.new)) (λ e. StopsAt uri.now (F.seen feeds.old) e (F.seen feeds.new)) }
 {
     let named = uri.copy(alloc)?;
-    let none = no_shares(alloc)?;
     let mut bytes = Vec::new(alloc);
     match feeds.get(uri.as_str(), FEED_LIMIT, &mut bytes) {
         Ok(Got::Held) => read_bytes(alloc, policy, named, bytes.as_slice()),
-        Ok(Got::Absent) => absent(alloc, root, named, none),
+        Ok(Got::Absent) => {
+            let none = no_shares(alloc)?;
+            absent(alloc, root, named, none)
+        }
         Ok(Got::TooLong) => {
             let limit = FEED_LIMIT;
             Err(LoadFault::FeedTooLong { uri: named, limit })

@@ -12,8 +12,7 @@ returns-then-branch c =
     c.in_ok-count.ensures.scope ∙ (ap (λ ws. scope_in ws c.self.inside.scope) c.as_slice.ensures ∙ ap (scope_in c.args.raw) (sym inner)) in (
       ap (has_bad_prefix c.args.name.now c.args.raw) (sym inside)
           ∙ (ap (λ ws. has_bad_prefix c.args.name.now ws c.declare.new.self) (sym c.as_slice-2.ensures)
-          ∙ (ap (λ n. has_bad_prefix n c.as_slice-2.result.now c.declare.new.self) (sym c.as_str.ensures)
-          ∙ (sym c.has_bad_prefix.ensures ∙ c.if-has_bad_prefix.false))),
+          ∙ (sym c.has_bad_prefix.ensures ∙ c.if-has_bad_prefix.false)),
       ap (has_repeated c.args.raw) (sym inside)
           ∙ (ap (λ ws. has_repeated ws c.declare.new.self) (sym c.as_slice-3.ensures) ∙ (sym c.in_ok-has_repeated.ensures ∙ c.if-branch.true)),
     )
@@ -32,10 +31,8 @@ returns c =
           ∙ ap (λ ss. scope_in c.args.raw (innermost c.args.self.now) ∷ ss) c.self.view_is);
       prefixes = ap (has_bad_prefix c.args.name.now c.args.raw) (sym inside)
           ∙ (ap (λ ws. has_bad_prefix c.args.name.now ws c.declare.new.self) (sym c.as_slice-2.ensures)
-          ∙ (ap (λ n. has_bad_prefix n c.as_slice-2.result.now c.declare.new.self) (sym c.as_str.ensures)
-          ∙ (sym c.has_bad_prefix.ensures ∙ c.if-has_bad_prefix.false)));
+          ∙ (sym c.has_bad_prefix.ensures ∙ c.if-has_bad_prefix.false));
       distinct = ap (has_repeated c.args.raw) (sym inside)
           ∙ (ap (λ ws. has_repeated ws c.declare.new.self) (sym c.as_slice-3.ensures) ∙ (sym c.in_ok-has_repeated.ensures ∙ c.if-branch.false));
-      resolved = subst (λ s. Resolves c.args.name.now c.args.raw s c.in_ok-tag.tag) inside
-          (subst (λ n. Resolves n c.args.raw c.declare.new.self c.in_ok-tag.tag) c.as_str-2.ensures c.in_ok-tag.ensures);
+      resolved = subst (λ s. Resolves c.args.name.now c.args.raw s c.in_ok-tag.tag) inside c.in_ok-tag.ensures;
     }

@@ -1,6 +1,6 @@
 use Rattle.std.proofs.Common.{◌≡◌, ◌++◌, ap, sym, ◌∙◌, encode_utf8}
 use Rattle.zi_doc.proofs.TextLemmas.{encodes_take}
-use Rattle.zi_doc.proofs.texts.text_of.Goals as goal
+use Rattle.zi_doc.proofs.texts.letters_of.Goals as goal
 
 pub loop-c-preserved : goal.loop-c-preserved
 loop-c-preserved c =

@@ -1,0 +1,79 @@
+//! The numbers of versions, which stand to each other as the versions do: how many of them are less than each.
+ghost use Rattle.std.specs.Prelude.{◌≡◌, ◌<◌, ◌-◌, length, slice_get, Some, IfOk, IsPermutation, IsSortedBy};
+ghost use Rattle.std.specs.Ordering.{is_lt};
+ghost use Rattle.zi_version.specs.Value.{version_cmp};
+ghost use Rattle.zi_universe.specs.Offering.{IsBehindLess, AreNumbersOf, versions_of, AreAt, HasPlaces};
+ghost use Rattle.zi_universe.specs.declared.numbers.PlacedVersion.{PlacedVersion as APlacedVersion};
+
+use std::alloc::Global;
+use zi_text::Memory;
+use zi_version::Version;
+
+/// A version with its place.
+#[derive(Drop)]
+pub struct PlacedVersion<'v> {
+    /// The place.
+    pub place: usize,
+    /// The version.
+    pub version: &'v Version,
+}
+
+// The versions with their places.
+fn with_places<'v>(alloc: Global, versions: &'v [Version]) -> Result<Vec<PlacedVersion<'v>>, Memory>
+    ensures at { IfOk result (λ ps. AreAt versions.now ps.items) }
+    ensures same { IfOk result (λ ps. versions_of ps.items ≡ versions.now) }
+    ensures places { IfOk result (λ ps. HasPlaces (length versions.now) ps.items) }
+{
+    let mut placed = Vec::with_capacity(alloc, versions.len())?;
+    for place in 0..versions.len() {
+        let version = &versions[place];
+        placed.push(PlacedVersion { place, version })?;
+    }
+    Ok(placed)
+}
+
+// The versions in their order, with their places.
+fn in_order<'v>(alloc: Global, versions: &'v [Version]) -> Result<Vec<PlacedVersion<'v>>, Memory>
+    ensures at { IfOk result (λ ps. AreAt versions.now ps.items) }
+    ensures same { IfOk result (λ ps. IsPermutation versions.now (versions_of ps.items)) }
+    ensures places { IfOk result (λ ps. HasPlaces (length versions.now) ps.items) }
+    ensures sorted { IfOk result (λ ps. IsSortedBy (λ p q. is_lt (version_cmp p.version.now q.version.now)) ps.items) }
+{
+    let mut placed = with_places(alloc, versions)?;
+    placed.sort_unstable_by(|p, q| p.version.cmp(q.version));
+    Ok(placed)
+}
+
+// How many versions are less than the one at a place of their order, where so many are less than the one before it.
+fn number_at(order: &[PlacedVersion], at: usize, before: usize) -> usize
+    requires sorted { IsSortedBy (λ p q. is_lt (version_cmp p.version.now q.version.now)) order.now }
+    requires within { at < length order.now }
+    requires before { (p : APlacedVersion) → 0 < at → slice_get order.now (at - 1) ≡ Some p → IsBehindLess (versions_of order.now) p.version.now before }
+    ensures { (p : APlacedVersion) → slice_get order.now at ≡ Some p → IsBehindLess (versions_of order.now) p.version.now result }
+{
+    if at == 0 {
+        return 0;
+    }
+    let last = &order[at - 1];
+    let next = &order[at];
+    if last.version.cmp(next.version).is_lt() {
+        at
+    } else {
+        before
+    }
+}
+
+// How many of the versions are less than each of them.
+pub fn numbers_of(alloc: Global, versions: &[Version]) -> Result<Vec<usize>, Memory>
+    ensures { IfOk result (λ ns. AreNumbersOf versions.now ns.items) }
+{
+    let order = in_order(alloc, versions)?;
+    let order = order.as_slice();
+    let mut numbers = Vec::from_elem(alloc, 0, versions.len())?;
+    let mut number = 0;
+    for at in 0..order.len() {
+        number = number_at(order, at, number);
+        numbers[order[at].place] = number;
+    }
+    Ok(numbers)
+}
