@@ -56,7 +56,7 @@ impl<'a, R: Files + AllocGlobal> FolderFeeds<'a, R> {
         match fs::metadata(self.rt, path.as_str()) {
             Ok(found) if found.is_file() => {
                 let mut file = fs::open(self.rt, path.as_str())?;
-                read_up_to(self.rt.alloc(), &mut file, limit)
+                read_up_to(self.rt.alloc(), &mut file, found.len(), limit)
             }
             Ok(_) => Err(Trouble::Failed(Reason::IsNot("a file"))),
             Err(error) if error.kind() == ErrorKind::NotFound => Ok(Found::Absent),

@@ -19,8 +19,14 @@ pub enum Found {
     TooLong,
 }
 
-/// All that a reader gives, where that is within the limit. At most one piece past the limit is read.
-pub fn read_up_to<R: Read>(alloc: Global, reader: &mut R, limit: u64) -> Result<Found, Trouble>
+/// All that a file gives, where that is within the limit. At most one piece past the limit is read. A piece that isn't full is the
+/// last of a file where as much was read as the file was said to hold, so that its end isn't asked for once more.
+pub fn read_up_to<R: Read>(
+    alloc: Global,
+    reader: &mut R,
+    length: u64,
+    limit: u64,
+) -> Result<Found, Trouble>
     ensures { IfOk result (FitsIn limit) }
 {
     let mut bytes = Vec::new(alloc);
@@ -33,6 +39,9 @@ pub fn read_up_to<R: Read>(alloc: Global, reader: &mut R, limit: u64) -> Result<
                     return Ok(Found::TooLong);
                 }
                 bytes.extend_from_slice(&piece[..count])?;
+                if count < PIECE && bytes.len() as u64 >= length {
+                    return Ok(Found::Bytes(bytes));
+                }
             }
             Err(error) => {
                 if error.kind() != io::ErrorKind::Interrupted {

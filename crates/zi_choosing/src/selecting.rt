@@ -16,6 +16,7 @@ use crate::chosen::Chosen;
 use crate::formula::without_formula;
 use crate::wanted::into_job;
 use std::alloc::Global;
+use std::mem;
 use zi_choice::Choice;
 use zi_digest::DigestName;
 use zi_docout::WriteFault;
@@ -182,7 +183,12 @@ fn select_over<F: Feeds, O: Sink>(
     };
     what_is_chosen_can_be_written();
     match load(alloc, &job.req, &job.policy, stored, feeds) {
-        Ok(universe) => choose(alloc, &job.req, &universe, budget, proof, out),
+        Ok(universe) => {
+            let outcome = choose(alloc, &job.req, &universe, budget, proof, out);
+            // The program ends behind this, and to take all apart would take a tenth of its time.
+            mem::forget(universe);
+            outcome
+        }
         Err(fault) => refused(fault),
     }
 }

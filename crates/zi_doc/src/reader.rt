@@ -103,20 +103,6 @@ impl Reader {
             Mode::Closing => self.closing(alloc, at, c),
         }
     }
-
-    // The same. Most characters stand in values and names, so those are looked at first.
-    fn turn(&mut self, alloc: Global, at: u64, c: char) -> Result<(), DocFault>
-        requires sound { IsSound self.old }
-        requires room { at < 2 ^ 63 }
-        ensures { Takes (doing_in self.old.mode self.old) self.old at c result self.new }
-    {
-        match self.mode {
-            Mode::Valuing => self.valuing(alloc, at, c),
-            Mode::AttrNaming => self.attr_naming(at, c),
-            Mode::Naming => self.naming(alloc, at, c),
-            _ => self.step(alloc, at, c),
-        }
-    }
 }
 
 impl Reader {
@@ -173,7 +159,7 @@ fn read_text(alloc: Global, text: &str) -> Result<Element, DocFault>
     let mut at = 0;
     let mut rest = text.chars();
     while let Some(c) = rest.next() {
-        match reader.turn(alloc, at, c) {
+        match reader.step(alloc, at, c) {
             Ok(()) => {}
             Err(e) => return Err(e),
         }

@@ -3,7 +3,7 @@ ghost use Rattle.zi_xml.specs.Chars.{width};
 ghost use Rattle.zi_xml.specs.Meaning.{tick, fresh, line_end, value_end, flush, framed, judged, adopt as adopts};
 ghost use Rattle.zi_xml.specs.Machine.{state, common, to, declared_end, has, top_name, inside as in_element, scope_of, emptied, after_word as words_after, markup as marks, enter as enters, leave as leaves, leave_name as leaves_name, refer as refers, closed as closes_in, front_step as steps_front, bang_word as bangs, back_to, declare as declares};
 ghost use Rattle.zi_doc.specs.View.{IsKept, BareOwner, later, level, outer, stack, tag, spot, host, doing_in, owner_in, word_in};
-ghost use Rattle.std.specs.Prelude.{slice_get, IfSome, drop, length, reverse, List};
+ghost use Rattle.std.specs.Prelude.{slice_get, IfOk, IfSome, drop, length, reverse, List};
 ghost use Rattle.zi_names.specs.declared.attributes.Binding.{Binding};
 ghost use Rattle.zi_doc.specs.View.{scopes_of, stacked, frame_of};
 ghost use Rattle.zi_elements.specs.declared.element.Node.TheVariants.{Child};
@@ -18,7 +18,7 @@ use std::alloc::Global;
 use std::mem;
 use zi_elements::{Element, Node};
 use zi_names::{Entered, Raw, Started};
-use zi_text::{List, Memory};
+use zi_text::{List, Memory, Text};
 
 const NEAR: Option<char> = Some('\u{FFFD}');
 
@@ -32,10 +32,35 @@ fn settle(alloc: Global, before: &mut List<Node>, letters: &mut Letters) -> Resu
     ensures none { OnOk result (letters.new ≡ []) }
 {
     if !letters.is_empty() {
-        let words = letters.take(alloc)?;
+        let words = match again(alloc, before, letters.as_str())? {
+            Some(words) => {
+                letters.clear();
+                words
+            }
+            None => letters.take(alloc)?,
+        };
         before.push(Node::Words(words))?;
     }
     Ok(())
+}
+
+// The text before the last child, where it is this one: white space between elements is mostly alike.
+fn again(alloc: Global, before: &List<Node>, letters: &str) -> Result<Option<Text>, Memory>
+    ensures { IfOk result (λ found. IfSome found (λ text. text ≡ letters.now)) }
+{
+    if before.len() < 2 {
+        return Ok(None);
+    }
+    match before.at(before.len() - 2) {
+        Node::Words(words) => {
+            if words.as_str() == letters {
+                Ok(Some(words.copy(alloc)?))
+            } else {
+                Ok(None)
+            }
+        }
+        Node::Child(_) => Ok(None),
+    }
 }
 
 impl Reader {
@@ -342,12 +367,14 @@ impl Reader {
     }
 }
 
-// The same list, which takes no more room than its items.
+// The same list, which takes less than twice the room of its items.
 fn fitted<T>(list: List<T>) -> List<T>
     ensures { result ≡ list }
 {
     let mut items = list.into_vec();
-    items.shrink_to_fit();
+    if items.len() <= items.capacity() / 2 {
+        items.shrink_to_fit();
+    }
     List::from_vec(items)
 }
 

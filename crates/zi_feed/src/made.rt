@@ -17,7 +17,7 @@ use zi_faults::{Carried, says_version, version_text};
 use zi_inherited::Shared;
 use zi_parts::{copied, copied_arch};
 use zi_policy::Arch;
-use zi_reading::{Ways, has, lent, version_of, words_in};
+use zi_reading::{Ways, has, lent, version_in, words_in};
 use zi_text::{List, Memory, Text};
 use zi_version::Version;
 
@@ -70,7 +70,7 @@ fn version_along(alloc: Global, said: &Carried) -> Result<Option<Version>, Memor
     ensures { IfOk result (λ v. v ≡ option_and_then a_version (version_text (said_by said.now))) }
 {
     match version_text(alloc, said)? {
-        Some(text) => version_of(alloc, text.as_str()),
+        Some(text) => version_in(alloc, &text),
         None => Ok(None),
     }
 }

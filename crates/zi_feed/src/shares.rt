@@ -113,7 +113,8 @@ impl Shares {
         };
         let mut levels = List::new(alloc);
         levels.push(outermost)?;
-        let of = List::new(alloc);
+        let room = Vec::with_capacity(alloc, 1)?;
+        let of = List::from_vec(room);
         Ok(Shares {
             versions,
             langs,

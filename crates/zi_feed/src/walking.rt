@@ -174,7 +174,8 @@ pub fn found_in<'a>(
 {
     let around = around_nothing(alloc, Ways::InFeed(uri))?;
     let shares = Shares::nothing(alloc)?;
-    let impls = List::new(alloc);
+    let room = Vec::with_capacity(alloc, 1)?;
+    let impls = List::from_vec(room);
     let gathered = Gathered { impls, shares };
     let seen = Vec::new(alloc);
     let mut found = Found { seen, gathered };

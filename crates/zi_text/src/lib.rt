@@ -8,6 +8,7 @@
 #![tactic(auto)]
 
 mod bytes;
+mod held;
 mod list;
 mod memory;
 mod numerals;

@@ -1,6 +1,7 @@
 ghost use Rattle.std.specs.Prelude.{◌≡◌, ℕ, [], ◌∷◌, ◌++◌, ◌<◌, ◌↔◌, IsTrue, length, slice_index, encode_utf8, IfOk, OnOk, OnErr};
 
 use crate::Memory;
+use crate::held::Held;
 use std::alloc::Global;
 use std::cmp::Ordering;
 use std::hash::{Hash, Hasher};
@@ -12,7 +13,7 @@ use std::rc::Rc;
 #[derive(Debug)]
 pub struct Text {
     alloc: Global,
-    held: Option<Rc<String>>,
+    held: Option<Rc<Held>>,
 }
 
 impl Drop for Text {
@@ -22,13 +23,14 @@ impl Drop for Text {
 }
 
 impl Model for Text {
-    ghost use Rattle.std.specs.Prelude.{List, ℕ, [], string_bytes, unwrap_or};
+    ghost use Rattle.std.specs.Prelude.{List, ℕ, [], unwrap_or};
     ghost use Rattle.std.specs.Option.{option_map};
     ghost use Rattle.std.specs.Rc.{rc_value};
+    ghost use Rattle.zi_text.specs.Held.{held_bytes};
 
     ghost Value = { List ℕ };
 
-    ghost view = { λ t. unwrap_or (option_map (λ r. string_bytes (rc_value r)) t.held) [] };
+    ghost view = { λ t. unwrap_or (option_map (λ r. held_bytes (rc_value r)) t.held) [] };
 }
 
 impl Text {
@@ -67,10 +69,10 @@ impl Text {
         ensures err { OnErr result (self.new ≡ self.old) }
     {
         match &mut self.held {
-            Some(held) => Rc::make_mut(held)?.push(c)?,
+            Some(held) => Rc::make_mut(held)?.push(self.alloc, c)?,
             None => {
-                let mut text = String::new(self.alloc);
-                text.push(c)?;
+                let mut text = Held::from_str(self.alloc, "")?;
+                text.push(self.alloc, c)?;
                 self.held = Some(Rc::new(self.alloc, text)?);
             }
         }
@@ -83,7 +85,7 @@ impl Text {
         ensures err { OnErr result (self.new ≡ self.old) }
     {
         match &mut self.held {
-            Some(held) => Rc::make_mut(held)?.push_str(s)?,
+            Some(held) => Rc::make_mut(held)?.push_str(self.alloc, s)?,
             None => *self = Text::from_str(self.alloc, s)?,
         }
         Ok(())
@@ -93,7 +95,7 @@ impl Text {
     pub fn from_str(alloc: Global, s: &str) -> Result<Text, Memory>
         ensures { IfOk result (λ t. t ≡ s.now) }
     {
-        let text = String::from_str(alloc, s)?;
+        let text = Held::from_str(alloc, s)?;
         let held = Rc::new(alloc, text)?;
         Ok(Text {
             alloc,
@@ -106,7 +108,7 @@ impl Text {
         ensures { result.now ≡ self.now }
     {
         match &self.held {
-            Some(held) => held.as_str(),
+            Some(held) => held.as_ref().as_str(),
             None => "",
         }
     }

@@ -38,13 +38,30 @@ impl Model for Version {
 
 impl Version {
     /// The version that a text is.
-    #[tactic(auto, using(crate::proofs::Steps::packed_is_version))]
     pub fn parse(alloc: Global, text: &str) -> Result<Version, VersionFault>
         ensures { MatchResult result (λ v. (v ≡ text.now) × IsVersion text.now) (FaultMeans text.now) }
     {
-        let words = Shared::new(alloc, read(alloc, text.as_bytes())?)?;
         let text = Text::from_str(alloc, text)?;
+        Version::of_text(alloc, &text)
+    }
+
+    /// The version that a text is, which shares the text.
+    #[tactic(auto, using(crate::proofs::Steps::packed_is_version))]
+    pub fn of_text(alloc: Global, text: &Text) -> Result<Version, VersionFault>
+        ensures { MatchResult result (λ v. (v ≡ text.now) × IsVersion text.now) (FaultMeans text.now) }
+    {
+        let words = Shared::new(alloc, read(alloc, text.as_str().as_bytes())?)?;
+        let text = text.copy(alloc)?;
         Ok(Version { text, words })
+    }
+
+    /// Whether a text is a version: its fault, where it is none.
+    #[tactic(auto, using(crate::proofs::Steps::packed_is_version))]
+    pub fn check(alloc: Global, text: &str) -> Result<(), VersionFault>
+        ensures { MatchResult result (λ _. IsVersion text.now) (FaultMeans text.now) }
+    {
+        let _words = read(alloc, text.as_bytes())?;
+        Ok(())
     }
 
     /// The order of the values.

@@ -10,8 +10,8 @@ returns-in_default g c = record {
   feeds = feeds_same (g.F.Feeds.seen c.args.feeds.now);
 }
 
-pub choose-requires-clause-written : goal.choose-requires-clause-written
-choose-requires-clause-written g c =
+pub choose-outcome-requires-clause-written : goal.choose-outcome-requires-clause-written
+choose-outcome-requires-clause-written g c =
     all_written (g.F.Feeds.seen c.args.feeds.now) (g.F.Feeds.seen c.load.new.feeds) c.in-Ok.job.req c.in-Ok.job.policy c.args.stored.now c.in-Ok-load.universe
     c.what_is_chosen_can_be_written.ensures c.in-Ok.ensures.root c.in-Ok-load.ensures.loads
 
@@ -21,10 +21,10 @@ returns-in-Ok-load g c =
     let mid = g.F.Feeds.seen c.load.new.feeds in
     record {
       over =
-          selected c.args.ask c.args.proof c.args.stored.now c.in-Ok.job.req c.args.ask.search (record { feeds = old; out = g.O.Sink.seen c.args.out.now }) (record { feeds = mid; out = g.O.Sink.seen c.choose.new.out })
-          c.in-Ok-load.universe c.choose.result c.in-Ok.ensures.req refl
+          selected c.args.ask c.args.proof c.args.stored.now c.in-Ok.job.req c.args.ask.search (record { feeds = old; out = g.O.Sink.seen c.args.out.now }) (record { feeds = mid; out = g.O.Sink.seen c.choose-outcome.new.out })
+          c.in-Ok-load.universe c.choose-outcome.result c.in-Ok.ensures.req refl
           (loaded_as c.args.stored.now c.args.ask c.in-Ok.job.req c.in-Ok.job.policy old mid c.in-Ok-load.universe c.in-Ok.ensures.req c.in-Ok.ensures.policy c.in-Ok-load.ensures.loads)
-          c.choose.ensures;
+          c.choose-outcome.ensures;
       feeds = asks_stay _ old mid c.in-Ok-load.ensures.loads.asked.asks;
     }
 

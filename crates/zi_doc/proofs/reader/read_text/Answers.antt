@@ -20,7 +20,7 @@ returns-in-Err c =
     let split = chars_past_char (chars_rest c.loop-c.rest) (chars_rest c.next.new.self) c.in-Some.c c.loop-c.invariant.utf8 c.in-Some.ensures.steps.0 in
     let told = ap (answer (state_of r c.loop-c.at)) (sym split) ∙ c.loop-c.invariant.told in
     let P : Answer → Type 0 = λ a. Finished a (Err c.in-Err.e) in
-    subst P told (failed_finished _ c.in-Err.e (turn_off r c.turn.new.self c.loop-c.at c.in-Some.c (chars (chars_rest c.next.new.self)) c.in-Err.e c.in-Err.ensures))
+    subst P told (failed_finished _ c.in-Err.e (turn_off r c.step.new.self c.loop-c.at c.in-Some.c (chars (chars_rest c.next.new.self)) c.in-Err.e c.in-Err.ensures))
 
 pub loop-c-preserved : goal.loop-c-preserved
 loop-c-preserved c =
@@ -28,13 +28,13 @@ loop-c-preserved c =
     let cs = chars (chars_rest c.next.new.self) in
     let split = chars_past_char (chars_rest c.loop-c.rest) (chars_rest c.next.new.self) c.in-Some.c c.loop-c.invariant.utf8 c.in-Some.ensures.steps.0 in
     let told = ap (answer (state_of r c.loop-c.at)) (sym split) ∙ c.loop-c.invariant.told in
-    let turn = turn_on r c.turn.new.self c.loop-c.at c.in-Some.c cs c.in-Ok.ensures in
+    let turn = turn_on r c.step.new.self c.loop-c.at c.in-Some.c cs c.in-Ok.ensures in
     let far : c.loop-c.at + c.len_utf8.result ≡ c.loop-c.at + width c.in-Some.c = omega (arith, c.len_utf8.ensures.value, length-encode c.in-Some.c) in
     record {
       can = c.loop-c.invariant.can;
       ends = c.loop-c.invariant.ends;
       utf8 = IsUtf8-past_char _ _ c.in-Some.c c.loop-c.invariant.utf8 c.in-Some.ensures.steps.0;
-      told = ap (λ n. answer (state_of c.turn.new.self n) cs) far ∙ (sym turn.0 ∙ told);
+      told = ap (λ n. answer (state_of c.step.new.self n) cs) far ∙ (sym turn.0 ∙ told);
       room = omega (arith, c.loop-c.invariant.room, ap length c.in-Some.ensures.steps.0, length-append (encode_utf8 c.in-Some.c) (chars_rest c.next.new.self), length-encode c.in-Some.c, c.len_utf8.ensures.value);
       sound = turn.1;
     }

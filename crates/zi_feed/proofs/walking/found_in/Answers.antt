@@ -20,7 +20,7 @@ gather-requires-clause-made c = c.in_ok-around.ensures.made ∙ ap (made_of (InF
 pub gather-requires-clause-shared : goal.gather-requires-clause-shared
 gather-requires-clause-shared c =
     let P : List Impl → Type 0 = λ q. AreShared c.in_ok-shares.shares q in
-    subst P (sym c.new-impls.ensures) c.in_ok-shares.ensures.none
+    subst P (sym (c.from_vec-impls.ensures ∙ c.in_ok-room.ensures.items)) c.in_ok-shares.ensures.none
 
 pub gather-requires-clause-fit : goal.gather-requires-clause-fit
 gather-requires-clause-fit c =
@@ -47,5 +47,5 @@ returns-clause-shares c = c.in_ok-gather.ensures.shares.right
 
 pub returns-clause-impls : goal.returns-clause-impls
 returns-clause-impls c =
-    impls_are (element_view c.args.root.now) _ _ c.new-impls.result _ (said_by c.in_ok-around.around.said) _
-    c.new-impls.ensures c.in_ok-around.ensures.said c.in_ok-around.ensures.added c.in_ok-gather.ensures.impls
+    impls_are (element_view c.args.root.now) _ _ c.from_vec-impls.result _ (said_by c.in_ok-around.around.said) _
+    (c.from_vec-impls.ensures ∙ c.in_ok-room.ensures.items) c.in_ok-around.ensures.said c.in_ok-around.ensures.added c.in_ok-gather.ensures.impls
