@@ -1,22 +1,18 @@
 -- What feeds have under their numbers, and what maps by these find.
-use Rattle.std.proofs.Common.{◌≡◌, ℕ, zero, suc, ◌<◌, Bool, true, false, cond, ◌&&◌, eqb, List, [], ◌∷◌, ◌++◌, length, map, get_or, Option, Some, None, All, refl, sym, ap, subst, ◌∙◌, arith}
+use Rattle.std.proofs.Common.{◌≡◌, ℕ, zero, suc, ◌<◌, Bool, true, false, cond, ◌&&◌, eqb, List, [], ◌∷◌, ◌++◌, length, map, get_or, Option, Some, None, All, Bor, refl, sym, ap, subst, ◌∙◌, arith}
 use Rattle.std.specs.Prelude.{slice_get, option_and_then}
+use Rattle.std.specs.Ordering.{nat_cmp}
 use Rattle.std.proofs.lemmas.Option.{slice_get_within, slice_get-get_or}
-use Rattle.std.proofs.lemmas.List.Elements.{All-head, All-tail, All-nil, All-cons, All-push, All-weaker}
-use Rattle.std.proofs.lemmas.List.{map-append}
+use Rattle.std.proofs.lemmas.List.Elements.{All-head, All-tail, All-nil, All-cons}
+use Rattle.std.proofs.lemmas.List.{length-map, map-append}
 use Rattle.std.proofs.lemmas.Bool.{and_parts, eqb-true}
-use Rattle.zi_policy.specs.declared.types.Policy.{Policy}
-use Rattle.zi_rank.specs.declared.rating.Rating.{Rating}
-use Rattle.zi_rank.specs.Ratings.{rating_of}
 use Rattle.zi_parts.specs.declared.types.Dep.{Dep}
 use Rattle.zi_feed.specs.declared.shares.Shares.{Shares}
 use Rattle.zi_feed.specs.Shares.{Grows, deps_at}
 use Rattle.zi_feed.proofs.ShareLaws.{at_grown, at_new, grows_by}
 use Rattle.zi_universe.specs.declared.offers.Offered.{Offered}
 use Rattle.zi_universe.specs.declared.offers.Key.{Key}
-use Rattle.zi_universe.specs.declared.ranking.PlacedCandidate.{PlacedCandidate}
-use Rattle.zi_universe.specs.declared.ranking.RatedCandidate.{RatedCandidate}
-use Rattle.zi_universe.specs.Offering.{IsNumbered, version_at, langs_at, deps_of, HasLevel, found_at, StandsAt, FindsVersions, IsPlacedIn, ArePlacedIn, rated_one}
+use Rattle.zi_universe.specs.Offering.{IsNumbered, version_at, langs_at, deps_of, HasLevel, found_at, StandsAt, FindsVersions, texts_of, versions_in, ArePlacedIn, AreNumbersOf}
 
 -- Keys that are alike are one.
 
@@ -99,14 +95,51 @@ versions_more feeds k old new vs ws v n at grown place u h =
     (finds_more (λ q m. StandsAt feeds q ws m) k n old new u stands (λ q m e. stands_grown feeds q vs ws m (grows_by vs ws v grown) (h q m e)), stands)
 
 -- Candidates with places.
-placed_grown : (vs ws : List (List ℕ)) → Grows vs ws → (cs : List PlacedCandidate) → ArePlacedIn vs cs → ArePlacedIn ws cs
-placed_grown vs ws g cs h = All-weaker (IsPlacedIn vs) (IsPlacedIn ws) (λ c e. at_grown vs ws c.place c.one.candidate.standing.version g e) cs h
+pub places_more : (vs ws : List (List ℕ)) → Grows vs ws → (os : List Offered) (ns : List ℕ) (o : Offered) (n : ℕ) → slice_get ws n ≡ Some o.candidate.standing.version → ArePlacedIn vs os ns → ArePlacedIn ws (os ++ o ∷ []) (ns ++ n ∷ [])
+places_more vs ws g [] [] o n here h = (here, tt)
+places_more vs ws g [] (m ∷ ns) o n here h = absurd h
+places_more vs ws g (q ∷ os) [] o n here h = absurd h
+places_more vs ws g (q ∷ os) (m ∷ ns) o n here h = (at_grown vs ws m q.candidate.standing.version g h.0, places_more vs ws g os ns o n here h.1)
 
-pub placed_more : (vs ws : List (List ℕ)) → Grows vs ws → (cs ds : List PlacedCandidate) (c : PlacedCandidate) → ds ≡ cs ++ c ∷ [] → ArePlacedIn vs cs → IsPlacedIn ws c → ArePlacedIn ws ds
-placed_more vs ws g cs ds c e h here = subst (λ q. ArePlacedIn ws q) (sym e) (All-push (IsPlacedIn ws) cs c (placed_grown vs ws g cs h) here)
+-- there are as many places as candidates
+places_count : (vs : List (List ℕ)) (os : List Offered) (ns : List ℕ) → ArePlacedIn vs os ns → length ns ≡ length os
+places_count vs [] [] h = refl
+places_count vs [] (n ∷ ns) h = absurd h
+places_count vs (o ∷ os) [] h = absurd h
+places_count vs (o ∷ os) (n ∷ ns) h = ap suc (places_count vs os ns h.1)
 
-pub none_placed : (vs : List (List ℕ)) (cs : List PlacedCandidate) → cs ≡ [] → ArePlacedIn vs cs
-none_placed vs cs e = subst (λ q. ArePlacedIn vs q) (sym e) (All-nil (IsPlacedIn vs))
+-- the places of all are within the numbers
+pub all_within : (vs : List (List ℕ)) (ns : List ℕ) (os : List Offered) (places : List ℕ) → length ns ≡ length vs → ArePlacedIn vs os places → All (λ n. n < length ns) places
+all_within vs ns [] [] same h = All-nil (λ n. n < length ns)
+all_within vs ns [] (n ∷ places) same h = absurd h
+all_within vs ns (o ∷ os) [] same h = absurd h
+all_within vs ns (o ∷ os) (n ∷ places) same h =
+    All-cons (λ m. m < length ns) n places (let w : n < length vs = slice_get_within vs n o.candidate.standing.version h.0 in omega (arith, w, same)) (all_within vs ns os places same h.1)
+
+-- the place of a candidate, with the number there
+at_place : (vs : List (List ℕ)) (ns : List ℕ) (os : List Offered) (places : List ℕ) → ArePlacedIn vs os places → (i : ℕ) (v : List ℕ) → slice_get (versions_in os) i ≡ Some v
+    → (n : ℕ) × (slice_get vs n ≡ Some v) × (get_or (map (λ k. get_or ns k 0) places) i 0 ≡ get_or ns n 0)
+at_place vs ns [] [] h i v e = cc
+at_place vs ns [] (n ∷ places) h i v e = absurd h
+at_place vs ns (o ∷ os) [] h i v e = absurd h
+at_place vs ns (o ∷ os) (n ∷ places) h zero v e = (n, h.0 ∙ e, refl)
+at_place vs ns (o ∷ os) (n ∷ places) h (suc i) v e = at_place vs ns os places h.1 i v e
+
+-- the numbers at the places of candidates are those of their versions
+pub numbers_placed : (vs : List (List ℕ)) (ns : List ℕ) (os : List Offered) (places ms : List ℕ) → AreNumbersOf vs ns → ArePlacedIn vs os places → ms ≡ map (λ k. get_or ns k 0) places → AreNumbersOf (versions_in os) ms
+numbers_placed vs ns os places ms numbers h is =
+    let P : List ℕ → Type 0 = λ q. AreNumbersOf (versions_in os) q in
+    subst P (sym is) (record {
+      count = length-map places (λ k. get_or ns k 0) ∙ places_count vs os places h ∙ sym (length-map os (λ (o : Offered). o.candidate.standing.version));
+      alike = λ i j v w e f.
+          let a = at_place vs ns os places h i v e in
+          let b = at_place vs ns os places h j w f in
+          ap (λ q. nat_cmp q (get_or (map (λ k. get_or ns k 0) places) j 0)) a.2 ∙ ap (λ q. nat_cmp (get_or ns a.0 0) q) b.2 ∙ numbers.alike a.0 b.0 v w a.1 b.1;
+    })
+
+-- one more that is lent
+pub texts_more : (vs ws : List (Bor (List ℕ))) (b : Bor (List ℕ)) → ws ≡ vs ++ b ∷ [] → texts_of ws ≡ texts_of vs ++ b.now ∷ []
+texts_more vs ws b e = ap texts_of e ∙ map-append (λ (v : Bor (List ℕ)). v.now) vs (b ∷ [])
 
 -- What holds of mapped items.
 pub All-into : {X Y : Type 0} (f : X → Y) (P : Y → Type 0) (xs : List X) → All P (map f xs) → All (λ x. P (f x)) xs
@@ -121,24 +154,6 @@ All-out f P (x ∷ xs) h = All-cons P (f x) (map f xs) (All-head (λ y. P (f y))
 pub All-turn : {X : Type 0} (P : X → Type 0) (xs : List X) (k : ℕ) (x : X) → All P xs → (k < length xs) × (x ≡ get_or xs k x) → P x
 All-turn P xs k x h t = subst P (sym t.1) (h k x t.0)
 
--- the places of all are within the numbers
-pub all_within : (vs : List (List ℕ)) (ns : List ℕ) (cs : List PlacedCandidate) → length ns ≡ length vs → ArePlacedIn vs cs → All (λ c. c.place < length ns) cs
-all_within vs ns cs same h =
-    All-weaker (IsPlacedIn vs) (λ c. c.place < length ns) (λ c e. let w : c.place < length vs = slice_get_within vs c.place c.one.candidate.standing.version e in omega (arith, w, same)) cs h
-
 -- the element at an index, where it is lent
 pub at_index : {X : Type 0} (xs : List X) (n : ℕ) (x y : X) → n < length xs → x ≡ get_or xs n x → y ≡ x → slice_get xs n ≡ Some y
 at_index xs n x y lt is same = slice_get-get_or xs n x lt ∙ ap (λ q. Some q) (sym is ∙ sym same)
-
--- Candidates with their places, one by one.
-pub ones_more : (cs ds : List PlacedCandidate) (c : PlacedCandidate) (os : List Offered) → ds ≡ cs ++ c ∷ [] → map (λ (q : PlacedCandidate). q.one) cs ≡ os → map (λ (q : PlacedCandidate). q.one) ds ≡ os ++ c.one ∷ []
-ones_more cs ds c os e h = ap (map (λ (q : PlacedCandidate). q.one)) e ∙ map-append (λ (q : PlacedCandidate). q.one) cs (c ∷ []) ∙ ap (λ q. q ++ c.one ∷ []) h
-
--- a candidate that was rated
-pub rated_more : (p : Policy) (ns : List ℕ) (cs : List PlacedCandidate) (c : PlacedCandidate) (rs ss : List RatedCandidate) (r : RatedCandidate) → ss ≡ rs ++ r ∷ [] → r ≡ rated_one p ns c
-    → rs ≡ map (rated_one p ns) cs → ss ≡ map (rated_one p ns) (cs ++ c ∷ [])
-rated_more p ns cs c rs ss r e is h = e ∙ ap (λ q. q ++ r ∷ []) h ∙ ap (λ q. map (rated_one p ns) cs ++ q ∷ []) is ∙ sym (map-append (rated_one p ns) cs (c ∷ []))
-
-pub one_rated : (p : Policy) (ns : List ℕ) (c : PlacedCandidate) (rating : Rating) → rating ≡ rating_of p c.one.candidate.standing
-    → ◌≡◌ {A = RatedCandidate} (record { rating = rating; number = get_or ns c.place 0; one = c.one }) (rated_one p ns c)
-one_rated p ns c rating e = ap (λ q. record { rating = q; number = get_or ns c.place 0; one = c.one }) e

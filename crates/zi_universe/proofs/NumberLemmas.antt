@@ -1,5 +1,5 @@
 -- How many of some versions are less than one: these numbers stand to each other as the versions do.
-use Rattle.std.proofs.Common.{◌≡◌, ◌≢◌, ℕ, zero, suc, ◌+◌, ◌<◌, ◌≤◌, ◌∷◌, ◌++◌, take, ◌⊎◌, inl, inr, below_more, Bool, true, false, List, [], length, get_or, Contains, Some, refl, sym, ap, subst, ◌∙◌, arith}
+use Rattle.std.proofs.Common.{◌≡◌, ◌≢◌, ℕ, zero, suc, ◌+◌, ◌<◌, ◌≤◌, ◌∷◌, ◌++◌, take, ◌⊎◌, inl, inr, below_more, Bool, true, false, List, [], length, get_or, Contains, Some, Bor, refl, sym, ap, subst, ◌∙◌, arith}
 use Rattle.std.specs.Prelude.{slice_get, slice_set, unwrap_or, map, option_map, ◌-◌, IsPermutation, IsSortedBy}
 use Rattle.std.specs.Ordering.{nat_cmp, is_lt, ordering_reverse}
 use Rattle.std.specs.Cmp.{IsTotalOrder, on_total, tied_itself, alike_right}
@@ -8,14 +8,14 @@ use Rattle.std.specs.declared.cmp.Ordering.{Ordering}
 use Rattle.std.specs.declared.cmp.Ordering.TheVariants.{Less, Equal, Greater}
 use Rattle.std.proofs.lemmas.Option.{slice_get_within, get_or_from_slice_get, slice_get-get_or, slice_get-map, same_Some}
 use Rattle.std.proofs.lemmas.List.Sorted.{ranks_by, sorted_far, Contains-permutation}
-use Rattle.std.proofs.lemmas.List.{get_or_append_left, get_or_push, get_or-set_other, length-append, length-map, length-take-le, map-append, take_more}
+use Rattle.std.proofs.lemmas.List.{get_or-map, get_or_append_left, get_or_push, get_or-set_other, length-append, length-map, length-take-le, map-append, take_more}
 use Rattle.std.proofs.lemmas.List.Elements.{All-push}
 use Rattle.std.proofs.lemmas.Grind.{get_or-set_at}
 use Rattle.std.proofs.lemmas.Cmp.{ranked}
 use Rattle.std.proofs.lemmas.Bool.{both_ways}
 use Rattle.zi_version.specs.Value.{value, version_cmp}
 use Rattle.zi_universe.specs.declared.numbers.PlacedVersion.{PlacedVersion}
-use Rattle.zi_universe.specs.Offering.{IsBehindLess, AreNumbersOf, versions_of, AreAt, HasPlaces}
+use Rattle.zi_universe.specs.Offering.{IsBehindLess, AreNumbersOf, versions_of, texts_of, AreAt, HasPlaces}
 use Rattle.zi_text.proofs.ListLaws.{is_less}
 
 pub version_total : IsTotalOrder version_cmp
@@ -171,6 +171,10 @@ newest : {X : Type 0} (ps : List X) (q : X) (i : ℕ) → length ps ≡ i → sl
 newest ps q i h =
     let more : i < length (ps ++ q ∷ []) = (let a = length-append ps (q ∷ []) in omega (arith, h, a)) in
     slice_get-get_or (ps ++ q ∷ []) i q more ∙ ap Some (get_or_push ps q q i h)
+
+-- what is lent at a place
+pub lent_at : (vs : List (Bor (List ℕ))) (i : ℕ) (b : Bor (List ℕ)) → i < length vs → b ≡ get_or vs i b → b.now ≡ get_or (texts_of vs) i b.now
+lent_at vs i b lt is = ap (λ (q : Bor (List ℕ)). q.now) is ∙ sym (get_or-map (λ (v : Bor (List ℕ)). v.now) vs i b b.now lt)
 
 -- those of the first places, which stand in their order
 pub record AreFirst (vs : List (List ℕ)) (ps : List PlacedVersion) (i : ℕ) : Type 0 where

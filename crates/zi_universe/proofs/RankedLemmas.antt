@@ -1,10 +1,12 @@
 -- Sorted candidates that stand at different places each stand before all behind them.
-use Rattle.std.proofs.Common.{◌≡◌, ◌≢◌, ◌⊎◌, inl, inr, ℕ, zero, suc, ◌+◌, ◌<◌, ◌≤◌, Bool, true, false, ◌&&◌, ◌||◌, eqb, cond, List, [], ◌∷◌, ◌++◌, map, filter, length, get_or, All, bytes_eq, refl, sym, ap, subst, ◌∙◌, arith}
+use Rattle.std.proofs.Common.{◌≡◌, ◌≢◌, ◌⊎◌, inl, inr, ℕ, zero, suc, ◌+◌, ◌<◌, ◌≤◌, Bool, true, false, ◌&&◌, ◌||◌, eqb, cond, List, [], ◌∷◌, ◌++◌, map, filter, length, get_or, take, All, bytes_eq, refl, sym, ap, subst, ◌∙◌, arith}
 use Rattle.std.specs.Prelude.{IsPermutation, IsSortedBy, slice_get, Some}
 use Rattle.std.specs.Ordering.{is_lt}
 use Rattle.std.specs.List.{IsDistinct, AllByRecursion}
-use Rattle.std.proofs.lemmas.List.{get_or-map, length-map}
-use Rattle.std.proofs.lemmas.List.Elements.{All-nil, All-cons, All-head, All-tail}
+use Rattle.std.specs.Option.{option_map}
+use Rattle.std.proofs.lemmas.Option.{slice_get-map, slice_get-get_or}
+use Rattle.std.proofs.lemmas.List.{get_or-map, length-append, length-map, take_more}
+use Rattle.std.proofs.lemmas.List.Elements.{All-push}
 use Rattle.std.proofs.lemmas.List.Sorted.{ranks_by, sorted_far, IsPermutation-map, IsPermutation-refl, All-permutation}
 use Rattle.std.proofs.lemmas.Map.Keys.{IsDistinct-IsPermutation, IsDistinct-head, IsDistinct-tail, IsDistinct-cons, apart_from_distinct, IsDistinct-from_apart}
 use Rattle.std.proofs.lemmas.Bool.Decides.{nat_tests}
@@ -23,14 +25,13 @@ use Rattle.zi_feed.specs.declared.feed.Feed.{Feed}
 use Rattle.zi_parts.specs.declared.types.Impl.{Impl}
 use Rattle.zi_universe.specs.declared.types.Candidate.{Candidate}
 use Rattle.zi_universe.specs.declared.offers.Offered.{Offered}
-use Rattle.zi_universe.specs.declared.ranking.PlacedCandidate.{PlacedCandidate}
 use Rattle.zi_universe.specs.declared.ranking.RatedCandidate.{RatedCandidate}
 use Rattle.zi_universe.specs.declared.types.Requirement.{Requirement}
 use Rattle.zi_universe.specs.Naming.{Uri, Uris, AreApart}
 use Rattle.zi_universe.specs.Candidates.{Store, standing_of, candidate_of, offered_from, is_admitted, admitted_by, admitted, AreRanked}
 use Rattle.zi_universe.specs.Tables.{addresses}
 use Rattle.zi_universe.specs.Stages.{place_of, alike, ArePlaced, IsSorting}
-use Rattle.zi_universe.specs.Offering.{candidates_of, IsNumbered, AreNumbered, IsPlacedIn, ArePlacedIn, AreNumbersOf, rated_one}
+use Rattle.zi_universe.specs.Offering.{candidates_of, IsNumbered, AreNumbered, versions_in, AreNumbersOf, HaveRatings}
 use Rattle.zi_universe.proofs.KeyLemmas.{All-into, All-out}
 use Rattle.zi_universe.proofs.NamingLemmas.{bytes_eq-true, bytes_eq-refl, bytes_eq-false, listed-cons, listed-Contains, map-append}
 
@@ -88,12 +89,41 @@ record IsRated (p : Policy) (vs : List (List ℕ)) (ns : List ℕ) (r : RatedCan
   version : slice_get vs place ≡ Some r.one.candidate.standing.version
   number : r.number ≡ get_or ns place 0
 
-all_rated : (p : Policy) (vs : List (List ℕ)) (ns : List ℕ) (cs : List PlacedCandidate) → ArePlacedIn vs cs → All (IsRated p vs ns) (map (rated_one p ns) cs)
-all_rated p vs ns [] h = All-nil (IsRated p vs ns)
-all_rated p vs ns (c ∷ cs) h =
-    All-cons (IsRated p vs ns) (rated_one p ns c) (map (rated_one p ns) cs)
-    (record { rating = refl; place = c.place; version = All-head (IsPlacedIn vs) c cs h; number = refl })
-    (all_rated p vs ns cs (All-tail (IsPlacedIn vs) c cs h))
+-- rated are so many of them, of which these are the numbers
+pub record AreRated (p : Policy) (os : List Offered) (ns : List ℕ) (rs : List RatedCandidate) : Type 0 where
+  pub same : map (λ (r : RatedCandidate). r.one) rs ≡ os
+  pub numbers : map (λ (r : RatedCandidate). r.number) rs ≡ take (length os) ns
+  pub ratings : HaveRatings p rs
+
+pub none_rated : (p : Policy) (ns : List ℕ) (rs : List RatedCandidate) → rs ≡ [] → AreRated p [] ns rs
+none_rated p ns rs e =
+    let P : List RatedCandidate → Type 0 = λ q. AreRated p [] ns q in
+    subst P (sym e) (record { same = refl; numbers = refl; ratings = λ k d lt. absurd (omega (arith, lt)) })
+
+pub one_rated : (p : Policy) (os : List Offered) (ns : List ℕ) (rs ss : List RatedCandidate) (r : RatedCandidate) → ss ≡ rs ++ r ∷ [] → length os < length ns
+    → r.rating ≡ rating_of p r.one.candidate.standing → r.number ≡ get_or ns (length os) 0 → AreRated p os ns rs → AreRated p (os ++ r.one ∷ []) ns ss
+one_rated p os ns rs ss r e within rating number h =
+    let P : List RatedCandidate → Type 0 = λ q. AreRated p (os ++ r.one ∷ []) ns q in
+    subst P (sym e) (record {
+      same = map-append (λ (q : RatedCandidate). q.one) rs (r ∷ []) ∙ ap (λ q. q ++ r.one ∷ []) h.same;
+      numbers = map-append (λ (q : RatedCandidate). q.number) rs (r ∷ []) ∙ (ap (λ q. q ++ r.number ∷ []) h.numbers ∙ (ap (λ q. take (length os) ns ++ q ∷ []) number
+          ∙ (sym (take_more ns (length os) 0 within) ∙ ap (λ q. take q ns) (let a = length-append os (r.one ∷ []) in omega (arith, a)))));
+      ratings = All-push (λ (q : RatedCandidate). q.rating ≡ rating_of p q.one.candidate.standing) rs r h.ratings rating;
+    })
+
+versions_back : (rs : List RatedCandidate) → versions_in (map (λ (r : RatedCandidate). r.one) rs) ≡ map (λ (r : RatedCandidate). r.one.candidate.standing.version) rs
+versions_back [] = refl
+versions_back (r ∷ rs) = ap (λ q. r.one.candidate.standing.version ∷ q) (versions_back rs)
+
+all_rated : (p : Policy) (os : List Offered) (ns : List ℕ) (rs : List RatedCandidate) → map (λ (r : RatedCandidate). r.one) rs ≡ os → map (λ (r : RatedCandidate). r.number) rs ≡ ns → HaveRatings p rs → All (IsRated p (versions_in os) ns) rs
+all_rated p os ns rs ones numbers ratings = λ k d lt.
+    let version_of : RatedCandidate → List ℕ = λ r. r.one.candidate.standing.version in
+    record {
+      rating = ratings k d lt;
+      place = k;
+      version = ap (λ q. slice_get q k) (ap versions_in (sym ones) ∙ versions_back rs) ∙ (slice_get-map version_of rs k ∙ ap (option_map version_of) (slice_get-get_or rs k d lt));
+      number = sym (ap (λ q. get_or q k 0) (sym numbers) ∙ get_or-map (λ (r : RatedCandidate). r.number) rs k d 0 lt);
+    }
 
 abbrev of_rated : RatedCandidate → Numbered
 of_rated r = (r.rating, r.number, r.one.candidate.standing)
@@ -127,36 +157,27 @@ rated_up p vs ns numbers rs rated up k d low high =
     ∙ ap is_lt (sym (rated_pair p vs ns numbers x y (rated (k + 1) e in_list) (rated k e (omega (arith, in_list)))))
     ∙ up k e low in_list
 
-unrated_back : (p : Policy) (ns : List ℕ) (cs : List PlacedCandidate) → map candidate_in (map (rated_one p ns) cs) ≡ candidates_of (map (λ (c : PlacedCandidate). c.one) cs)
-unrated_back p ns [] = refl
-unrated_back p ns (c ∷ cs) = ap (λ q. c.one.candidate ∷ q) (unrated_back p ns cs)
-
 unrated_all : (rs : List RatedCandidate) → candidates_of (map (λ (r : RatedCandidate). r.one) rs) ≡ map candidate_in rs
 unrated_all [] = refl
 unrated_all (r ∷ rs) = ap (λ q. r.one.candidate ∷ q) (unrated_all rs)
 
-rated_all : (p : Policy) (ns : List ℕ) (cs : List PlacedCandidate) → map (λ (r : RatedCandidate). r.one) (map (rated_one p ns) cs) ≡ map (λ (c : PlacedCandidate). c.one) cs
-rated_all p ns [] = refl
-rated_all p ns (c ∷ cs) = ap (λ q. c.one ∷ q) (rated_all p ns cs)
-
 -- candidates that were rated, and sorted by that
-module _ (p : Policy) (vs : List (List ℕ)) (ns : List ℕ) (os : List Offered) (cs : List PlacedCandidate) (rs ss : List RatedCandidate) (ts : List Offered)
-    (ones : map (λ (c : PlacedCandidate). c.one) cs ≡ os) (rates : rs ≡ map (rated_one p ns) cs) (same : IsPermutation rs ss) (back : ts ≡ map (λ (r : RatedCandidate). r.one) ss) where
-  pub rated_sorting : RanksAreStrict → AreNumbersOf vs ns → ArePlacedIn vs cs → IsSortedBy (λ x y. is_lt (numbered_cmp (of_rated x) (of_rated y))) ss
+module _ (p : Policy) (os : List Offered) (ns : List ℕ) (rs ss : List RatedCandidate) (ts : List Offered)
+    (ones : map (λ (r : RatedCandidate). r.one) rs ≡ os) (same : IsPermutation rs ss) (back : ts ≡ map (λ (r : RatedCandidate). r.one) ss) where
+  pub rated_sorting : RanksAreStrict → AreNumbersOf (versions_in os) ns → map (λ (r : RatedCandidate). r.number) rs ≡ ns → HaveRatings p rs → IsSortedBy (λ x y. is_lt (numbered_cmp (of_rated x) (of_rated y))) ss
       → IsSorting p (candidates_of os) (candidates_of ts)
-  rated_sorting strict numbers placed up =
+  rated_sorting strict numbers numbered ratings up =
       let P : List Candidate → Type 0 = λ q. IsPermutation q (map candidate_in ss) in
-      let rated : All (IsRated p vs ns) ss = All-permutation (IsRated p vs ns) rs ss same (subst (All (IsRated p vs ns)) (sym rates) (all_rated p vs ns cs placed)) in
-      let moved : IsPermutation (candidates_of os) (map candidate_in ss) =
-      subst P (ap (map candidate_in) rates ∙ unrated_back p ns cs ∙ ap candidates_of ones) (IsPermutation-map candidate_in rs ss same) in
+      let rated : All (IsRated p (versions_in os) ns) ss = All-permutation (IsRated p (versions_in os) ns) rs ss same (all_rated p os ns rs ones numbered ratings) in
+      let moved : IsPermutation (candidates_of os) (map candidate_in ss) = subst P (sym (unrated_all rs) ∙ ap candidates_of ones) (IsPermutation-map candidate_in rs ss same) in
       let end : candidates_of ts ≡ map candidate_in ss = ap candidates_of back ∙ unrated_all ss in
-      subst (IsSorting p (candidates_of os)) (sym end) (sorting strict p (candidates_of os) (map candidate_in ss) moved (rated_up p vs ns numbers ss rated up))
+      subst (IsSorting p (candidates_of os)) (sym end) (sorting strict p (candidates_of os) (map candidate_in ss) moved (rated_up p (versions_in os) ns numbers ss rated up))
 
   pub rated_numbered : (feeds : List Shares) → AreNumbered feeds os → AreNumbered feeds ts
   rated_numbered feeds h =
       let one : RatedCandidate → Offered = λ r. r.one in
       let Q : Offered → Type 0 = λ o. IsNumbered feeds o in
-      let all : All Q (map one rs) = subst (All Q) (sym (ap (map one) rates ∙ rated_all p ns cs ∙ ones)) h in
+      let all : All Q (map one rs) = subst (All Q) (sym ones) h in
       subst (All Q) (sym back) (All-out one Q ss (All-permutation (λ r. Q (one r)) rs ss same (All-into one Q rs all)))
 
 -- Those of feeds of different addresses stand at different places.

@@ -1,7 +1,8 @@
 -- What the candidates of an interface share, by numbers: each has the place of its feed among those of the interface, and its
 -- numbers there.
 use Rattle.std.specs.Prelude.{◌≡◌, ℕ, ◌<◌, ◌≤◌, ◌==◌, ◌&&◌, Bool, true, false, if◌then◌else◌, List, map, length, get_or, slice_get, All, Option, Some, None, option_and_then}
-use Rattle.std.specs.List.{list_any}
+use Rattle.std.specs.List.{list_any, AllZip}
+use Rattle.std.proofs.Common.{Bor}
 use Rattle.std.specs.Map.{lookup}
 use Rattle.std.specs.Ordering.{nat_cmp, is_lt}
 use Rattle.zi_version.specs.Value.{version_cmp}
@@ -16,7 +17,6 @@ use Rattle.zi_universe.specs.declared.types.Candidate.{Candidate}
 use Rattle.zi_universe.specs.declared.offers.Offered.{Offered}
 use Rattle.zi_universe.specs.declared.offers.Key.{Key}
 use Rattle.zi_universe.specs.declared.numbers.PlacedVersion.{PlacedVersion}
-use Rattle.zi_universe.specs.declared.ranking.PlacedCandidate.{PlacedCandidate}
 use Rattle.zi_universe.specs.declared.ranking.RatedCandidate.{RatedCandidate}
 use Rattle.zi_universe.specs.Naming.{Uris, joined}
 use Rattle.zi_universe.specs.Candidates.{asked}
@@ -49,9 +49,6 @@ langs_at feeds k = option_and_then (λ s. slice_get s.langs k.number) (slice_get
 abbrev pub deps_of : List Shares → Key → Option (List Dep)
 deps_of feeds k = option_and_then (λ s. deps_at s.levels k.number) (slice_get feeds k.feed)
 
-abbrev pub HasVersion : List Shares → Key → Type 0
-HasVersion feeds k = (v : List ℕ) × (version_at feeds k ≡ Some (Some v))
-
 abbrev pub HasLangs : List Shares → Key → Type 0
 HasLangs feeds k = (ls : List (List ℕ)) × (langs_at feeds k ≡ Some ls)
 
@@ -69,11 +66,17 @@ StandsAt feeds k versions n = (v : List ℕ) → version_at feeds k ≡ Some (So
 abbrev pub FindsVersions : List Shares → List (Key × ℕ) → List (List ℕ) → Type 0
 FindsVersions feeds known versions = (k : Key) → (n : ℕ) → found_at k known ≡ Some n → StandsAt feeds k versions n
 
-abbrev pub IsPlacedIn : List (List ℕ) → PlacedCandidate → Type 0
-IsPlacedIn versions c = slice_get versions c.place ≡ Some c.one.candidate.standing.version
+-- the versions of candidates
+abbrev pub versions_in : List Offered → List (List ℕ)
+versions_in os = map (λ o. o.candidate.standing.version) os
 
-abbrev pub ArePlacedIn : List (List ℕ) → List PlacedCandidate → Type 0
-ArePlacedIn versions cs = All (IsPlacedIn versions) cs
+-- the versions that are lent
+abbrev pub texts_of : List (Bor (List ℕ)) → List (List ℕ)
+texts_of vs = map (λ v. v.now) vs
+
+-- at the place of each candidate stands its version
+abbrev pub ArePlacedIn : List (List ℕ) → List Offered → List ℕ → Type 0
+ArePlacedIn versions os places = AllZip (λ o n. slice_get versions n ≡ Some o.candidate.standing.version) os places
 
 -- those before a place are less than a version, and those from it on aren't
 pub record IsBehindLess (versions : List (List ℕ)) (v : List ℕ) (n : ℕ) : Type 0 where
@@ -105,9 +108,9 @@ HasPlaces n ps = (k : ℕ) → k < n → (i : ℕ) × (p : PlacedVersion) × (sl
 abbrev pub FindsPlaces : Policy → List Shares → List (Key × Places) → Type 0
 FindsPlaces p feeds known = (k : Key) → (x : Places) → found_at k known ≡ Some x → (ls : List (List ℕ)) → langs_at feeds k ≡ Some ls → x ≡ places_of p ls
 
--- a candidate with its rating and the number of its version
-abbrev pub rated_one : Policy → List ℕ → PlacedCandidate → RatedCandidate
-rated_one p numbers c = record { rating = rating_of p c.one.candidate.standing; number = get_or numbers c.place 0; one = c.one }
+-- each candidate has its rating
+abbrev pub HaveRatings : Policy → List RatedCandidate → Type 0
+HaveRatings p rs = All (λ r. r.rating ≡ rating_of p r.one.candidate.standing) rs
 
 -- Naming.
 

@@ -2,7 +2,7 @@
 ghost use Rattle.std.specs.Prelude.{◌≡◌, ◌<◌, ◌-◌, length, slice_get, Some, IfOk, IsPermutation, IsSortedBy};
 ghost use Rattle.std.specs.Ordering.{is_lt};
 ghost use Rattle.zi_version.specs.Value.{version_cmp};
-ghost use Rattle.zi_universe.specs.Offering.{IsBehindLess, AreNumbersOf, versions_of, AreAt, HasPlaces};
+ghost use Rattle.zi_universe.specs.Offering.{IsBehindLess, AreNumbersOf, versions_of, texts_of, AreAt, HasPlaces};
 ghost use Rattle.zi_universe.specs.declared.numbers.PlacedVersion.{PlacedVersion as APlacedVersion};
 
 use std::alloc::Global;
@@ -19,24 +19,27 @@ pub struct PlacedVersion<'v> {
 }
 
 // The versions with their places.
-fn with_places<'v>(alloc: Global, versions: &'v [Version]) -> Result<Vec<PlacedVersion<'v>>, Memory>
-    ensures at { IfOk result (λ ps. AreAt versions.now ps.items) }
-    ensures same { IfOk result (λ ps. versions_of ps.items ≡ versions.now) }
-    ensures places { IfOk result (λ ps. HasPlaces (length versions.now) ps.items) }
+fn with_places<'v>(
+    alloc: Global,
+    versions: &[&'v Version],
+) -> Result<Vec<PlacedVersion<'v>>, Memory>
+    ensures at { IfOk result (λ ps. AreAt (texts_of versions.now) ps.items) }
+    ensures same { IfOk result (λ ps. versions_of ps.items ≡ texts_of versions.now) }
+    ensures places { IfOk result (λ ps. HasPlaces (length (texts_of versions.now)) ps.items) }
 {
     let mut placed = Vec::with_capacity(alloc, versions.len())?;
     for place in 0..versions.len() {
-        let version = &versions[place];
+        let version = versions[place];
         placed.push(PlacedVersion { place, version })?;
     }
     Ok(placed)
 }
 
 // The versions in their order, with their places.
-fn in_order<'v>(alloc: Global, versions: &'v [Version]) -> Result<Vec<PlacedVersion<'v>>, Memory>
-    ensures at { IfOk result (λ ps. AreAt versions.now ps.items) }
-    ensures same { IfOk result (λ ps. IsPermutation versions.now (versions_of ps.items)) }
-    ensures places { IfOk result (λ ps. HasPlaces (length versions.now) ps.items) }
+fn in_order<'v>(alloc: Global, versions: &[&'v Version]) -> Result<Vec<PlacedVersion<'v>>, Memory>
+    ensures at { IfOk result (λ ps. AreAt (texts_of versions.now) ps.items) }
+    ensures same { IfOk result (λ ps. IsPermutation (texts_of versions.now) (versions_of ps.items)) }
+    ensures places { IfOk result (λ ps. HasPlaces (length (texts_of versions.now)) ps.items) }
     ensures sorted { IfOk result (λ ps. IsSortedBy (λ p q. is_lt (version_cmp p.version.now q.version.now)) ps.items) }
 {
     let mut placed = with_places(alloc, versions)?;
@@ -64,8 +67,8 @@ fn number_at(order: &[PlacedVersion], at: usize, before: usize) -> usize
 }
 
 // How many of the versions are less than each of them.
-pub fn numbers_of(alloc: Global, versions: &[Version]) -> Result<Vec<usize>, Memory>
-    ensures { IfOk result (λ ns. AreNumbersOf versions.now ns.items) }
+pub fn numbers_of(alloc: Global, versions: &[&Version]) -> Result<Vec<usize>, Memory>
+    ensures { IfOk result (λ ns. AreNumbersOf (texts_of versions.now) ns.items) }
 {
     let order = in_order(alloc, versions)?;
     let order = order.as_slice();

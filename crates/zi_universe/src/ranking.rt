@@ -1,10 +1,11 @@
 //! Candidates in rank order. What a policy makes of each is computed once; the places of languages, and the number of a version
 //! among those of the interface, once for all candidates that share them.
-ghost use Rattle.std.specs.Prelude.{◌≡◌, ◌<◌, ℕ, List as Items, map, All, length, slice_get, Some, IfOk};
+ghost use Rattle.std.specs.Prelude.{◌≡◌, ◌<◌, ℕ, List as Items, map, All, length, get_or, slice_get, Some, IfOk};
+ghost use Rattle.zi_feed.specs.declared.shares.Shares.{Shares as SharedThings};
 ghost use Rattle.zi_feed.specs.Shares.{Grows};
 ghost use Rattle.zi_rank.specs.Ratings.{places_of};
 ghost use Rattle.zi_universe.specs.Stages.{IsSorting};
-ghost use Rattle.zi_universe.specs.Offering.{candidates_of, AreNumbered, version_at, langs_at, HasVersion, HasLangs, FindsVersions, FindsPlaces, ArePlacedIn, StandsAt, rated_one};
+ghost use Rattle.zi_universe.specs.Offering.{candidates_of, IsNumbered, AreNumbered, langs_at, HasLangs, FindsVersions, FindsPlaces, texts_of, versions_in, ArePlacedIn, AreNumbersOf, HaveRatings};
 
 use crate::numbers::numbers_of;
 use crate::offers::{Key, Offered};
@@ -29,22 +30,13 @@ pub struct RatedCandidate {
     pub one: Offered,
 }
 
-/// A candidate with the place of its version among those of the interface.
+/// The versions of candidates, of which each stands once for all that share it, and where they stand.
 #[derive(Drop)]
-pub struct PlacedCandidate {
-    /// The place.
-    pub place: usize,
-    /// The candidate.
-    pub one: Offered,
-}
-
-/// Candidates with their versions, of which each is held once for all that share it.
-#[derive(Drop)]
-pub struct Placing {
+pub struct Placing<'v> {
     /// The versions.
-    pub versions: List<Version>,
-    /// The candidates.
-    pub placed: Vec<PlacedCandidate>,
+    pub versions: Vec<&'v Version>,
+    /// The place of each candidate's version among them.
+    pub places: Vec<usize>,
 }
 
 /// What the implementations of a feed share.
@@ -55,65 +47,91 @@ pub fn shares_at<'a>(feeds: &'a [Shared<Shares>], feed: usize) -> &'a Shares
     feeds[feed].as_ref()
 }
 
-// The version that a feed has under a number.
-fn version_at<'a>(feeds: &'a [Shared<Shares>], key: Key) -> &'a Version
-    requires { HasVersion feeds.now key }
-    ensures { version_at feeds.entry.now key ≡ Some (Some result.now) }
-{
-    let shares = shares_at(feeds, key.feed);
-    let found = shares.versions.at(key.number);
-    match found {
-        Some(version) => version,
-        None => unreachable!(),
-    }
-}
-
-// The place of a version among those found so far; it is added where it is new.
-fn place_of(
-    alloc: Global,
+// The place of a candidate's version among those found so far; it is added where it is new.
+fn place_of<'v>(
     feeds: &[Shared<Shares>],
-    key: Key,
+    one: &'v Offered,
     known: &mut HashMap<Key, usize>,
-    versions: &mut List<Version>,
+    versions: &mut Vec<&'v Version>,
 ) -> Result<usize, Memory>
-    requires there { HasVersion feeds.now key }
-    requires finds { FindsVersions feeds.now known.old.entries versions.old }
-    ensures grows { IfOk result (λ _. Grows versions.old versions.new) }
-    ensures finds { IfOk result (λ _. FindsVersions feeds.now known.new.entries versions.new) }
-    ensures at { IfOk result (λ n. StandsAt feeds.now key versions.new n) }
+    requires there { IsNumbered feeds.now one.now }
+    requires finds { FindsVersions feeds.now known.old.entries (texts_of versions.old.items) }
+    ensures grows { IfOk result (λ _. Grows (texts_of versions.old.items) (texts_of versions.new.items)) }
+    ensures finds { IfOk result (λ _. FindsVersions feeds.now known.new.entries (texts_of versions.new.items)) }
+    ensures at { IfOk result (λ n. slice_get (texts_of versions.new.items) n ≡ Some one.now.candidate.standing.version) }
 {
+    let key = Key {
+        feed: one.feed,
+        number: one.numbers.version,
+    };
     if let Some(place) = known.get(&key) {
         return Ok(*place);
     }
     let place = versions.len();
-    let version = version_at(feeds, key).copy(alloc)?;
-    versions.push(version)?;
+    versions.push(&one.candidate.standing.version)?;
     known.insert(key, place)?;
     Ok(place)
 }
 
-// Candidates with their versions.
-fn place_all(
+// What is known of one feed is forgotten at the next, since each has versions of its own.
+fn turn_to(alloc: Global, one: &Offered, feed: &mut usize, known: &mut HashMap<Key, usize>)
+    ensures { (feeds : Items SharedThings) (versions : Items (Items ℕ)) → FindsVersions feeds known.old.entries versions → FindsVersions feeds known.new.entries versions }
+{
+    if one.feed != *feed {
+        *feed = one.feed;
+        *known = HashMap::new(alloc);
+    }
+}
+
+// The versions of candidates, with the place of each.
+fn place_all<'v>(
     alloc: Global,
     feeds: &[Shared<Shares>],
-    offered: Vec<Offered>,
-) -> Result<Placing, Memory>
-    requires { AreNumbered feeds.now offered.items }
-    ensures same { IfOk result (λ r. map (λ c. c.one) r.placed.items ≡ offered.items) }
-    ensures placed { IfOk result (λ r. ArePlacedIn r.versions r.placed.items) }
+    offered: &'v [Offered],
+) -> Result<Placing<'v>, Memory>
+    requires { AreNumbered feeds.now offered.now }
+    ensures { IfOk result (λ r. ArePlacedIn (texts_of r.versions.items) offered.now r.places.items) }
 {
     let mut known = HashMap::new(alloc);
-    let mut versions = List::new(alloc);
-    let mut placed = Vec::with_capacity(alloc, offered.len())?;
+    let mut versions = Vec::new(alloc);
+    let mut places = Vec::with_capacity(alloc, offered.len())?;
+    let mut feed = 0;
     for one in offered {
-        let key = Key {
-            feed: one.feed,
-            number: one.numbers.version,
-        };
-        let place = place_of(alloc, feeds, key, &mut known, &mut versions)?;
-        placed.push(PlacedCandidate { place, one })?;
+        turn_to(alloc, one, &mut feed, &mut known);
+        let place = place_of(feeds, one, &mut known, &mut versions)?;
+        places.push(place)?;
     }
-    Ok(Placing { versions, placed })
+    Ok(Placing { versions, places })
+}
+
+// What numbers have at these places.
+fn numbers_at(alloc: Global, numbers: &[usize], places: &[usize]) -> Result<Vec<usize>, Memory>
+    requires { All (λ n. n < length numbers.now) places.now }
+    ensures { IfOk result (λ ns. ns.items ≡ map (λ n. get_or numbers.now n 0) places.now) }
+{
+    let mut found = Vec::with_capacity(alloc, places.len())?;
+    for place in places {
+        found.push(numbers[*place])?;
+    }
+    Ok(found)
+}
+
+// The number of each candidate's version.
+fn numbers_for(
+    alloc: Global,
+    feeds: &[Shared<Shares>],
+    offered: &[Offered],
+) -> Result<Vec<usize>, Memory>
+    requires { AreNumbered feeds.now offered.now }
+    ensures { IfOk result (λ ns. AreNumbersOf (versions_in offered.now) ns.items) }
+{
+    let placing = place_all(alloc, feeds, offered)?;
+    let versions = placing.versions.as_slice();
+    let numbers = numbers_of(alloc, versions)?;
+    let all = numbers.as_slice();
+    let places = placing.places.as_slice();
+    let found = numbers_at(alloc, all, places)?;
+    Ok(found)
 }
 
 // The languages that a feed has under a number.
@@ -167,29 +185,31 @@ fn places_of(
     places_once(feeds, key, policy, known)
 }
 
-// Candidates with their ratings, where these are the numbers of the versions.
+// Candidates with their ratings and the numbers of their versions.
 fn rate(
     alloc: Global,
     feeds: &[Shared<Shares>],
-    placed: Vec<PlacedCandidate>,
+    offered: Vec<Offered>,
     numbers: &[usize],
     policy: &Policy,
 ) -> Result<Vec<RatedCandidate>, Memory>
-    requires numbered { AreNumbered feeds.now (map (λ c. c.one) placed.items) }
-    requires within { All (λ c. c.place < length numbers.now) placed.items }
-    ensures { IfOk result (λ rs. rs.items ≡ map (rated_one policy.now numbers.now) placed.items) }
+    requires numbered { AreNumbered feeds.now offered.items }
+    requires count { length numbers.now ≡ length offered.items }
+    ensures same { IfOk result (λ rs. map (λ r. r.one) rs.items ≡ offered.items) }
+    ensures numbers { IfOk result (λ rs. map (λ r. r.number) rs.items ≡ numbers.now) }
+    ensures ratings { IfOk result (λ rs. HaveRatings policy.now rs.items) }
 {
     let mut known = HashMap::new(alloc);
-    let mut rated = Vec::with_capacity(alloc, placed.len())?;
-    for candidate in placed {
-        let PlacedCandidate { place, one } = candidate;
+    let mut rated = Vec::with_capacity(alloc, offered.len())?;
+    for one in offered {
         let key = Key {
             feed: one.feed,
             number: one.numbers.langs,
         };
         let places = places_of(feeds, key, policy, &mut known)?;
         let rating = Rating::placed(places, &one.candidate.standing, policy);
-        let number = numbers[place];
+        let at = rated.len();
+        let number = numbers[at];
         rated.push(RatedCandidate {
             rating,
             number,
@@ -227,12 +247,10 @@ pub fn rank(
         return Ok(offered);
     }
     ranks_are_strict();
-    let placing = place_all(alloc, feeds, offered)?;
-    let Placing { versions, placed } = placing;
-    let all = versions.as_slice();
-    let numbers = numbers_of(alloc, all)?;
+    let all = offered.as_slice();
+    let numbers = numbers_for(alloc, feeds, all)?;
     let numbers_of_all = numbers.as_slice();
-    let mut rated = rate(alloc, feeds, placed, numbers_of_all, policy)?;
+    let mut rated = rate(alloc, feeds, offered, numbers_of_all, policy)?;
     rated.sort_unstable_by(|c, d| {
         let (one, other) = (&c.one.candidate.standing, &d.one.candidate.standing);
         compare_numbered(&c.rating, c.number, one, &d.rating, d.number, other)

@@ -5,7 +5,7 @@ use Rattle.std.proofs.lemmas.Fn.{always_returns_same}
 use Rattle.std.proofs.lemmas.List.Sorted.{ranks_by, IsPermutation-map}
 use Rattle.zi_version.specs.Value.{version_cmp}
 use Rattle.zi_universe.specs.declared.numbers.PlacedVersion.{PlacedVersion}
-use Rattle.zi_universe.specs.Offering.{versions_of}
+use Rattle.zi_universe.specs.Offering.{versions_of, texts_of}
 use Rattle.zi_universe.proofs.NumberLemmas.{version_total, places_in_order}
 use Rattle.zi_universe.proofs.numbers.in_order.Goals as goal
 
@@ -15,7 +15,7 @@ returns-clause-same c =
     subst P c.in_ok-placed.ensures.same (IsPermutation-map (λ (p : PlacedVersion). p.version.now) c.in_ok-placed.placed.items c.sort_unstable_by.new.self.items c.sort_unstable_by.ensures.permutation)
 
 pub returns-clause-places : goal.returns-clause-places
-returns-clause-places c = places_in_order (length c.args.versions.now) c.in_ok-placed.placed.items c.sort_unstable_by.new.self.items c.sort_unstable_by.ensures.permutation c.in_ok-placed.ensures.places
+returns-clause-places c = places_in_order (length (texts_of c.args.versions.now)) c.in_ok-placed.placed.items c.sort_unstable_by.new.self.items c.sort_unstable_by.ensures.permutation c.in_ok-placed.ensures.places
 
 pub returns-clause-sorted : goal.returns-clause-sorted
 returns-clause-sorted c =

@@ -1,10 +1,9 @@
-use Rattle.std.proofs.Common.{◌≡◌, map}
-use Rattle.zi_universe.specs.Offering.{FindsVersions, ArePlacedIn}
+use Rattle.std.proofs.Common.{take}
+use Rattle.zi_universe.specs.Offering.{FindsVersions, texts_of, ArePlacedIn}
 use Rattle.zi_universe.proofs.ranking.place_all.Given as goal
 
 abbrev pub invariant-loop-one : goal.invariant-loop-one
 invariant-loop-one l = record {
-  same : map (λ c. c.one) l.placed.items ≡ l.yielded;
-  placed : ArePlacedIn l.versions l.placed.items;
-  finds : FindsVersions l.feeds l.known.entries l.versions;
+  placed : ArePlacedIn (texts_of l.versions.items) (take l.one-index l.offered) l.places.items;
+  finds : FindsVersions l.feeds l.known.entries (texts_of l.versions.items);
 }

@@ -1,9 +1,9 @@
-use Rattle.std.proofs.Common.{◌≡◌, map}
-use Rattle.zi_universe.specs.Offering.{FindsPlaces, rated_one}
+use Rattle.zi_universe.specs.Offering.{FindsPlaces}
+use Rattle.zi_universe.proofs.RankedLemmas.{AreRated}
 use Rattle.zi_universe.proofs.ranking.rate.Given as goal
 
-abbrev pub invariant-loop-candidate : goal.invariant-loop-candidate
-invariant-loop-candidate l = record {
-  rated : l.rated.items ≡ map (rated_one l.policy l.numbers) l.yielded;
+abbrev pub invariant-loop-one : goal.invariant-loop-one
+invariant-loop-one l = record {
+  rated : AreRated l.policy l.yielded l.numbers l.rated.items;
   finds : FindsPlaces l.policy l.feeds l.known.entries;
 }
