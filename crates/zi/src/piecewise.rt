@@ -19,8 +19,8 @@ pub enum Found {
     TooLong,
 }
 
-/// All that a file gives, where that is within the limit. At most one piece past the limit is read. A piece that isn't full is the
-/// last of a file where as much was read as the file was said to hold, so that its end isn't asked for once more.
+/// All that a file gives, where that is within the limit. At most one piece past the limit is read. Where the file is said to hold
+/// something and that much was read, a piece that isn't full is its last, so that its end isn't asked for once more.
 pub fn read_up_to<R: Read>(
     alloc: Global,
     reader: &mut R,
@@ -39,7 +39,7 @@ pub fn read_up_to<R: Read>(
                     return Ok(Found::TooLong);
                 }
                 bytes.extend_from_slice(&piece[..count])?;
-                if count < PIECE && bytes.len() as u64 >= length {
+                if count < PIECE && length > 0 && bytes.len() as u64 >= length {
                     return Ok(Found::Bytes(bytes));
                 }
             }
