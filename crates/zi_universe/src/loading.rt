@@ -21,6 +21,7 @@ use crate::universe::Universe;
 use crate::wanted::Wanted;
 use indexmap::IndexSet;
 use std::alloc::Global;
+use std::mem;
 use zi_digest::DigestName;
 use zi_outside::Feeds;
 use zi_policy::Policy;
@@ -143,7 +144,7 @@ fn load_next<F: Feeds>(
     finish(alloc, wanted, uri, offers, state)
 }
 
-// All that are asked for.
+// All that are asked for. The feeds stay in memory, since the program ends soon, and what candidates share with them lies among them.
 fn load_all<F: Feeds>(
     alloc: Global,
     wanted: &Wanted,
@@ -157,7 +158,8 @@ fn load_all<F: Feeds>(
     while state.done.len() < state.names.len() {
         load_next(alloc, wanted, &mut state, feeds)?;
     }
-    let Loading { done, .. } = state;
+    let Loading { done, table, .. } = state;
+    mem::forget(table);
     Ok(done)
 }
 
