@@ -1,4 +1,6 @@
 //! The program's words and the variables that it reads.
+ghost use Rattle.std.specs.Prelude.{◌≡◌, IfOk};
+ghost use Rattle.zi.specs.Paths.{in_folder};
 
 use std::alloc::Global;
 use std::env::{self, FillError, VarError};
@@ -78,7 +80,9 @@ pub fn log_name<R: Env + AllocGlobal>(rt: &R) -> Result<Option<Text>, Memory> {
 }
 
 // A path in a folder.
-fn joined(alloc: Global, folder: &str, path: &str) -> Result<Text, Memory> {
+fn joined(alloc: Global, folder: &str, path: &str) -> Result<Text, Memory>
+    ensures { IfOk result (λ whole. whole ≡ in_folder folder.now path.now) }
+{
     let mut whole = String::from_str(alloc, folder)?;
     whole.push('/')?;
     whole.push_str(path)?;

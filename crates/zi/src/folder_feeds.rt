@@ -1,6 +1,7 @@
 //! Feeds in files.
-ghost use Rattle.std.specs.Prelude.{◌≡◌, IfOk};
+ghost use Rattle.std.specs.Prelude.{◌≡◌, IfOk, string_bytes};
 ghost use Rattle.zi.specs.Found.{FitsIn};
+ghost use Rattle.zi.specs.Paths.{feed_path};
 
 use crate::piecewise::{Found, deliver, read_up_to};
 use std::fs;
@@ -38,7 +39,9 @@ impl<'a, R: Files + AllocGlobal> FolderFeeds<'a, R> {
     }
 
     // The path of a key.
-    fn path_of(&self, key: &str) -> Result<String, Memory> {
+    fn path_of(&self, key: &str) -> Result<String, Memory>
+        ensures { IfOk result (λ path. string_bytes path ≡ feed_path self.now.folder key.now) }
+    {
         if !key.starts_with("http://") && !key.starts_with("https://") {
             return Ok(String::from_str(self.rt.alloc(), key)?);
         }

@@ -2,7 +2,8 @@
 //! What these real objects do is tried, and not claimed.
 //!
 //! Code: `arguments` (words and variables), `folder_feeds` (feeds in files, each read by `piecewise`), `std_sink` (the streams).
-//! specs/Seen.antt says what is seen of the feeds and the streams: each tells its count of faults alone.
+//! specs/Seen.antt says what is seen of the feeds and the streams: each tells its count of faults alone. Paths.antt says where a
+//! feed's file is, Found.antt what is read of it where its bytes are known.
 #![tactic(auto)]
 
 mod arguments;

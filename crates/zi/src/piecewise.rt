@@ -1,6 +1,6 @@
 //! Reading in pieces up to a limit.
-ghost use Rattle.std.specs.Prelude.{◌≡◌, ◌≤◌, ℕ, List, None, IfOk, IfErr, OnErr, vec_len};
-ghost use Rattle.zi.specs.Found.{FitsIn};
+ghost use Rattle.std.specs.Prelude.{◌≡◌, ℕ, List, None, IfSome, IfOk, IfErr, OnErr};
+ghost use Rattle.zi.specs.Found.{Delivers, FitsIn, IsNotInterrupted, IsReadOf};
 ghost use Rattle.zi_outside.specs.Outside.{Finds};
 
 use std::alloc::Global;
@@ -20,14 +20,17 @@ pub enum Found {
 }
 
 /// All that a file gives, where that is within the limit. At most one piece past the limit is read. Where the file is said to hold
-/// something and that much was read, a piece that isn't full is its last, so that its end isn't asked for once more.
+/// something and that much was read, a piece that isn't full is its last, so that its end isn't asked for once more. A read that
+/// was interrupted is tried again.
 pub fn read_up_to<R: Read>(
     alloc: Global,
     reader: &mut R,
     length: u64,
     limit: u64,
 ) -> Result<Found, Trouble>
-    ensures { IfOk result (FitsIn limit) }
+    ensures fits { IfOk result (FitsIn limit) }
+    ensures exact { IfOk result (λ found. IfSome (R.remaining reader.old) (IsReadOf length limit found)) }
+    ensures retried { IfErr result IsNotInterrupted }
 {
     let mut bytes = Vec::new(alloc);
     let mut piece = [0u8; PIECE];
@@ -57,6 +60,7 @@ pub fn read_up_to<R: Read>(
 pub fn deliver(found: &Found, limit: u64, into: &mut Vec<u8>) -> Result<Got, FeedsFault>
     requires { FitsIn limit found.now }
     ensures found { (key : List ℕ) → IfOk result (λ got. Finds None (record { key = key; limit = limit; buffer = into.old.items }) got into.new.items) }
+    ensures exact { IfOk result (λ got. Delivers found.now got into.old.items into.new.items) }
     ensures refused { OnErr result (into.new.items ≡ into.old.items) }
     ensures cause { IfErr result (λ fault. fault ≡ FeedsFault.Memory) }
 {

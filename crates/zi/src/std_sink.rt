@@ -1,10 +1,16 @@
 //! The standard streams.
+ghost use Rattle.std.specs.Prelude.{OnOk};
+ghost use Rattle.std.specs.Io.KnownBytes.{Appends};
+ghost use Rattle.zi_outside.specs.Outside.{Puts};
+ghost use Rattle.zi.specs.Seen.{stream_seen};
+
 use std::alloc::Global;
 use std::io::Write;
 use zi_folder::{Log, Reason};
 use zi_outside::{Sink, SinkFault};
 
-/// A sink over a stream, which doesn't tell what was written.
+/// A sink over a stream, which doesn't tell what was written. What a stream holds grows by each piece that was put, where that is
+/// known.
 #[derive(Drop)]
 pub struct StdSink<W: Write> {
     name: &'static str,
@@ -35,7 +41,10 @@ impl<W: Write + Drop> Sink for StdSink<W> {
 
     ghost seen = { λ s. stream_seen s.faults };
 
-    fn put(&mut self, bytes: &[u8]) -> Result<(), SinkFault> {
+    fn put(&mut self, bytes: &[u8]) -> Result<(), SinkFault>
+        ensures puts { Puts (stream_seen self.old.faults) bytes.now result (stream_seen self.new.faults) }
+        ensures written { OnOk result (Appends (W.contents self.old.writer) (W.contents self.new.writer) bytes.now) }
+    {
         match self.writer.write_all(bytes) {
             Ok(()) => Ok(()),
             Err(error) => {
