@@ -1,11 +1,8 @@
 -- The paths of files.
-use Rattle.std.specs.Prelude.{ℕ, List, ◌∷◌, ◌++◌, if◌then◌else◌}
+use Rattle.std.specs.Prelude.{ℕ, List, if◌then◌else◌}
 use Rattle.zi_address.specs.Address.{is_web}
 use Rattle.zi_app.specs.FileName.{file_name}
-
--- the path of a name in a folder
-abbrev pub in_folder : List ℕ → List ℕ → List ℕ
-in_folder folder name = folder ++ 47 ∷ name
+use Rattle.zi_folder.specs.Paths.{in_folder}
 
 -- the path of the file in which a feed is kept: of one in the web its own in the folder, of any other the one it is named by
 abbrev pub feed_path : List ℕ → List ℕ → List ℕ

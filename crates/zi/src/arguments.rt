@@ -1,6 +1,6 @@
 //! The program's words and the variables that it reads.
 ghost use Rattle.std.specs.Prelude.{◌≡◌, IfOk};
-ghost use Rattle.zi.specs.Paths.{in_folder};
+ghost use Rattle.zi_folder.specs.Paths.{in_folder};
 
 use std::alloc::Global;
 use std::env::{self, FillError, VarError};

@@ -1,7 +1,9 @@
 //! A shelf in a folder: each top entry is a folder in it.
-ghost use Rattle.std.specs.Prelude.{◌≡◌, ◌≤◌, IfOk, Ok};
+ghost use Rattle.std.specs.Prelude.{◌≡◌, ◌≤◌, ◌∷◌, IfOk, OnOk, Ok, string_bytes};
 ghost use Rattle.zi_shelf.specs.Told.{HasCause, plain_reply};
 ghost use Rattle.zi_shelf.specs.declared.shelf.ShelfFault.TheVariants.{Failed as HasFailed, Memory as NoMemory};
+ghost use Rattle.zi_folder.specs.Opened.{Enters, Lists, Reads, way};
+ghost use Rattle.zi_folder.specs.Paths.{in_folder, path_on};
 
 use crate::folder_calls::{
     append, finish_file, is_folder, is_there, link_target, list_names, make_folder, make_link,
@@ -51,17 +53,21 @@ impl FolderShelf {
     }
 
     // The path of a top entry.
-    fn top_path(&self, top: &str) -> Result<String, Memory> {
+    fn top_path(&self, top: &str) -> Result<String, Memory>
+        ensures { IfOk result (λ path. string_bytes path ≡ in_folder self.now.root top.now) }
+    {
         let mut path = String::from_str(self.rt.alloc(), self.root.as_str())?;
         path.push('/')?;
         path.push_str(top)?;
         Ok(path)
     }
 
-    // The path of an entry in a top entry. All on the way is folders, and no links to such.
-    fn way_to(&self, top: &str, inside: &RelPath) -> Result<String, Trouble> {
+    // The path to which these parts lead from a top entry. All on the way is folders, and no links to such.
+    fn way_to(&self, top: &str, inside: &[Text]) -> Result<String, Trouble>
+        ensures { IfOk result (λ path. string_bytes path ≡ path_on (in_folder self.now.root top.now) inside.now) }
+    {
         let mut path = self.top_path(top)?;
-        for part in inside.parts().as_slice() {
+        for part in inside {
             if !is_folder(&self.rt, path.as_str())? {
                 return Err(Trouble::Failed(Reason::IsNot("inside a folder")));
             }
@@ -72,15 +78,20 @@ impl FolderShelf {
     }
 
     // The path of an entry in a top entry, which isn't the top entry itself.
-    fn way_inside(&self, top: &str, inside: &RelPath) -> Result<String, Trouble> {
-        if inside.parts().is_empty() {
+    fn way_inside(&self, top: &str, inside: &RelPath) -> Result<String, Trouble>
+        ensures { IfOk result (λ path. string_bytes path ≡ path_on (in_folder self.now.root top.now) inside.now) }
+    {
+        let parts = inside.parts().as_slice();
+        if parts.is_empty() {
             return Err(NO_TREE);
         }
-        self.way_to(top, inside)
+        self.way_to(top, parts)
     }
 
     // Opens the folders on the way that these parts lead from a top entry.
     fn enter(&mut self, top: &str, parts: &[Text]) -> Result<(), Trouble>
+        ensures way { OnOk result (way self.new.held ≡ top.now ∷ parts.now) }
+        ensures file { OnOk result (Enters self.old.held self.new.held) }
         ensures faults { self.new.faults ≡ self.old.faults }
         ensures root { self.new.root ≡ self.old.root }
     {
@@ -98,6 +109,7 @@ impl FolderShelf {
 
     // The entries of a folder in a top entry; the top entry itself is looked up anew.
     fn listed(&mut self, top: &str, inside: &RelPath) -> Result<Listed, Trouble>
+        ensures there { IfOk result (λ listed. Lists listed (way self.new.held) (top.now ∷ inside.now)) }
         ensures faults { self.new.faults ≡ self.old.faults }
         ensures root { self.new.root ≡ self.old.root }
     {
@@ -119,6 +131,7 @@ impl FolderShelf {
         max: u32,
     ) -> Result<usize, Trouble>
         ensures few { IfOk result (λ count. count ≤ max) }
+        ensures there { OnOk result (Reads self.new.held (top.now ∷ inside.now)) }
         ensures faults { self.new.faults ≡ self.old.faults }
         ensures root { self.new.root ≡ self.old.root }
     {

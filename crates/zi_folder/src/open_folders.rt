@@ -1,6 +1,8 @@
 //! Folders that are held open while a tree is read: what stands in one is reached from it, so that no path is looked up from the
 //! top again for each entry, and no link is followed on the way.
-ghost use Rattle.std.specs.Prelude.{◌≡◌, ◌≤◌, IfOk, take};
+ghost use Rattle.std.specs.Prelude.{◌≡◌, ◌≤◌, ◌++◌, [], ◌∷◌, true, false, None, IfOk, OnOk, take, drop, map, string_bytes};
+ghost use Rattle.zi_folder.specs.Opened.{way, is_from, IsFront, LeadsAs, Enters, Stays, is_file};
+ghost use Rattle.zi_folder.specs.Paths.{in_folder, path_on};
 
 use crate::folder_calls::kind_at;
 use crate::trouble::{Reason, Trouble};
@@ -178,15 +180,17 @@ fn is_shown(rt: &HostRuntime, folder: &OwnedFd, path: &str) -> Result<bool, Trou
     }
 }
 
-// Whether the folder of this number on the way, on which the top entry has the number 0, has this name.
-fn is_at(number: usize, parts: &[Text], name: &str) -> bool {
-    if number == 0 {
-        return true;
+// How many of these folders have the names of these parts, from the first on.
+fn shared(folders: &[OpenFolder], parts: &[Text]) -> usize
+    ensures { IsFront result (map (λ folder. folder.name) folders.now) parts.now }
+{
+    for (number, folder) in folders.iter().enumerate() {
+        match parts.get(number) {
+            Some(part) if part.as_str() == folder.name.as_str() => {}
+            _ => return number,
+        }
     }
-    match parts.get(number - 1) {
-        Some(part) => part.as_str() == name,
-        None => false,
-    }
+    folders.len()
 }
 
 impl OpenFolders {
@@ -203,12 +207,19 @@ impl OpenFolders {
     }
 
     /// Closes all that is open: what follows may change what stands there.
-    pub fn close(&mut self) {
+    pub fn close(&mut self)
+        ensures nothing { way self.new ≡ [] }
+        ensures file { self.new.file ≡ None }
+    {
         self.keep(0);
     }
 
     /// Keeps the first so many folders open, and nothing else. One that is to be listed is none of them: it is opened anew.
-    pub fn keep(&mut self, count: usize) {
+    pub fn keep(&mut self, count: usize)
+        ensures first { way self.new ≡ take count (way self.old) }
+        ensures file { self.new.file ≡ None }
+        ensures path { (self.new.path ≡ self.old.path) × (self.new.numbered ≡ self.old.numbered) }
+    {
         self.file = None;
         if count < self.folders.len() {
             self.next = None;
@@ -217,7 +228,9 @@ impl OpenFolders {
     }
 
     /// Whether this top entry is open.
-    pub fn is_in(&self, top: &str) -> bool {
+    pub fn is_in(&self, top: &str) -> bool
+        ensures { result ≡ is_from top.now (way self.now) }
+    {
         match self.folders.first() {
             Some(first) => first.name.as_str() == top,
             None => false,
@@ -225,21 +238,25 @@ impl OpenFolders {
     }
 
     // How many of the open folders lead this way, from the top entry on.
-    fn on_the_way(&self, parts: &[Text]) -> usize {
-        for (number, folder) in self.folders.iter().enumerate() {
-            if !is_at(number, parts, folder.name.as_str()) {
-                return number;
-            }
+    fn on_the_way(&self, parts: &[Text]) -> usize
+        ensures { LeadsAs result (way self.now) parts.now }
+    {
+        match self.folders.as_slice().split_first() {
+            Some((_, inner)) => 1 + shared(inner, parts),
+            None => 0,
         }
-        self.folders.len()
     }
 
     // The whole path of the folder that was opened last.
-    fn whole_path(&self, rt: &HostRuntime) -> Result<String, Trouble> {
+    fn whole_path(&self, rt: &HostRuntime) -> Result<String, Trouble>
+        ensures { IfOk result (λ path. string_bytes path ≡ path_on (string_bytes self.now.path) (drop 1 (way self.now))) }
+    {
         let mut path = String::from_str(rt.alloc(), self.path.as_str())?;
-        for folder in self.folders.iter().skip(1) {
-            path.push('/')?;
-            path.push_str(folder.name.as_str())?;
+        if let Some((_, inner)) = self.folders.as_slice().split_first() {
+            for folder in inner {
+                path.push('/')?;
+                path.push_str(folder.name.as_str())?;
+            }
         }
         Ok(path)
     }
@@ -253,7 +270,9 @@ impl OpenFolders {
     }
 
     /// The path of a name in the folder that was opened last; with no name, the folder's own, which ends with a slash.
-    pub fn path_of(&self, rt: &HostRuntime, name: &str) -> Result<String, Trouble> {
+    pub fn path_of(&self, rt: &HostRuntime, name: &str) -> Result<String, Trouble>
+        ensures { IfOk result (λ path. self.now.numbered ≡ false → string_bytes path ≡ in_folder (path_on (string_bytes self.now.path) (drop 1 (way self.now))) name.now) }
+    {
         let mut path = if self.numbered {
             numbered_path(rt, self.last()?)?
         } else {
@@ -265,7 +284,11 @@ impl OpenFolders {
     }
 
     /// Opens a top entry, which stands at this path, and nothing else.
-    pub fn open_top(&mut self, rt: &HostRuntime, path: String, top: &str) -> Result<(), Trouble> {
+    pub fn open_top(&mut self, rt: &HostRuntime, path: String, top: &str) -> Result<(), Trouble>
+        ensures alone { OnOk result (way self.new ≡ top.now ∷ []) }
+        ensures path { OnOk result (self.new.path ≡ path) }
+        ensures file { OnOk result (self.new.file ≡ None) }
+    {
         self.close();
         let folder = open_folder(libc::AT_FDCWD, path.as_str())?;
         self.numbered = is_shown(rt, &folder, path.as_str())?;
@@ -275,33 +298,55 @@ impl OpenFolders {
         Ok(())
     }
 
-    // Opens the folder of this name in the folder that was opened last.
-    fn open_inner(&mut self, rt: &HostRuntime, name: &Text) -> Result<(), Trouble> {
-        let opened = match self.next.take() {
-            Some(next) if next.name.as_str() == name.as_str() => next,
-            _ => OpenFolder {
+    // The folder of this name in the folder that was opened last: the one that was opened when that was listed, or opened now.
+    fn inner(&mut self, rt: &HostRuntime, name: &Text) -> Result<OpenFolder, Trouble>
+        ensures named { IfOk result (λ folder. folder.name ≡ name.now) }
+        ensures stays { Stays self.old self.new }
+    {
+        match self.next.take() {
+            Some(next) if next.name.as_str() == name.as_str() => Ok(next),
+            _ => Ok(OpenFolder {
                 folder: open_folder(self.last()?.as_raw_fd(), name.as_str())?,
                 name: name.copy(rt.alloc())?,
-            },
-        };
+            }),
+        }
+    }
+
+    // Opens the folder of this name in the folder that was opened last.
+    #[tactic(auto, using(crate::proofs::OpenedLemmas::grown))]
+    fn open_inner(&mut self, rt: &HostRuntime, name: &Text) -> Result<(), Trouble>
+        ensures one { OnOk result (way self.new ≡ way self.old ++ name.now ∷ []) }
+        ensures file { self.new.file ≡ self.old.file }
+        ensures path { (self.new.path ≡ self.old.path) × (self.new.numbered ≡ self.old.numbered) }
+    {
+        let opened = self.inner(rt, name)?;
         self.folders.push(opened)?;
         Ok(())
     }
 
     /// Opens the folders on the way that these parts lead from the top entry that is open, and none but those.
-    pub fn enter(&mut self, rt: &HostRuntime, parts: &[Text]) -> Result<(), Trouble> {
+    #[tactic(auto, using(crate::proofs::OpenedLemmas::joined, crate::proofs::OpenedLemmas::whole))]
+    pub fn enter(&mut self, rt: &HostRuntime, parts: &[Text]) -> Result<(), Trouble>
+        ensures way { OnOk result (way self.new ≡ take 1 (way self.old) ++ parts.now) }
+        ensures file { OnOk result (Enters self.old self.new) }
+        ensures path { (self.new.path ≡ self.old.path) × (self.new.numbered ≡ self.old.numbered) }
+    {
         let common = self.on_the_way(parts);
-        if common != self.folders.len() || common != parts.len() + 1 {
-            self.keep(common);
+        if common == self.folders.len() && common == parts.len() + 1 {
+            return Ok(());
         }
-        for part in parts.iter().skip(common.saturating_sub(1)) {
+        self.keep(common);
+        let (_, more) = parts.split_at(common.saturating_sub(1));
+        for part in more {
             self.open_inner(rt, part)?;
         }
         Ok(())
     }
 
     /// The entries of the folder that was opened last, which wasn't listed since.
-    pub fn list(&mut self, rt: &HostRuntime) -> Result<List<Entry>, Trouble> {
+    pub fn list(&mut self, rt: &HostRuntime) -> Result<List<Entry>, Trouble>
+        ensures way { way self.new ≡ way self.old }
+    {
         self.make_room(rt)?;
         let folder = self.last()?.as_raw_fd();
         let path = self.path_of(rt, "")?;
@@ -324,7 +369,9 @@ impl OpenFolders {
     }
 
     // Whether the file of this name is the one that is open.
-    fn has(&self, name: &str) -> bool {
+    fn has(&self, name: &str) -> bool
+        ensures { result ≡ is_file name.now self.now.file }
+    {
         match &self.file {
             Some(opened) => opened.name.as_str() == name,
             None => false,
@@ -332,7 +379,10 @@ impl OpenFolders {
     }
 
     // Opens the file of this name in the folder that was opened last, where it isn't the one that is open.
-    fn open_file(&mut self, rt: &HostRuntime, name: &str) -> Result<(), Trouble> {
+    fn open_file(&mut self, rt: &HostRuntime, name: &str) -> Result<(), Trouble>
+        ensures named { OnOk result (is_file name.now self.new.file ≡ true) }
+        ensures way { way self.new ≡ way self.old }
+    {
         if self.has(name) {
             return Ok(());
         }
@@ -345,7 +395,9 @@ impl OpenFolders {
     }
 
     // Makes room, once.
-    fn make_room(&mut self, rt: &HostRuntime) -> Result<(), Trouble> {
+    fn make_room(&mut self, rt: &HostRuntime) -> Result<(), Trouble>
+        ensures { Stays self.old self.new }
+    {
         if self.room.is_empty() {
             self.room = vec![in rt.alloc(); 0u8; PIECE]?;
         }
@@ -360,7 +412,9 @@ impl OpenFolders {
         offset: u64,
         max: u32,
     ) -> Result<usize, Trouble>
-        ensures { IfOk result (λ count. count ≤ max) }
+        ensures few { IfOk result (λ count. count ≤ max) }
+        ensures named { OnOk result (is_file name.now self.new.file ≡ true) }
+        ensures way { way self.new ≡ way self.old }
     {
         self.open_file(rt, name)?;
         self.make_room(rt)?;
