@@ -9,7 +9,8 @@ nothing but a proof file that names what the edit took away refuses it, so that 
 of the prover; `NOT REFUSED`; `bad`, where it can't be applied or read; `not tried`. The last line counts them, and the status is 0 only
 where each was refused by more than a name.
 
-The first try of a crate proves it and all below it, unless an earlier `rt check` of the same text did: from minutes to an hour.
+The first try of a crate proves it and all below it, unless an earlier `rt check` of the same text did in this checkout: from minutes
+to an hour.
 """
 import os
 import re
@@ -37,11 +38,23 @@ def edits_of(crate):
     return sorted(name[: -len(".edit")] for name in os.listdir(folder) if name.endswith(".edit"))
 
 
+def copied(one, other):
+    """Copies a file; what `rt` made is given a second name, where that can be: `rt` never writes into such a file."""
+    try:
+        if f"{os.sep}out{os.sep}" in one:
+            return os.link(one, other)
+    except OSError:
+        pass
+    return shutil.copy2(one, other)
+
+
 def laid_out(room):
-    """A copy of what `rt` reads, with each crate's edits in must-fail/ and nothing else there."""
+    """A copy of what `rt` reads and made, with each crate's edits in must-fail/ and nothing else there."""
     for name in ("crates.txt", "HANDLES"):
         shutil.copy2(os.path.join(TOP, name), room)
-    shutil.copytree(os.path.join(TOP, "crates"), os.path.join(room, "crates"), ignore=shutil.ignore_patterns("out", "must-fail"))
+    shutil.copytree(
+        os.path.join(TOP, "crates"), os.path.join(room, "crates"), symlinks=True, ignore=shutil.ignore_patterns("must-fail"), copy_function=copied
+    )
     for crate in os.listdir(os.path.join(room, "crates")):
         edits = os.path.join(room, "crates", crate, "edits")
         if os.path.isdir(edits):
