@@ -2,8 +2,9 @@
 use crate::told::Objects;
 use std::alloc::Global;
 use zi_lines::{Sheet, halves};
+use zi_memory::MemoryShelf;
 use zi_outside::{Launch, MemorySink};
-use zi_shelf::{CallKind, MemoryShelf};
+use zi_shelf::CallKind;
 use zi_text::{Memory, Text};
 use zi_tree::{RelPath, Tree, TreeNode};
 

@@ -3,8 +3,8 @@ use crate::asking::put_spelled;
 use crate::held::{Held, LongFeeds};
 use std::alloc::Global;
 use zi_lines::{Sheet, halves, take_numbers};
+use zi_memory::MemoryShelf;
 use zi_outside::{MemoryFeeds, MemorySink, MemorySpawner, MemoryWeb, Vars};
-use zi_shelf::MemoryShelf;
 use zi_text::{Bytes, List, Memory};
 use zi_tree::{RelPath, Tree, TreeNode};
 

@@ -5,8 +5,9 @@ use crate::sessions::number;
 use std::alloc::Global;
 use zi_digest::DigestName;
 use zi_lines::{Sheet, halves};
+use zi_memory::MemoryShelf;
 use zi_session::Session;
-use zi_shelf::{MemoryShelf, Shelf};
+use zi_shelf::Shelf;
 use zi_text::{Bytes, Memory, Text};
 use zi_tree::{Tree, TreeNode};
 

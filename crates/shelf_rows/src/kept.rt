@@ -1,6 +1,7 @@
 use std::alloc::Global;
 use zi_folder::FolderShelf;
-use zi_shelf::{MemoryShelf, Shelf, ShelfCall, SureShelf};
+use zi_memory::{MemoryShelf, SureShelf};
+use zi_shelf::{Shelf, ShelfCall};
 use zi_text::{Memory, Text};
 use zi_tree::Tree;
 

@@ -3,8 +3,8 @@ use crate::kept::Kept;
 use crate::nodes::{path_of, put_bytes};
 use std::alloc::Global;
 use zi_lines::{Sheet, halves, take_numbers};
+use zi_memory::MemoryShelf;
 use zi_session::Session;
-use zi_shelf::MemoryShelf;
 use zi_text::{Bytes, List, Memory, Text};
 use zi_tree::{RelPath, Tree, TreeNode};
 

@@ -1,14 +1,3 @@
 pub mod TopsLemmas
-pub mod FoundLemmas
-pub mod DoingLemmas
 pub mod ReadingLemmas
 pub mod FillingLemmas
-pub mod FilledLemmas
-pub mod WholeLemmas
-pub mod SeenLemmas
-pub mod ComingLemmas
-pub mod FirstLemmas
-pub mod PickedLemmas
-pub mod LeftLemmas
-pub mod MovedLemmas
-pub mod OutcomeLemmas

@@ -1,17 +1,7 @@
--- What a call that fills a top entry does at a path.
+-- What a call that fills a top entry makes of what stands at its path.
 use Rattle.std.specs.Prelude.{ℕ, ℤ, Bool, true, false, List, ◌++◌, Option, Some, None}
 use Rattle.zi_tree.specs.declared.tree.TreeNode.{TreeNode}
 use Rattle.zi_tree.specs.declared.tree.TreeNode.TheVariants as node
-use Rattle.zi_shelf.specs.declared.filling.Filling.{Filling}
-use Rattle.zi_shelf.specs.declared.filling.Filling.TheVariants as filling
-use Rattle.zi_shelf.specs.Filling.{Work, MakeFolder, Append, FinishFile, MakeLink}
-
--- the call at this path
-abbrev pub work_at : List (List ℕ) → Filling → Work
-work_at path filling.MakeFolder = MakeFolder path
-work_at path (filling.Append bytes) = Append path bytes.now
-work_at path (filling.FinishFile exec mtime) = FinishFile path exec mtime
-work_at path (filling.MakeLink target) = MakeLink path target.now
 
 -- a file stands there
 abbrev pub is_file : Option TreeNode → Bool

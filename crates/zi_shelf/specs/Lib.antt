@@ -1,15 +1,9 @@
 pub mod Names
 pub mod Shelved
 pub mod Crash
-pub mod Crashing
-pub mod Picked
-pub mod Comers
 pub mod Filling
 pub mod Fillings
 pub mod Told
 pub mod Reading
 pub mod Shelving
-pub mod Memory
-pub mod InMemory
 pub mod FittingLaw
-pub mod Whole

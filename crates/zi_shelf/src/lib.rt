@@ -13,33 +13,12 @@
 //! (specs/Shelved.antt), what a call that fills does to a tree (Filling.antt), what a call that reads answers (Reading.antt),
 //! what a shelf tells with its record and count (Told.antt), what a crash may leave (Crash.antt). The trait (src/shelf.rt)
 //! ties each call to them by clauses of one form: `does` or `reads`, over one record of what is seen of the shelf before and
-//! after (Shelving.antt).
-//!
-//! Both forms in memory, `memory_shelf` and `sure_shelf`, hand each call on to one core (`held`), proved once; they differ in
-//! the plan of faults and in the rule of the count. A call of the core takes all its memory first, is then recorded, and
-//! changes the shelf last, by steps that take none; a filling call (`filling`) changes its tree last but one, by a step that
-//! leaves it as it was where memory is refused, and its row is then taken out again. Top entries (`top_entry`) stand in byte
-//! order and are searched by halves.
-//!
-//! A crash in memory (`crash`) goes once through what is pending, the oldest first, and keeps for each name the first rename
-//! of what stands under it; then once through the entries. Each entry that may be left is offered to its name, where the one
-//! with the oldest change stays: specs/Picked.antt says what that leaves, Comers.antt how it is found. Then all memory is
-//! there, and the trees move. proofs: FirstLemmas (the first renames of an entry's names), ComingLemmas (the loops),
-//! PickedLemmas (what the pick leaves), OutcomeLemmas (that it is an outcome of the crash model).
+//! after (Shelving.antt). Both forms in memory stand in `zi_memory`, which nothing of the program uses.
 #![tactic(auto)]
 
 mod call;
-mod crash;
-mod filling;
-mod held;
 pub mod laws;
-mod memory_shelf;
-mod reading;
 mod shelf;
-mod sure_shelf;
-mod top_entry;
 
 pub use call::{CallKind, ShelfCall};
-pub use memory_shelf::MemoryShelf;
 pub use shelf::{Entry, EntryKind, Listed, Moved, Shelf, ShelfFault, TopMade};
-pub use sure_shelf::SureShelf;

@@ -1,0 +1,13 @@
+pub mod TopsLemmas
+pub mod FoundLemmas
+pub mod DoingLemmas
+pub mod ReadingLemmas
+pub mod FilledLemmas
+pub mod WholeLemmas
+pub mod SeenLemmas
+pub mod ComingLemmas
+pub mod FirstLemmas
+pub mod PickedLemmas
+pub mod LeftLemmas
+pub mod MovedLemmas
+pub mod OutcomeLemmas
