@@ -181,7 +181,9 @@ class Disk:
         elif name == "write":
             node.now = (node.now[0] + texts(words)[0][:result],) + node.now[1:]
         elif name == "fchmod":
-            node.now = (node.now[0], int(words.rsplit(", ", 1)[1], 8), node.now[2])
+            # of a folder's mode nothing is asked for later
+            if isinstance(node, File):
+                node.now = (node.now[0], int(words.rsplit(", ", 1)[1], 8), node.now[2])
         elif name == "utimensat":
             node.now = node.now[:2] + (int(re.findall(r"tv_sec=(-?\d+)", words)[-1]),)
         else:

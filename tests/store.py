@@ -9,8 +9,10 @@ import base64
 import hashlib
 import os
 import random
+import resource
 import shutil
 import signal
+import stat
 import subprocess
 import sys
 import tempfile
@@ -255,6 +257,41 @@ def an_empty_folder_under_the_name_is_present(folder):
     holds("residues", residues(folder) == [])
 
 
+def stored_folders_are_closed(folder):
+    """Whatever the mask of new files; and a folder that nobody may write can still be taken away, here what a failed rename leaves."""
+    for mask in (0, 0o022, 0o077):
+        files = {"a": str(mask).encode(), "b": b""}
+        expect(run(tree(folder, files), folder, lambda mask=mask: os.umask(mask)), 0, b"stored\n", b"")
+        modes = {oct(stat.S_IMODE(os.stat(top).st_mode)) for top, _, _ in os.walk(os.path.join(store(folder), name_of(files)))}
+        holds(f"folders {modes}", modes == {"0o555"})
+        whole(folder, files)
+
+
+def what_a_failed_write_leaves(folder):
+    """A file that may not grow past 1,000 bytes, as on a full disk: the entry that was being filled doesn't stay."""
+
+    def bounded():
+        signal.signal(signal.SIGXFSZ, signal.SIG_IGN)
+        resource.setrlimit(resource.RLIMIT_FSIZE, (1_000, 1_000))
+
+    files = {"a": b"abc", "b": b"y" * 5_000}
+    expect(run(tree(folder, files), folder, bounded), 90, b"", b"zi: store fault at tmp-0\n")
+    holds("nothing stays", os.listdir(store(folder)) == [])
+    expect(run(tree(folder, files), folder), 0, b"stored\n", b"")
+    whole(folder, files)
+
+
+def a_store_that_is_no_folder(folder):
+    """A pipe that nobody writes to, and a file: told at once, and nothing is made."""
+    words = tree(folder, FILES)
+    os.mkfifo(store(folder))
+    expect(run(words, folder), 90, b"", b"zi: store fault at tmp-0\n")
+    os.remove(store(folder))
+    write(folder, "store", b"abc")
+    expect(run(words, folder), 90, b"", b"zi: store fault at tmp-0\n")
+    holds("as it was", open(store(folder), "rb").read() == b"abc")
+
+
 def taken_temporary_names(folder):
     words = tree(folder, FILES)
     for number in range(3):
@@ -271,6 +308,7 @@ def two_at_once(folder):
         holds(f"answers {ends}", ends in ([(b"present\n", 0), (b"stored\n", 0)],))
         whole(folder, FILES)
         holds("residues", residues(folder) == [])
+        subprocess.run(["chmod", "-R", "u+w", store(folder)], check=True)
         shutil.rmtree(store(folder))
 
 
@@ -282,7 +320,8 @@ def killed(folder):
     took = time.perf_counter() - start
     chance = random.Random(1)
     for _ in range(50):
-        shutil.rmtree(store(folder), ignore_errors=True)
+        subprocess.run(["chmod", "-R", "u+w", store(folder)], check=True)
+        shutil.rmtree(store(folder))
         process = begin(words, folder)
         time.sleep(chance.uniform(0, took * 1.1))
         process.send_signal(signal.SIGKILL)
@@ -450,6 +489,9 @@ ROWS = [
     large,
     what_is_stored_counts_in_rank,
     an_empty_folder_under_the_name_is_present,
+    stored_folders_are_closed,
+    what_a_failed_write_leaves,
+    a_store_that_is_no_folder,
     taken_temporary_names,
     wherever_it_is_started,
     pipes_and_devices_are_no_files,

@@ -8,8 +8,12 @@ use std::time::{Duration, SystemTime};
 use zi_shelf::{EntryKind, Moved, TopMade};
 use zi_text::{List, Text};
 
-// The modes of a file that is being written, and of finished ones, which nobody is to write.
+// The modes of a file and a folder that are being filled, and of finished ones, which nobody is to write.
 const OPEN_MODE: u32 = 0o644;
+
+const OPEN_FOLDER_MODE: u32 = 0o755;
+
+const FOLDER_MODE: u32 = 0o555;
 
 const FILE_MODE: u32 = 0o444;
 
@@ -98,8 +102,12 @@ pub fn link_target(rt: &HostRuntime, path: &str) -> Result<Text, Trouble> {
     Ok(Text::from_str(rt.alloc(), target.into_string().as_str())?)
 }
 
-// Holds the shelf's folder against other launchers until it is dropped.
+// Holds the shelf's folder against other launchers until it is dropped. That it is a folder is looked at first, since a pipe that nobody
+// writes to would be waited for.
 fn held(rt: &HostRuntime, root: &str) -> Result<File, Trouble> {
+    if !fs::metadata(rt, root)?.is_dir() {
+        return Err(Trouble::Failed(Reason::IsNot("a folder")));
+    }
     let folder = fs::open(rt, root)?;
     match folder.lock() {
         Ok(()) => Ok(folder),
@@ -213,10 +221,11 @@ pub fn make_link(rt: &HostRuntime, target: &str, path: &str) -> Result<(), Troub
     Ok(())
 }
 
-/// Makes all in a top entry last through a crash: one by one where there are few files and folders, else by the program `sync`,
-/// which waits for the whole file system, and one by one where that isn't there or nobody learns how it ended.
+/// Makes all in a top entry last through a crash, its folders closed to writers: one by one where there are few files and folders, else
+/// by the program `sync`, which waits for the whole file system, and one by one where that isn't there or nobody learns how it ended.
 pub fn settle(rt: &HostRuntime, path: &str) -> Result<(), Trouble> {
     let paths = files_and_folders(rt, path)?;
+    set_folders(rt, paths.as_slice(), FOLDER_MODE)?;
     if paths.len() > FEW && ends_well(rt, "sync", &["-f", "--", path])? {
         return Ok(());
     }
@@ -238,6 +247,16 @@ fn files_and_folders(rt: &HostRuntime, top: &str) -> Result<Vec<String>, Trouble
         paths.append(&mut inside)?;
     }
     Ok(paths)
+}
+
+// Gives all folders among these paths a mode, whatever the mask of new files says.
+fn set_folders(rt: &HostRuntime, paths: &[String], mode: u32) -> Result<(), Trouble> {
+    for path in paths {
+        if is_folder(rt, path.as_str())? {
+            fs::open(rt, path.as_str())?.set_permissions(Permissions::from_mode(mode))?;
+        }
+    }
+    Ok(())
 }
 
 // The paths of the files and folders in a folder; none in a file.
@@ -308,10 +327,23 @@ pub fn sync_folder(rt: &HostRuntime, path: &str) -> Result<(), Trouble> {
     Ok(())
 }
 
-/// Removes a top entry. Part of it may be gone before a failure.
+// Removes a folder with all that is in it. Part of it may be gone before a failure.
+fn remove_all(rt: &HostRuntime, path: &str) -> Result<(), Trouble> {
+    match fs::remove_dir_all(rt, path) {
+        Ok(()) => Ok(()),
+        Err(error) => Err(Trouble::Failed(Reason::System(error))),
+    }
+}
+
+/// Removes a top entry; where its folders are closed to writers they are opened first. Part of it may be gone before a failure.
 pub fn remove(rt: &HostRuntime, path: &str) -> Result<(), Trouble> {
     match fs::remove_dir_all(rt, path) {
         Ok(()) => Ok(()),
+        Err(error) if error.kind() == ErrorKind::PermissionDenied => {
+            let paths = files_and_folders(rt, path)?;
+            set_folders(rt, paths.as_slice(), OPEN_FOLDER_MODE)?;
+            remove_all(rt, path)
+        }
         Err(error) => Err(Trouble::Failed(Reason::System(error))),
     }
 }

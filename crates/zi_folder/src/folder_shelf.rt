@@ -16,6 +16,9 @@ use zi_shelf::{Listed, Moved, Shelf, ShelfFault, TopMade};
 use zi_text::{List, Memory, Text};
 use zi_tree::RelPath;
 
+// The names of top entries that are being filled begin so.
+const TEMPORARY: &str = "tmp-";
+
 // What is asked for is a top entry itself.
 const NO_TREE: Trouble = Trouble::Failed(Reason::IsNot("inside a tree"));
 
@@ -227,6 +230,27 @@ impl FolderShelf {
     }
 }
 
+impl FolderShelf {
+    // Answers a call that fills a top entry. After one that failed a temporary entry is removed as far as it can be: what is in it is of no
+    // use to anybody, and may be what fills the disk.
+    fn filled(
+        &mut self,
+        top: &str,
+        inside: &[Text],
+        outcome: Result<(), Trouble>,
+    ) -> Result<(), ShelfFault>
+        ensures cause { HasCause self.old.faults self.new.faults (plain_reply result) }
+        ensures root { self.new.root ≡ self.old.root }
+    {
+        let answer = self.answer(&[top], inside, outcome);
+        if matches!(answer, Err(ShelfFault::Failed)) && top.starts_with(TEMPORARY) {
+            self.held.close();
+            let _ = self.removed(top);
+        }
+        answer
+    }
+}
+
 // The calls that read are never put into who calls them: a walk through folders goes as deep as they do, and would hold their room
 // at each level.
 impl Shelf for FolderShelf {
@@ -290,13 +314,13 @@ impl Shelf for FolderShelf {
     #[tactic(auto, using(crate::proofs::FolderLemmas::folding))]
     fn make_folder(&mut self, top: &str, path: &RelPath) -> Result<(), ShelfFault> {
         let made = self.new_folder(top, path);
-        self.answer(&[top], path.parts().as_slice(), made)
+        self.filled(top, path.parts().as_slice(), made)
     }
 
     #[tactic(auto, using(crate::proofs::FolderLemmas::folding))]
     fn append(&mut self, top: &str, path: &RelPath, bytes: &[u8]) -> Result<(), ShelfFault> {
         let done = self.more(top, path, bytes);
-        self.answer(&[top], path.parts().as_slice(), done)
+        self.filled(top, path.parts().as_slice(), done)
     }
 
     #[tactic(auto, using(crate::proofs::FolderLemmas::folding))]
@@ -308,19 +332,19 @@ impl Shelf for FolderShelf {
         mtime: i64,
     ) -> Result<(), ShelfFault> {
         let done = self.finished(top, path, exec, mtime);
-        self.answer(&[top], path.parts().as_slice(), done)
+        self.filled(top, path.parts().as_slice(), done)
     }
 
     #[tactic(auto, using(crate::proofs::FolderLemmas::folding))]
     fn make_link(&mut self, top: &str, path: &RelPath, target: &str) -> Result<(), ShelfFault> {
         let made = self.new_link(top, path, target);
-        self.answer(&[top], path.parts().as_slice(), made)
+        self.filled(top, path.parts().as_slice(), made)
     }
 
     #[tactic(auto, using(crate::proofs::FolderLemmas::folding))]
     fn settle(&mut self, top: &str) -> Result<(), ShelfFault> {
         let done = self.settled(top);
-        self.answer(&[top], &[], done)
+        self.filled(top, &[], done)
     }
 
     #[tactic(auto, using(crate::proofs::FolderLemmas::folding))]
