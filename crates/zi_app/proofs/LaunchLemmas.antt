@@ -75,7 +75,7 @@ launch_quiet file vars user before after outcome l ne = by l.comes
   where
     by : LaunchesTo file vars user before after outcome → after.spawner.ran ≡ before.spawner.ran
     by (inl (gets, leaves)) = ap ran_in leaves.nothing
-    by (inr (sels, gets, inl (none, nothing))) = ap ran_in nothing
+    by (inr (sels, gets, inl (none, keeps, nothing))) = ap ran_in nothing
     by (inr (sels, gets, inr (stored, are, over))) = over_quiet _ (launching before) (launching after) outcome over ne
 
 -- Never Usage.
@@ -116,5 +116,5 @@ launch_right file vars user before after index l = by l.comes
   where
     by : LaunchesTo file vars user before after (Usage index) → ⊥
     by (inl (gets, leaves)) = gets
-    by (inr (sels, gets, inl (none, nothing))) = none
+    by (inr (sels, gets, inl (none, keeps, nothing))) = none
     by (inr (sels, gets, inr (stored, are, over))) = over_right _ (launching before) (launching after) index over

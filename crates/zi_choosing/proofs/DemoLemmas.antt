@@ -166,11 +166,11 @@ pub no_job : (lent : Lent) → CountsOver lent lent Memory
 no_job lent = inl refl
 
 -- the feeds were made, and counted over
-pub demonstrated : (n : ℕ) (made : SureFeeds) (after : Feeding) (old new : Sinking) (outcome : Outcome) → Holds (feeds n) (sure_told made).holds → (sure_told made).asked ≡ []
-    → CountsOver (record { feeds = sure_seen made; out = old }) (record { feeds = after; out = new }) outcome → Demos n old new outcome
-demonstrated n made after old new outcome held unasked counts =
+pub demonstrated : (n : ℕ) (made later : SureFeeds) (old new : Sinking) (outcome : Outcome) → Holds (feeds n) (sure_told made).holds → (sure_told made).asked ≡ []
+    → CountsOver (record { feeds = sure_seen made; out = old }) (record { feeds = sure_seen later; out = new }) outcome → Demos n old new outcome
+demonstrated n made later old new outcome held unasked counts =
     let seen : List (List ℕ) → Feeding = λ asked. record { told = Some (record { holds = (sure_told made).holds; asked = asked }); faults = 0; plan = [] } in
-    inl (record { before = sure_seen made; after = after; made = ((sure_told made).holds, held, ap seen unasked); counts = counts })
+    inl (record { before = sure_seen made; after = sure_seen later; made = ((sure_told made).holds, held, ap seen unasked); sure = refl; counts = counts })
 
 pub undemonstrated : (n : ℕ) (out : Sinking) → Demos n out out Memory
 undemonstrated n out = inr (refl, refl)

@@ -96,6 +96,8 @@ pub record Demonstrates (n : ℕ) (old new : Sinking) (outcome : Outcome) : Type
   pub before : Feeding
   pub after : Feeding
   pub made : AreDemo n before
+  -- they never fail
+  pub sure : after.faults ≡ 0
   pub counts : CountsOver (record { feeds = before; out = old }) (record { feeds = after; out = new }) outcome
 
 -- The best choice of the demonstration of this number is counted; or there was no memory for its feeds, and nothing was written.

@@ -35,7 +35,7 @@ module _ (file : List ℕ) (vars : List Var) (user : List (List ℕ)) (old new w
     web = refl;
     out = refl;
     shelf = names_only_read before after k;
-    comes = inr (sels, g, inl (n, refl));
+    comes = inr (sels, g, inl (n, k, refl));
   }
 
   -- The selections are launched.

@@ -6,7 +6,7 @@ use Rattle.zi_outside.specs.Views.{Feeding, holding}
 use Rattle.zi_outside.specs.Outside.{Asks}
 use Rattle.zi_outside.specs.declared.var.Var.{Var}
 use Rattle.zi_shelf.specs.Shelving.{Shelving}
-use Rattle.zi_store.specs.Keeping.{Keeps, is_reading}
+use Rattle.zi_store.specs.Keeping.{Keeps, is_names, is_reading}
 use Rattle.zi_sels.specs.declared.types.Selections.{Selections}
 use Rattle.zi_sels.specs.Reading.{Says, HasFault}
 use Rattle.zi_outcome.specs.declared.outcome.Outcome.{Outcome}
@@ -54,10 +54,10 @@ pub record Leaves (before after : Surroundings) : Type 0 where
   pub faults : after.shelf.faults ≡ before.shelf.faults
   pub nothing : NothingStarted before after
 
--- Behind the document: the names in the store aren't found out; or over them the selections are launched.
+-- Behind the document: the names in the store aren't found out, and nothing else was asked of it; or over them the selections are launched.
 abbrev pub LaunchesRead : Selections → List Var → List (List ℕ) → Surroundings → Surroundings → Outcome → Type 0
 LaunchesRead sels vars user before after outcome =
-    (HasNoNames before.shelf after.shelf outcome × NothingStarted before after)
+    (HasNoNames before.shelf after.shelf outcome × Keeps is_names before.shelf after.shelf × NothingStarted before after)
     ⊎ ((stored : List DigestName) × AreStored before.shelf stored
     × LaunchesOver (record { sels = sels; stored = names_of stored; vars = vars; user = user }) (launching before) (launching after) outcome)
 
