@@ -1,5 +1,5 @@
-//! Rows of values: versions, platforms, ranks, digests, names, documents, formulas, proofs, and feeds of the demonstration. Reads paragraphs from
-//! standard input, apart by empty lines, and writes each line with its answer behind ` = `, or on lines of its own, each behind `= `:
+//! Rows of values: versions, platforms, ranks, digests, names, documents, formulas, proofs, shims, and feeds of the demonstration. Reads paragraphs
+//! from standard input, apart by empty lines, and writes each line with its answer behind ` = `, or on lines of its own, each behind `= `:
 //! `stdout` is a table of questions with the answers that were worked out by hand or come from elsewhere, and `stdin` has the questions.
 //!
 //! A line has a word and what belongs to it. What it tells (`told`) lasts up to the paragraph's end: start and end tags, a formula. What it
@@ -14,6 +14,7 @@ mod documents;
 mod formulas;
 mod policies;
 mod ranks;
+mod shims;
 mod told;
 mod versions;
 
@@ -65,6 +66,9 @@ fn put_answer(alloc: Global, out: &mut Sheet, word: &str, rest: &str, told: &mut
         "judge" => formulas::put_judged(alloc, out, rest, &told.formula),
         "block" => formulas::put_block(alloc, out, rest, &told.formula),
         "proof" => formulas::put_proof(alloc, out, rest),
+        "shim" => shims::put_text(alloc, out, rest),
+        "said" => shims::put_said(alloc, out, rest),
+        "shim_tree" => shims::put_shim_tree(alloc, out, rest),
         "demonstration" => demonstration::put_feed(alloc, out, rest),
         _ => out.put("no question"),
     }
