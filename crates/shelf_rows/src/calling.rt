@@ -165,7 +165,6 @@ pub(crate) fn put_call<K: Shelf>(
         "bytes" => reading::put_file(alloc, out, rest, shelf),
         "text" => reading::put_text(alloc, out, rest, shelf),
         "stored" => reading::put_stored(alloc, out, shelf),
-        "lookup" => reading::put_found(alloc, out, rest, shelf),
         "step" | "run" => sessions::put_step(alloc, out, word, rest, shelf, sessions),
         "names" => put_names(out, &shelf.names()),
         "root" => out.put(shelf.root()),

@@ -3,7 +3,7 @@
 //! questions with the answers that were worked out by hand, and `stdin` has the questions.
 //!
 //! A line has a word and what belongs to it. What it tells (`telling`) lasts up to the paragraph's end: a tree, node by node; a shelf, one
-//! that fails at planned calls where nothing else is said, or one in a real folder; sessions. What it asks is answered by the module for it. A line that begins
+//! that fails at planned calls where nothing else is said, or one in a real folder; others that are read besides; sessions. What it asks is answered by the module for it. A line that begins
 //! with `#` says what the paragraph shows. In paths and texts `\n`, `\0` and `\xff` stand for these bytes.
 #![tactic(auto)]
 
@@ -15,6 +15,7 @@ mod nodes;
 mod reading;
 mod recorded;
 mod sessions;
+mod several;
 mod telling;
 
 use kept::Kept;
@@ -30,6 +31,7 @@ fn put_told(alloc: Global, out: &mut Sheet, word: &str, rest: &str, told: &mut T
     match word {
         "calls" => recorded::put_calls(out, told.shelf.calls()),
         "count" => recorded::put_count(out, &told.shelf),
+        "others" => recorded::put_others(out, told.others.as_slice()),
         "top" => recorded::put_top(out, rest, &told.shelf),
         "manifest" => manifests::put_manifest(alloc, out, rest, &told.tree),
         "digest" => manifests::put_digest(alloc, out, rest, &told.tree),
@@ -45,9 +47,22 @@ fn put_told(alloc: Global, out: &mut Sheet, word: &str, rest: &str, told: &mut T
     true
 }
 
+/// Adds the answer to what a word asks of the shelf and the others, and says whether it asks such.
+fn put_several(alloc: Global, out: &mut Sheet, word: &str, rest: &str, told: &mut Told) -> bool {
+    let others = told.others.as_mut_slice();
+    match &mut told.shelf {
+        Kept::Planned(shelf) => several::put_several(alloc, out, word, rest, shelf, others),
+        Kept::Sure(shelf) => several::put_several(alloc, out, word, rest, shelf, others),
+        Kept::Real(shelf) => several::put_several(alloc, out, word, rest, shelf, others),
+    }
+}
+
 /// Adds the answer to what a word asks.
 fn put_answer(alloc: Global, out: &mut Sheet, word: &str, rest: &str, told: &mut Told) {
     if put_told(alloc, out, word, rest, told) {
+        return;
+    }
+    if put_several(alloc, out, word, rest, told) {
         return;
     }
     let sessions = &mut told.sessions;

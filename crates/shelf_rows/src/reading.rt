@@ -6,7 +6,7 @@ use zi_digest::DigestName;
 use zi_lines::{Sheet, halves};
 use zi_shelf::{Shelf, ShelfFault};
 use zi_store::{
-    Checked, FileRead, ManifestRead, TreeRead, Verdict, lookup, manifest_of, read_file, read_tree,
+    Checked, FileRead, ManifestRead, TreeRead, Verdict, manifest_of, read_file, read_tree,
     stored_names, verify,
 };
 use zi_text::{List, Memory};
@@ -152,7 +152,7 @@ pub(crate) fn put_written<K: Shelf>(alloc: Global, out: &mut Sheet, row: &str, s
 }
 
 /// Adds the digests, a line each.
-fn put_digests(alloc: Global, out: &mut Sheet, names: &List<DigestName>) {
+pub(crate) fn put_digests(alloc: Global, out: &mut Sheet, names: &List<DigestName>) {
     for name in names.as_slice() {
         out.made(name.text(alloc));
         out.put("\n");
@@ -165,30 +165,4 @@ pub(crate) fn put_stored<K: Shelf>(alloc: Global, out: &mut Sheet, shelf: &mut K
         Ok(names) => put_digests(alloc, out, &names),
         Err(fault) => out.value(&fault),
     }
-}
-
-/// Adds the digests of a row.
-fn take_digests(names: &mut Vec<DigestName>, row: &str) -> Result<(), Memory> {
-    for word in row.split(' ') {
-        if let Some(name) = DigestName::parse(word) {
-            names.push(name)?;
-        }
-    }
-    Ok(())
-}
-
-/// Adds which of some digests is used.
-fn put_used<K: Shelf>(alloc: Global, out: &mut Sheet, names: &[DigestName], shelf: &mut K) {
-    match lookup(alloc, names, shelf) {
-        Ok(Some(name)) => out.made(name.text(alloc)),
-        Ok(None) => out.put("none"),
-        Err(fault) => out.value(&fault),
-    }
-}
-
-/// Adds which of the digests of a row is used.
-pub(crate) fn put_found<K: Shelf>(alloc: Global, out: &mut Sheet, row: &str, shelf: &mut K) {
-    let mut names = Vec::new(alloc);
-    out.needs(take_digests(&mut names, row));
-    put_used(alloc, out, names.as_slice(), shelf);
 }

@@ -1,6 +1,7 @@
 //! What is recorded of a shelf's calls, and what it holds.
 use crate::kept::Kept;
 use zi_lines::Sheet;
+use zi_memory::MemoryShelf;
 use zi_shelf::ShelfCall;
 
 /// Adds a number behind a blank.
@@ -34,6 +35,20 @@ pub(crate) fn put_calls(out: &mut Sheet, calls: &[ShelfCall]) {
 /// Adds the number of calls.
 pub(crate) fn put_count(out: &mut Sheet, shelf: &Kept) {
     out.number(shelf.calls().len() as u64);
+}
+
+/// Adds the calls of each of the others, each behind its number.
+pub(crate) fn put_others(out: &mut Sheet, others: &[MemoryShelf]) {
+    for (number, shelf) in others.iter().enumerate() {
+        for call in shelf.calls().as_slice() {
+            out.number(number as u64 + 1);
+            out.put(" ");
+            put_recorded(out, call);
+        }
+    }
+    if out.is_empty() {
+        out.put("none");
+    }
 }
 
 /// Adds how many entries a top entry has.

@@ -15,6 +15,8 @@ pub(crate) struct Told {
     /// The tree whose nodes are told; `put` and `begin` take it away.
     pub tree: Tree,
     pub shelf: Kept,
+    /// Shelves in memory that are read besides, in their order.
+    pub others: Vec<MemoryShelf>,
     /// Those that began, each up to where it is asked what it is blamed for.
     pub sessions: Vec<Option<Session>>,
     /// Whose sessions begin anew for each crash.
@@ -29,6 +31,7 @@ impl Told {
             rt,
             tree: Tree::new(alloc),
             shelf: Kept::Planned(MemoryShelf::new(alloc)),
+            others: Vec::new(alloc),
             sessions: Vec::new(alloc),
             adders: Vec::new(alloc),
         }
@@ -123,6 +126,30 @@ impl Told {
         self.shelf.fail_at(calls.as_slice())
     }
 
+    /// Takes another shelf, behind those so far: its root.
+    fn take_other(&mut self, alloc: Global, root: &str) -> Result<(), Memory> {
+        Ok(self.others.push(MemoryShelf::with_root(alloc, root)?)?)
+    }
+
+    /// Sets the top entry of this name of the last of the others to the tree.
+    fn put_other(&mut self, alloc: Global, top: &str) -> Result<(), Memory> {
+        let tree = self.taken(alloc);
+        match self.others.last_mut() {
+            Some(shelf) => shelf.place(top, tree),
+            None => Ok(()),
+        }
+    }
+
+    /// Sets the numbers of the calls that fail, of the last of the others.
+    fn fail_other(&mut self, alloc: Global, row: &str) -> Result<(), Memory> {
+        let mut calls = List::new(alloc);
+        take_numbers(&mut calls, row)?;
+        match self.others.last_mut() {
+            Some(shelf) => shelf.fail_at(calls.as_slice()),
+            None => Ok(()),
+        }
+    }
+
     /// Takes a shelf: its form and its root.
     fn take_shelf(&mut self, row: &str) -> Result<(), Memory> {
         let (form, root) = halves(row);
@@ -157,6 +184,23 @@ fn tells_of_tree(alloc: Global, out: &mut Sheet, word: &str, rest: &str, told: &
     true
 }
 
+/// Takes what a line tells of another shelf, and says whether it tells such.
+fn tells_of_others(
+    alloc: Global,
+    out: &mut Sheet,
+    word: &str,
+    rest: &str,
+    told: &mut Told,
+) -> bool {
+    match word {
+        "other" => out.needs(told.take_other(alloc, rest)),
+        "put_other" => out.needs(told.put_other(alloc, rest)),
+        "fails_other" => out.needs(told.fail_other(alloc, rest)),
+        _ => return false,
+    }
+    true
+}
+
 /// Takes what a line tells, and says whether it tells something.
 pub(crate) fn tells(
     alloc: Global,
@@ -165,6 +209,9 @@ pub(crate) fn tells(
     rest: &str,
     told: &mut Told,
 ) -> bool {
+    if tells_of_others(alloc, out, word, rest, told) {
+        return true;
+    }
     match word {
         "#" => {}
         "shelf" => out.needs(told.take_shelf(rest)),

@@ -17,3 +17,5 @@ pub mod KeptLemmas
 pub mod VerdictLemmas
 pub mod FileLemmas
 pub mod FolderLemmas
+pub mod StoresLemmas
+pub mod DedupLemmas

@@ -12,3 +12,5 @@ pub mod Written
 pub mod ManifestAnswers
 pub mod Kept
 pub mod KeptNames
+pub mod Stores
+pub mod Finding

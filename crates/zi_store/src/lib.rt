@@ -4,7 +4,8 @@
 //!
 //! Each public call stands on the shelf's calls that read (`calls`), each wrapped with three facts: what it answers, what it
 //! leaves of the shelf (`Keeps` in specs/Keeping.antt, put together call by call), and when the count of faults rises.
-//! `names` has `stored_names` and `lookup`: the names are sorted once, and a digest is looked up by halves.
+//! `names` has `stored_names`, which sorts the names once; `stores` asks several stores, each once, and `finding` says which of
+//! them has which digest: one value, the names store by store, is what all of this is said of.
 //!
 //! A tree is read folder by folder (`trees`): `listings` gives the entries of a folder in byte order, `bytes` the bytes of a
 //! file in pieces, and never more than one past the limit; the counts (`counts`) are within their limits by their type.
@@ -15,9 +16,9 @@
 //! its line. `verdicts` hashes the manifest, `checked` keeps the names that were found sound, `files` finds one file by
 //! listing the folders on the way, `stop` is why a walk ends early.
 //!
-//! Definitions: Standing.antt (what an honest shelf that tells it has at a path), Walking.antt (a tree entry by entry, and
-//! the first limit passed there), then the answers: Stored.antt, TreeAnswers.antt, ManifestAnswers.antt, FileAnswers.antt,
-//! Verdicts.antt. In the proofs a loop over entries keeps a split of the folder into those so far and the rest (LoopLemmas),
+//! Definitions: Standing.antt (what an honest shelf that tells it has at a path), Stores.antt (what is seen of several stores),
+//! Walking.antt (a tree entry by entry, and the first limit passed there), then the answers: Stored.antt, Finding.antt,
+//! TreeAnswers.antt, ManifestAnswers.antt, FileAnswers.antt, Verdicts.antt. In the proofs a loop over entries keeps a split of the folder into those so far and the rest (LoopLemmas),
 //! and a walk over some entries followed by others is one walk (WalkLemmas, WritingLemmas).
 #![tactic(auto)]
 
@@ -27,6 +28,7 @@ mod checked;
 mod counts;
 mod difference;
 mod files;
+mod finding;
 mod folder;
 mod leaves;
 mod listings;
@@ -34,6 +36,7 @@ mod manifests;
 mod names;
 mod pieces;
 mod stop;
+mod stores;
 mod trees;
 mod verdicts;
 mod written;
@@ -42,6 +45,8 @@ pub use checked::Checked;
 pub use difference::first_difference;
 pub use files::{FileRead, read_file};
 pub use manifests::{ManifestRead, manifest_of};
-pub use names::{lookup, stored_names};
+pub use finding::find;
+pub use names::stored_names;
+pub use stores::{Found, all_of, names_of_each, stored_in};
 pub use trees::{TreeRead, read_tree};
 pub use verdicts::{Verdict, verify};

@@ -1,16 +1,17 @@
 //! The digest names among the names of a shelf.
 
-ghost use Rattle.std.specs.Prelude.{◌≡◌, filter, IfOk, Ok, Err, Some, IsSorted};
+ghost use Rattle.std.specs.Prelude.{◌≡◌, true, ◌↔◌, map, IfOk, Ok, Err, Some, IsSorted};
 ghost use Rattle.std.specs.Ordering.{nat_cmp};
 ghost use Rattle.std.specs.Cmp.Lexicographic.{slice_cmp};
-ghost use Rattle.std.specs.List.{find};
-ghost use Rattle.zi_digest.specs.Name.{spelling};
+ghost use Rattle.zi_digest.specs.Name.{spelling, IsDigest};
+ghost use Rattle.zi_digest.specs.declared.DigestName.{DigestName as Name};
 ghost use Rattle.zi_text.specs.Count.{Rose};
+ghost use Rattle.zi_shelf.specs.Names.{IsIn};
 ghost use Rattle.zi_shelf.specs.Told.{Told};
 ghost use Rattle.zi_shelf.specs.Reading.{NamesAnswer};
 ghost use Rattle.zi_store.specs.Keeping.{Keeps, is_names};
-ghost use Rattle.zi_store.specs.Rising.{is_among};
-ghost use Rattle.zi_store.specs.Stored.{NamesStored, FirstStored, is_of};
+ghost use Rattle.zi_store.specs.Rising.{rises};
+ghost use Rattle.zi_store.specs.Stored.{NamesStored, is_of};
 
 use crate::calls::ask_names;
 use std::alloc::Global;
@@ -29,69 +30,28 @@ pub fn stored_names<K: Shelf>(alloc: Global, k: &mut K) -> Result<List<DigestNam
     ensures count { (result ≡ Err ShelfFault.Failed → ⊥) → (K.seen k.new).faults ≡ (K.seen k.old).faults }
     ensures sure { (K.seen k.old).sure → result ≡ Err ShelfFault.Failed → ⊥ }
 {
-    spelling_is_one_to_one();
     let names = sorted_names(k)?;
-    let mut stored = List::new(alloc);
-    for name in names.as_slice() {
-        if let Some(digest) = DigestName::parse(name.as_str()) {
-            stored.push(digest)?;
-        }
-    }
+    let stored = digests_of(alloc, names.as_slice())?;
     Ok(stored)
 }
 
-/// The first of these digests, in the order of use, under whose spelling a tree is stored: those of SHA-256 in base 32 come
-/// first, then those of SHA-256 in hexadecimal, then those of SHA-1. None exactly where none is stored. It calls `names` alone.
-///
-/// Failed comes only where the shelf's count of faults rose, Memory where memory is refused.
-pub fn lookup<K: Shelf>(
-    alloc: Global,
-    digests: &[DigestName],
-    k: &mut K,
-) -> Result<Option<DigestName>, ShelfFault>
-    ensures first { (s : Told) → (K.seen k.old).honest → (K.seen k.old).told ≡ Some s → FirstStored digests.now result s.shelf }
-    ensures keeps { Keeps is_names (K.seen k.old) (K.seen k.new) }
-    ensures cause { result ≡ Err ShelfFault.Failed → Rose ((K.seen k.old).faults) ((K.seen k.new).faults) }
-    ensures count { (result ≡ Err ShelfFault.Failed → ⊥) → (K.seen k.new).faults ≡ (K.seen k.old).faults }
-    ensures sure { (K.seen k.old).sure → result ≡ Err ShelfFault.Failed → ⊥ }
+/// The digests that are spelled by these names, in their order.
+pub(crate) fn digests_of(alloc: Global, names: &[Text]) -> Result<List<DigestName>, Memory>
+    ensures rising { IfOk result (λ ds. rises names.now ≡ true → rises (map spelling ds) ≡ true) }
+    ensures all { IfOk result (λ ds. (n : Name) → IsIn n ds ↔ (IsDigest n × IsIn (spelling n) names.now)) }
 {
-    let names = sorted_names(k)?;
-    let names = names.as_slice();
-    let found = first_of(alloc, digests, Algorithm::Sha256new, names)?;
-    if found.is_some() {
-        return Ok(found);
-    }
-    let found = first_of(alloc, digests, Algorithm::Sha256, names)?;
-    if found.is_some() {
-        return Ok(found);
-    }
-    let found = first_of(alloc, digests, Algorithm::Sha1new, names)?;
-    Ok(found)
-}
-
-/// The first of the digests of this algorithm whose spelling is among these names.
-fn first_of(
-    alloc: Global,
-    digests: &[DigestName],
-    algorithm: Algorithm,
-    names: &[Text],
-) -> Result<Option<DigestName>, Memory>
-    requires { IsSorted (slice_cmp nat_cmp) names.now }
-    ensures { IfOk result (λ found. found ≡ find (λ d. is_among names.now (spelling d)) (filter (λ d. is_of algorithm d) digests.now)) }
-{
-    for digest in digests {
-        if is_of(digest, algorithm) {
-            let text = digest.text(alloc)?;
-            if has(names, &text) {
-                return Ok(Some(*digest));
-            }
+    spelling_is_one_to_one();
+    let mut digests = List::new(alloc);
+    for name in names {
+        if let Some(digest) = DigestName::parse(name.as_str()) {
+            digests.push(digest)?;
         }
     }
-    Ok(None)
+    Ok(digests)
 }
 
 /// Whether a digest is of this algorithm.
-fn is_of(digest: &DigestName, algorithm: Algorithm) -> bool
+pub(crate) fn is_of(digest: &DigestName, algorithm: Algorithm) -> bool
     ensures { result ≡ is_of algorithm digest.now }
 {
     match (algorithm, digest) {
@@ -100,14 +60,6 @@ fn is_of(digest: &DigestName, algorithm: Algorithm) -> bool
         (Algorithm::Sha256new, DigestName::Sha256new(_)) => true,
         _ => false,
     }
-}
-
-/// Whether a text is among sorted names.
-fn has(names: &[Text], text: &Text) -> bool
-    requires { IsSorted (slice_cmp nat_cmp) names.now }
-    ensures { result ≡ is_among names.now text.now }
-{
-    names.binary_search(text).is_ok()
 }
 
 /// The names of all top entries, in byte order.
