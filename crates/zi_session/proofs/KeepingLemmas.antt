@@ -137,7 +137,7 @@ fits_on works name p Exists call step f g m says h = fits_by p (next_phase 10000
 fits_on works name p Failed call step f g m says h = fits_as step (SaysFault (named p)) f g says (h.failed refl)
 fits_on works name p Memory call step f g m says h = fits_as step SaysMemory f g says (h.memory refl)
 
-stays_same : (seen : Shelving) → Stays seen seen
+pub stays_same : (seen : Shelving) → Stays seen seen
 stays_same seen = record { honest = λ h. h; sure = λ h. h; in_memory = λ h. h; root = refl; plan = refl }
 
 stays_on : (first mid last : Shelving) → Stays first mid → Stays mid last → Stays first last
@@ -152,7 +152,7 @@ stays_on first mid last a b = record {
 later_on : (a b c : ℕ) → a ≤ b → b ≤ c → a ≤ c
 later_on a b c p q = omega arith
 
-not_later : (a : ℕ) → a ≤ a
+pub not_later : (a : ℕ) → a ≤ a
 not_later a = omega arith
 
 -- what is kept of the shelf
@@ -191,7 +191,7 @@ keeps_on x y z first mid last step a b name works own = record {
 }
 
 -- a call that isn't made for want of memory is as one with the reply Memory
-no_call : (seen : Shelving) (call : Call Work) → Does seen call Memory seen
+pub no_call : (seen : Shelving) (call : Call Work) → Does seen call Memory seen
 no_call seen call = record {
   leads = λ s honest told. (s, told, record { answers = refl; calls = refl });
   cause = record { later = not_later seen.faults; failed = λ e. absurd (cc e); did = λ e. refl; exists = λ e. refl; memory = λ e. refl };

@@ -7,9 +7,11 @@ pub mod PlaceLemmas
 pub mod PieceLemmas
 pub mod BeginLemmas
 pub mod MapsLemmas
+pub mod PendingLemmas
 pub mod MovingLemmas
 pub mod CallsLemmas
 pub mod CrashLemmas
+pub mod AddersLemmas
 pub mod KeptLemmas
 pub mod TiedLemmas
 pub mod RunLemmas

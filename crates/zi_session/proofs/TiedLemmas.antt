@@ -56,7 +56,7 @@ builds x y n (whole, free, (d, spelled, has, is)) m =
     let as_was : as_read (with_manifest x (manifest (algorithm_in n) x)) ≡ as_read x = r.read ∙ sym (read_free x free) in
     subst (λ z. IsNamed z n) same (d, spelled, ap first_bad as_was ∙ has, r.digest (algorithm_of d) ∙ is)
 
-lawful : IsLawful rules
+pub lawful : IsLawful rules
 lawful = record {
   tmp_free = λ n is. no_tmp is.0 n is.2;
   tmp_apart = names_differ;

@@ -5,6 +5,7 @@ pub mod StoreWorks
 pub mod Machine
 pub mod Law
 pub mod Invariant
+pub mod Beside
 pub mod Phases
 pub mod Standing
 pub mod Stepping

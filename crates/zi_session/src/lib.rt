@@ -20,19 +20,25 @@
 //!
 //! The machine of many adders stands in specs/Machine.antt: phases, the next call of a phase, the phase after a reply, the
 //! events (an adder begins, makes its next call, stops; a crash, also within a call: before it, with the entry that it
-//! touches unmarked, or after it). The invariant (`Inv`): the store is sound; each pending rename is from a temporary name to
-//! a digest name that is there, each pending removal of a temporary name; each running adder whose entry was made holds,
-//! under a temporary name that no other running adder owns, exactly the part of its tree that its phase says, with the mark
-//! once it was settled; and an adder whose rename was answered has its name there. Read it with Law.antt (what holds after
-//! every list of events), Invariant.antt, and StoreRules.antt (the store's own names and trees). What is seen of a session is
-//! one record (Standing.antt), and `step` relates that and the shelf's before and after (Stepping.antt), so no list of adders
-//! is in the code: the law `laws::step_is_event` carries a step to every list of adders in which the session stands for one,
-//! and the clause `keeps` of `step` and `run` says of every such list that the invariant is kept (Keeping.antt, Tie.antt).
+//! touches unmarked, or after it; a call that makes an entry touches none). The invariant (`Inv`): the store is sound; each
+//! pending rename is from a temporary name to a digest name that is there, each pending removal of a temporary name; each
+//! running adder whose entry was made holds, under a temporary name that no other running adder owns, exactly the part of its
+//! tree that its phase says, with the mark once it was settled; and an adder whose rename was answered has its name there.
+//! Read it with Law.antt (what holds after every list of events), Invariant.antt, and StoreRules.antt (the store's own names
+//! and trees). What is seen of a session is one record (Standing.antt), and `step` relates that and the shelf's before and
+//! after (Stepping.antt), so no list of adders is in the code: the law `laws::step_is_event` carries a step to every list of
+//! adders in which the session stands for one, and the clause `keeps` of `step` and `run` says of every such list that the
+//! invariant is kept (Keeping.antt, Tie.antt).
+//!
+//! Somebody may take names away beside the adders. What an adder's calls keep is proved once, for any names that are being
+//! purged (Beside.antt): of those nothing is promised, and what a crash may bring back under one of them is there, whole. The
+//! machine of adders is the case in which none is.
 //!
 //! The proof of the law: one call moves only the entry that its adder owns, or makes, renames or removes it (CallsLemmas), so
-//! the other adders' entries stay (MovingLemmas); what a crash leaves under a digest name stood there (CrashLemmas); every
-//! event keeps the invariant (KeptLemmas), and the store's own rules are lawful (TiedLemmas). That the calls rebuild the tree
-//! goes by the entries that they place (Placing, Runs, Remade).
+//! the other adders' entries stay (MovingLemmas), and what a crash may bring back stays as it must be (PendingLemmas); what a
+//! crash leaves under a digest name stood there, or is whole and being purged (CrashLemmas); every event of an adder keeps
+//! what is said of the adders (AddersLemmas), and so the invariant (KeptLemmas); the store's own rules are lawful
+//! (TiedLemmas). That the calls rebuild the tree goes by the entries that they place (Placing, Runs, Remade).
 #![tactic(auto)]
 
 pub mod alone_laws;
