@@ -164,10 +164,11 @@ def wrong_ends(folder):
 
 def wrong_in_shells(folder, lists):
     for shell in SHELLS:
-        if shell and not shutil.which(shell[0]):
+        found = [shutil.which(word) for word in shell[:1]]
+        if None in found:
             print(f"skipped: {shell[0]} isn't installed")
             continue
-        wrong = [what for number, words in enumerate(lists) if (what := wrong_in_running(folder, shell, number, words))]
+        wrong = [what for number, words in enumerate(lists) if (what := wrong_in_running(folder, found + shell[1:], number, words))]
         print(f"{' '.join(shell) or 'by itself'}: {len(lists)} shims, {len(wrong)} wrong")
         yield from wrong
 
