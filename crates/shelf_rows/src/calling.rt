@@ -1,8 +1,9 @@
 //! What each call of a shelf answers.
 use crate::nodes::path_of;
-use crate::{reading, sessions};
+use crate::{purges, reading, sessions};
 use std::alloc::Global;
 use zi_lines::{Sheet, halves};
+use zi_purge::Purge;
 use zi_session::Session;
 use zi_shelf::{Entry, EntryKind, Listed, Shelf, ShelfFault};
 use zi_text::{List, Memory, Text};
@@ -139,7 +140,7 @@ fn put_on_path<K: Shelf>(alloc: Global, out: &mut Sheet, word: &str, row: &str, 
     }
 }
 
-/// Adds the answer to what a word asks of a shelf, by itself, as a store, or as sessions do.
+/// Adds the answer to what a word asks of a shelf, by itself, as a store, or as sessions or a purger do.
 pub(crate) fn put_call<K: Shelf>(
     alloc: Global,
     out: &mut Sheet,
@@ -147,6 +148,7 @@ pub(crate) fn put_call<K: Shelf>(
     rest: &str,
     shelf: &mut K,
     sessions: &mut Vec<Option<Session>>,
+    purge: &mut Option<Purge>,
 ) {
     match word {
         "entries"
@@ -166,6 +168,7 @@ pub(crate) fn put_call<K: Shelf>(
         "text" => reading::put_text(alloc, out, rest, shelf),
         "stored" => reading::put_stored(alloc, out, shelf),
         "step" | "run" => sessions::put_step(alloc, out, word, rest, shelf, sessions),
+        "purge" => purges::put_purge(alloc, out, shelf, purge),
         "names" => put_names(out, &shelf.names()),
         "root" => out.put(shelf.root()),
         _ => {

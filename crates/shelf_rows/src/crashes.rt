@@ -33,7 +33,7 @@ fn take_file(alloc: Global, tree: &mut Tree, text: &str) -> Result<(), Memory> {
 }
 
 /// A session of an adder, who is told as a digest name and the bytes of a file; a wrong name is taken for want of memory.
-fn begun(alloc: Global, adder: &str) -> Result<Session, Memory> {
+pub(crate) fn begun(alloc: Global, adder: &str) -> Result<Session, Memory> {
     let (name, text) = halves(adder);
     let mut tree = Tree::new(alloc);
     take_file(alloc, &mut tree, text)?;
@@ -90,7 +90,7 @@ fn put_other(out: &mut Sheet, names: &[Text]) {
 }
 
 /// Adds the names of a shelf that aren't digests.
-fn put_others(out: &mut Sheet, shelf: &mut MemoryShelf) {
+pub(crate) fn put_others(out: &mut Sheet, shelf: &mut MemoryShelf) {
     match shelf.names() {
         Ok(names) => put_other(out, names.as_slice()),
         Err(_fault) => out.lose(),

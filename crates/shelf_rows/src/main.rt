@@ -1,9 +1,10 @@
-//! Rows of shelves: their calls, what is read of a store on them, sessions that add to it, manifests. Reads paragraphs from standard input, apart
+//! Rows of shelves: their calls, what is read of a store on them, sessions that add to it and purgers, manifests. Reads paragraphs from standard input, apart
 //! by empty lines, and writes each line with its answer behind ` = `, or on lines of its own, each behind `= `: `stdout` is a table of
 //! questions with the answers that were worked out by hand, and `stdin` has the questions.
 //!
 //! A line has a word and what belongs to it. What it tells (`telling`) lasts up to the paragraph's end: a tree, node by node; a shelf, one
-//! that fails at planned calls where nothing else is said, or one in a real folder; others that are read besides; sessions. What it asks is answered by the module for it. A line that begins
+//! that fails at planned calls where nothing else is said, or one in a real folder; others that are read besides; sessions; a purger. What it
+//! asks is answered by the module for it. A line that begins
 //! with `#` says what the paragraph shows. In paths and texts `\n`, `\0` and `\xff` stand for these bytes.
 #![tactic(auto)]
 
@@ -12,6 +13,7 @@ mod crashes;
 mod kept;
 mod manifests;
 mod nodes;
+mod purges;
 mod reading;
 mod recorded;
 mod sessions;
@@ -41,6 +43,8 @@ fn put_told(alloc: Global, out: &mut Sheet, word: &str, rest: &str, told: &mut T
         "begin" => sessions::put_begun(alloc, out, rest, told),
         "residue" => sessions::put_residue(out, rest, told),
         "crashes" => crashes::put_crashes(alloc, out, rest, told.adders.as_slice()),
+        "purging" => purges::put_purging(alloc, out, rest, told),
+        "purge_crashes" => purges::put_crashes(alloc, out, rest, told.adders.as_slice()),
         "blamed" => sessions::put_blamed(alloc, out, rest, told),
         _ => return false,
     }
@@ -66,10 +70,11 @@ fn put_answer(alloc: Global, out: &mut Sheet, word: &str, rest: &str, told: &mut
         return;
     }
     let sessions = &mut told.sessions;
+    let purge = &mut told.purge;
     match &mut told.shelf {
-        Kept::Planned(shelf) => calling::put_call(alloc, out, word, rest, shelf, sessions),
-        Kept::Sure(shelf) => calling::put_call(alloc, out, word, rest, shelf, sessions),
-        Kept::Real(shelf) => calling::put_call(alloc, out, word, rest, shelf, sessions),
+        Kept::Planned(shelf) => calling::put_call(alloc, out, word, rest, shelf, sessions, purge),
+        Kept::Sure(shelf) => calling::put_call(alloc, out, word, rest, shelf, sessions, purge),
+        Kept::Real(shelf) => calling::put_call(alloc, out, word, rest, shelf, sessions, purge),
     }
 }
 

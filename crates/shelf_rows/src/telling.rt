@@ -4,6 +4,7 @@ use crate::nodes::{path_of, put_bytes};
 use std::alloc::Global;
 use zi_lines::{Sheet, halves, take_numbers};
 use zi_memory::MemoryShelf;
+use zi_purge::Purge;
 use zi_session::Session;
 use zi_text::{Bytes, List, Memory, Text};
 use zi_tree::{RelPath, Tree, TreeNode};
@@ -19,12 +20,14 @@ pub(crate) struct Told {
     pub others: Vec<MemoryShelf>,
     /// Those that began, each up to where it is asked what it is blamed for.
     pub sessions: Vec<Option<Session>>,
+    /// The purger that began last.
+    pub purge: Option<Purge>,
     /// Whose sessions begin anew for each crash.
     pub adders: Vec<Text>,
 }
 
 impl Told {
-    /// An empty tree, an empty shelf, no session.
+    /// An empty tree, an empty shelf, no session and no purger.
     pub(crate) fn new(rt: HostRuntime) -> Told {
         let alloc = rt.alloc();
         Told {
@@ -33,6 +36,7 @@ impl Told {
             shelf: Kept::Planned(MemoryShelf::new(alloc)),
             others: Vec::new(alloc),
             sessions: Vec::new(alloc),
+            purge: None,
             adders: Vec::new(alloc),
         }
     }

@@ -1,0 +1,9 @@
+pub mod Machine
+pub mod Law
+pub mod Invariant
+pub mod Phases
+pub mod Stepping
+pub mod Tie
+pub mod StoreLaws
+pub mod Keeping
+pub mod Counting
