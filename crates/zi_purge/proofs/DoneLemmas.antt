@@ -1,18 +1,18 @@
 -- Once the purger answered Done its names are gone, but for those that an adder has renamed to since.
-use Rattle.std.proofs.Common.{◌≡◌, ℕ, zero, suc, ◌+◌, ◌<◌, ◌≤◌, Bool, true, false, List, [], ◌∷◌, ◌++◌, map, length, Option, Some, None, option_map, ◌⊎◌, inl, inr, refl, sym, ◌∙◌, ap, subst, IsSome, slice_get, slice_set, if◌then◌else◌, nat_lt, arith}
+use Rattle.std.proofs.Common.{◌≡◌, ℕ, suc, ◌+◌, ◌<◌, ◌≤◌, true, false, List, [], ◌∷◌, ◌++◌, length, Option, Some, None, option_map, ◌⊎◌, inl, inr, refl, sym, ◌∙◌, ap, subst, IsSome, slice_get, if◌then◌else◌, nat_lt, arith}
 use Rattle.std.proofs.lemmas.Bool.{lt-ltb, ltb-true}
 use Rattle.std.proofs.lemmas.Option.{slice_get_within}
 use Rattle.std.proofs.lemmas.List.{append_assoc}
 use Rattle.zi_shelf.specs.Names.{Name, IsIn}
-use Rattle.zi_shelf.specs.Shelved.{Top, Shelved, Call, Rename, SettleTop, RemoveTop, Reply, Did, Exists, Failed, Memory, Answers}
+use Rattle.zi_shelf.specs.Shelved.{Top, Shelved, Rename, SettleTop, Reply, Did, Exists, Failed, Memory, Answers}
 use Rattle.zi_session.specs.Machine.{Rules, Adder, World}
 use Rattle.zi_session.specs.Machine as adding
 use Rattle.zi_session.specs.Law.{IsLawful}
 use Rattle.zi_session.proofs.MapsLemmas.{some_none}
 use Rattle.zi_session.proofs.CallsLemmas.{not_lt}
 use Rattle.zi_text.proofs.ListLaws.{some_is, some_of}
-use Rattle.zi_purge.specs.Machine.{Purger, Phase, Moving, Sealing, Clearing, Closing, Ended, Stopped, Done, Crowded, Fault, moving, names, purged, begun, next_call, next_phase, halted, stopped, Shared, Event, Adding, Purging, Purge, Halt, Crash, CrashIn, CrashInPurge, Purges, Crashes, Leads, Runs, is_crash}
-use Rattle.zi_purge.specs.Law.{IsStart, Moment, TakesAway, Brings, Finishes, HasPurged, HasFinished, IsDoneLaw}
+use Rattle.zi_purge.specs.Machine.{Purger, Phase, Moving, Sealing, Clearing, Closing, Ended, Stopped, Done, Crowded, Fault, moving, names, purged, begun, next_call, next_phase, halted, stopped, Shared, Event, Adding, Purging, Purge, Halt, Crash, CrashIn, CrashInPurge, Purges, Leads, Runs, is_crash}
+use Rattle.zi_purge.specs.Law.{Moment, TakesAway, Brings, Finishes, IsDoneLaw}
 use Rattle.zi_session.specs.Beside.{IsSealed, PendingFits}
 use Rattle.zi_session.proofs.PendingLemmas.{sealed_fresh}
 use Rattle.zi_session.proofs.AddersLemmas.{moved_by}

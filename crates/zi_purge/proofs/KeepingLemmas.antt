@@ -1,11 +1,11 @@
 -- A step keeps the invariant of the machine and what else it owes the shelf.
-use Rattle.std.proofs.Common.{◌≡◌, ◌≤◌, ◌+◌, ℕ, nat_lt, true, false, if◌then◌else◌, List, length, Some, refl, sym, ap, subst, slice_get, arith}
+use Rattle.std.proofs.Common.{◌≡◌, ◌+◌, ℕ, nat_lt, true, false, if◌then◌else◌, List, length, Some, refl, sym, ap, subst, slice_get}
 use Rattle.zi_tree.specs.Dir.{Dir}
 use Rattle.zi_shelf.specs.Names.{Name}
-use Rattle.zi_shelf.specs.Shelved.{Shelved, Call, Rename, SettleTop, RemoveTop, Reply, Did, Exists, Failed, Memory, Fits}
+use Rattle.zi_shelf.specs.Shelved.{Shelved, Call, SettleTop, RemoveTop, Reply, Did, Exists, Failed, Memory, Fits}
 use Rattle.zi_shelf.specs.Filling.{Work, trees}
-use Rattle.zi_shelf.specs.Told.{Told, HasCause}
-use Rattle.zi_shelf.specs.Shelving.{Shelving, Does}
+use Rattle.zi_shelf.specs.Told.{HasCause}
+use Rattle.zi_shelf.specs.Shelving.{Shelving}
 use Rattle.zi_session.specs.Phases.{tmp_name}
 use Rattle.zi_session.proofs.KeepingLemmas.{not_later, stays_same}
 use Rattle.zi_purge.specs.Machine.{Purger, Phase, Moving, Sealing, Clearing, Closing, Ended, Stopped, Done, Crowded, Fault, moving, next_call, next_phase}
@@ -14,6 +14,7 @@ use Rattle.zi_purge.specs.Keeping.{IsShared, KeepsInvariant, CountFits, IsAsLeft
 use Rattle.zi_purge.specs.declared.step.PurgeStep.{PurgeStep}
 use Rattle.zi_purge.specs.declared.step.PurgeStep.TheVariants.{More, Done as SaysDone, Crowded as SaysCrowded, Fault as SaysFault, Memory as SaysMemory}
 use Rattle.zi_purge.proofs.PurgingLemmas.{rename_is}
+use Rattle.zi_purge.proofs.AloneLemmas.{alone_on, alone_as_left}
 use Rattle.zi_purge.proofs.StoreLemmas.{step_keeps as keeps}
 
 abbrev in_phase : Purger → Phase → Purger
@@ -31,7 +32,7 @@ step_sound : (x y : Standing) (before after : Shelving) (step : PurgeStep) → I
 step_sound x y before after step c = record {
   keeps = λ adders p shared stands.
       let l = c.does.leads shared.now shared.honest shared.tells in
-      let told : Calls x shared.now step y l.0 = record { call = c.call; next = c.next; reply = c.reply; does = l.2; goes = c.goes; says = c.says } in
+      let told : Calls x shared.now step y l.0 = record { call = c.call; next = c.next; reply = c.reply; replies = c.replies; does = l.2; goes = c.goes; says = c.says } in
       record {
         honest = c.does.stays.honest shared.honest;
         now = l.0;
@@ -106,6 +107,10 @@ step_keeps x y before after step c = record {
   cause = fits_on x.names x.phase c.reply c.call step before.faults after.faults c.next (subst (λ (z : Standing). SaysOn x.phase c.reply z.phase step) c.goes c.says) c.does.cause;
   later = c.does.cause.later;
   no_rise = λ s sure told left. (c.does.no_rise sure).no_rise s told (next_call_fits x.names x.phase s.shelf c.call c.next left);
+  alone = λ start a.
+      let l = c.does.leads a.now a.honest a.tells in
+      record { honest = c.does.stays.honest a.honest; now = l.0; tells = l.1; works = alone_on start a.now.shelf l.0.shelf x y c.call c.reply c.next l.2.answers c.goes a.works };
+  no_fault = λ start a sure. (c.does.no_rise sure).no_rise a.now a.tells (next_call_fits x.names x.phase a.now.shelf c.call c.next (alone_as_left start a.now.shelf x a.works));
   stays = c.does.stays;
 }
 
@@ -116,5 +121,7 @@ none_keeps x seen step fits = record {
   cause = fits;
   later = not_later seen.faults;
   no_rise = λ s sure told left. refl;
+  alone = λ start a. a;
+  no_fault = λ start a sure. refl;
   stays = stays_same seen;
 }

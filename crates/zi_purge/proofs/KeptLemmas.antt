@@ -1,24 +1,24 @@
 -- Every event keeps the invariant, and the law follows.
-use Rattle.std.proofs.Common.{◌≡◌, ℕ, zero, suc, ◌+◌, ◌<◌, ◌≤◌, Bool, true, false, not, List, [], ◌∷◌, ◌++◌, filter, map, length, Option, Some, None, option_map, ◌⊎◌, inl, inr, refl, sym, ◌∙◌, ap, subst, IsSome, slice_get, slice_set, if◌then◌else◌, nat_lt, cond}
+use Rattle.std.proofs.Common.{◌≡◌, ℕ, ◌<◌, Bool, true, false, not, List, [], ◌∷◌, ◌++◌, filter, map, length, Option, Some, None, option_map, ◌⊎◌, inl, inr, refl, sym, ◌∙◌, ap, subst, slice_get, slice_set, if◌then◌else◌, nat_lt}
 use Rattle.zi_shelf.specs.Names.{Name, IsIn}
-use Rattle.zi_shelf.specs.Shelved.{Top, Pending, Renamed, Shelved, Call, MakeTop, Settle, Rename, SettleTop, RemoveTop}
+use Rattle.zi_shelf.specs.Shelved.{Top, Renamed, Shelved, Call, Rename, SettleTop, RemoveTop}
 use Rattle.zi_store.specs.Rising.{is_among}
 use Rattle.zi_session.specs.Machine.{Rules, Adder, World, touched}
 use Rattle.zi_session.specs.Machine as adding
-use Rattle.zi_session.specs.Law.{IsLawful, IsSound, IsQuiet, HasAdded}
+use Rattle.zi_session.specs.Law.{IsLawful}
 use Rattle.zi_session.specs.Invariant.{owned}
-use Rattle.zi_session.specs.Beside.{lasting, IsFresh, IsSealed, PendingFits, PhaseFits, AdderFits, AddersFit}
+use Rattle.zi_session.specs.Beside.{lasting, IsFresh, IsSealed, PendingFits, PhaseFits, AddersFit}
 use Rattle.zi_session.proofs.MapsLemmas.{get_after_set, get_after_push}
 use Rattle.zi_session.proofs.PendingLemmas.{sealed_fresh, emptied}
 use Rattle.zi_session.proofs.CrashLemmas.{Survives, survives}
 use Rattle.zi_session.proofs.AddersLemmas.{moved_by, step_fits, first, begin_fits, no_owner, owner_of, stop_fits, none_pending, crash_fits, touched_fresh, survives_in, added_there, adding_there}
-use Rattle.zi_purge.specs.Machine.{Purger, Phase, Moving, Sealing, Clearing, Closing, Ended, Stopped, Done, Crowded, Fault, moving, names, purged, begun, next_call, next_phase, rename_call, halted, stopped, AreApart, AreThere, Shared, Event, Adding, Purging, Purge, Halt, Crash, CrashIn, CrashInPurge, Purges, Crashes, Leads, Runs, is_crash}
+use Rattle.zi_purge.specs.Machine.{Purger, Phase, Moving, Sealing, Clearing, Closing, Ended, Stopped, Done, Crowded, Fault, names, purged, begun, next_call, next_phase, rename_call, halted, stopped, AreApart, AreThere, Shared, Event, Adding, Purging, Purge, Halt, Crash, CrashIn, CrashInPurge, Purges, Crashes, Leads, Runs, is_crash}
 use Rattle.zi_purge.specs.Law.{IsPurged, Lasts, IsStart, KeepsOver, IsLaw}
-use Rattle.zi_purge.specs.Invariant.{IsUnowned, Holds, AreLeft, PurgePhaseFits, PurgerFits, PurgingFits, Inv, IsKept}
+use Rattle.zi_purge.specs.Invariant.{IsUnowned, PurgePhaseFits, PurgerFits, PurgingFits, Inv, IsKept}
 use Rattle.zi_purge.proofs.PurgingLemmas.{Took, took, beside, purger_stays, is_member}
 
 -- the names to be purged are among those that were there
-in_filter : (test : Name → Bool) (x : Name) (xs : List Name) → IsIn x (filter test xs) → IsIn x xs
+pub in_filter : (test : Name → Bool) (x : Name) (xs : List Name) → IsIn x (filter test xs) → IsIn x xs
 in_filter test x [] i = i
 in_filter test x (y ∷ ys) i =
     elim (test y) as (λ b. IsIn x (if b then y ∷ filter test ys else filter test ys) → IsIn x (y ∷ ys)) [
@@ -26,7 +26,7 @@ in_filter test x (y ∷ ys) i =
       | false ↦ λ j. inr (in_filter test x ys j)
     ] i
 
-apart_filter : (test : Name → Bool) (xs : List Name) → AreApart xs → AreApart (filter test xs)
+pub apart_filter : (test : Name → Bool) (xs : List Name) → AreApart xs → AreApart (filter test xs)
 apart_filter test [] a = tt
 apart_filter test (y ∷ ys) a =
     elim (test y) as (λ b. AreApart (if b then y ∷ filter test ys else filter test ys)) [

@@ -4,5 +4,7 @@ pub mod DoneLemmas
 pub mod TieLemmas
 pub mod StepLemmas
 pub mod StoreLemmas
+pub mod ProgressLemmas
+pub mod AloneLemmas
 pub mod KeepingLemmas
 pub mod CountingLemmas

@@ -1,20 +1,19 @@
 -- Each call of a purger, with each reply, and what a call of an adder leaves of the purger's.
-use Rattle.std.proofs.Common.{◌≡◌, ◌≢◌, ℕ, zero, suc, ◌+◌, ◌<◌, ◌≤◌, true, false, List, [], ◌∷◌, length, Option, Some, None, ◌⊎◌, inl, inr, refl, sym, ◌∙◌, ap, subst, IsSome, slice_get, slice_set, arith, if◌then◌else◌, nat_lt, bytes_eq}
+use Rattle.std.proofs.Common.{◌≡◌, ◌≢◌, ℕ, zero, suc, ◌+◌, ◌<◌, true, false, List, [], ◌∷◌, length, Option, Some, None, inl, inr, refl, sym, ◌∙◌, ap, subst, slice_get, slice_set, arith, if◌then◌else◌, nat_lt}
 use Rattle.std.proofs.lemmas.Bool.{ltb-true}
 use Rattle.zi_shelf.specs.Names.{Name, put, IsIn}
 use Rattle.zi_shelf.specs.Shelved.{Top, Pending, Renamed, Removed, Shelved, Call, Rename, SettleTop, RemoveTop, Reply, Did, Exists, Failed, Memory, Answers, Unknown}
 use Rattle.zi_shelf.specs.Shelved.{Moves as Renames}
-use Rattle.zi_shelf.specs.Crash.{names_before}
 use Rattle.zi_session.specs.Machine.{Rules, Adder}
 use Rattle.zi_session.specs.Machine as adding
 use Rattle.zi_session.specs.Law.{IsLawful, IsSound}
 use Rattle.zi_session.specs.Invariant.{owned}
-use Rattle.zi_session.specs.Beside.{lasting, IsFresh, IsSealed, PendingFits, AddersFit}
+use Rattle.zi_session.specs.Beside.{IsSealed, PendingFits, AddersFit}
 use Rattle.zi_session.proofs.MapsLemmas.{put-same, put-other, put-put, some_none, get_after_set}
 use Rattle.zi_session.proofs.PendingLemmas.{before_renamed, before_removed, sealed_fresh, at_name, emptied, at_removed, at_purged}
 use Rattle.zi_session.proofs.MovingLemmas.{Frame, Moved, none_owns, owned_few, adder_stays}
 use Rattle.zi_session.proofs.CallsLemmas.{at_tmp_frame, at_tmp_sound, at_digest}
-use Rattle.zi_shelf.proofs.TopsLemmas.{same_or_not, test_false}
+use Rattle.zi_shelf.proofs.TopsLemmas.{same_or_not}
 use Rattle.zi_text.proofs.ListLaws.{some_is, some_of}
 use Rattle.zi_purge.specs.Machine.{Phase, Moving, Sealing, Clearing, Closing, Ended, Stopped, Done, Crowded, Fault, moving, rename_call, next_call, next_phase, AreApart}
 use Rattle.zi_purge.specs.Invariant.{IsUnowned, Holds, AreLeft, PurgePhaseFits}

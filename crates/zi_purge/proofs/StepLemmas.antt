@@ -1,12 +1,12 @@
 -- The rename of a purger's step.
-use Rattle.std.proofs.Common.{◌≡◌, ◌≤◌, ℕ, zero, suc, ◌+◌, ◌<◌, true, false, nat_lt, if◌then◌else◌, not, filter, Bool, List, [], ◌∷◌, ◌++◌, map, length, Option, Some, None, refl, sym, ◌∙◌, ap, subst, slice_get, option_map, inr, arith, slice_index_or}
+use Rattle.std.proofs.Common.{◌≡◌, ◌≤◌, ℕ, zero, suc, ◌+◌, ◌<◌, true, false, nat_lt, if◌then◌else◌, not, filter, List, [], ◌∷◌, ◌++◌, map, length, Option, Some, refl, sym, ◌∙◌, ap, subst, slice_get, option_map, arith, slice_index_or}
 use Rattle.std.proofs.lemmas.List.{map-append}
-use Rattle.std.proofs.lemmas.Bool.{lt-ltb, ltb-true, eqb-true, eq-eqb}
+use Rattle.std.proofs.lemmas.Bool.{lt-ltb, ltb-true}
 use Rattle.zi_digest.specs.Name.{spelling}
 use Rattle.zi_digest.specs.declared.DigestName.{DigestName}
 use Rattle.zi_shelf.specs.Names.{Name}
 use Rattle.zi_store.specs.Rising.{is_among}
-use Rattle.zi_shelf.specs.Shelved.{Call, Rename, Reply, Did, Exists, Failed, Memory}
+use Rattle.zi_shelf.specs.Shelved.{Call, Rename, Reply, Did, Exists, Memory}
 use Rattle.zi_shelf.specs.Filling.{Work}
 use Rattle.zi_shelf.specs.Shelving.{Shelving, Does}
 use Rattle.zi_session.specs.Phases.{tmp_name}
@@ -48,6 +48,7 @@ renamed x before after reply d tmp q gone step moves at same does phase noted sa
       call = Rename d tmp;
       next = next_is x.texts.items x.place x.number d tmp (phase_of x.phase x.place x.number) is at same;
       reply = reply;
+      replies = tt;
       does = does;
       goes = goes_on is;
       says = subst (λ p. SaysOn p reply q step) (sym is) says;

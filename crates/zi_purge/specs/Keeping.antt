@@ -11,6 +11,7 @@ use Rattle.zi_session.specs.Phases.{tmp_name}
 use Rattle.zi_session.specs.StoreRules.{rules}
 use Rattle.zi_purge.specs.Machine.{Purger, Phase, Moving, Sealing, Clearing}
 use Rattle.zi_purge.specs.Invariant.{AreLeft, Inv}
+use Rattle.zi_purge.specs.Alone.{IsAlone}
 use Rattle.zi_purge.specs.Stepping.{Standing}
 use Rattle.zi_purge.specs.Tie.{StandsFor, beside}
 use Rattle.zi_purge.specs.declared.step.PurgeStep.{PurgeStep}
@@ -47,4 +48,7 @@ pub record KeepsShelf (old : Standing) (before : Shelving) (step : PurgeStep) (n
   pub later : before.faults ≤ after.faults
   -- over a sure shelf on which all is as the purger left it the count doesn't rise
   pub no_rise : (s : Told) → before.sure → before.told ≡ Some s → IsAsLeft old.names old.phase s.shelf → after.faults ≡ before.faults
+  -- where it works alone it goes on so, and over a sure shelf the count doesn't rise
+  pub alone : (start : Shelved Dir) → IsAlone start old before → IsAlone start new after
+  pub no_fault : (start : Shelved Dir) → IsAlone start old before → before.sure → after.faults ≡ before.faults
   pub stays : Stays before after

@@ -3,7 +3,9 @@ pub mod Law
 pub mod Invariant
 pub mod Phases
 pub mod Stepping
+pub mod Progress
 pub mod Tie
 pub mod StoreLaws
+pub mod Alone
 pub mod Keeping
 pub mod Counting

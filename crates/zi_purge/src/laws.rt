@@ -2,7 +2,8 @@
 //! clause is the law. The machine stands in specs/Machine.antt, its invariant in specs/Invariant.antt, what the law says in
 //! specs/Law.antt.
 
-ghost use Rattle.zi_purge.specs.Counting.{FewCalls};
+ghost use Rattle.zi_purge.specs.Alone.{AloneLaw, BeginsAlone};
+ghost use Rattle.zi_purge.specs.Counting.{Crowds, FewCalls, StepIsMade};
 ghost use Rattle.zi_purge.specs.StoreLaws.{DoneLaw, EventsKeep, PurgeLaw, StepIsEvent, StepKeeps};
 
 /// A step of a purger is the event of each purger that it stands for, whoever adds beside it.
@@ -40,4 +41,30 @@ pub fn after_done()
 #[tactic(auto, using(crate::proofs::CountingLemmas::few_calls))]
 pub fn few_calls()
     ensures { FewCalls }
+{}
+
+/// A step answers Crowded exactly where it and those before it found 10,000 temporary names taken, one after the other, for one name.
+#[tactic(auto, using(crate::proofs::CountingLemmas::crowds))]
+pub fn crowded()
+    ensures { Crowds }
+{}
+
+/// A step over an honest shelf that doesn't answer Memory is one of the steps of which the two laws before this one speak.
+#[tactic(auto, using(crate::proofs::CountingLemmas::step_is_made))]
+pub fn step_is_made()
+    ensures { StepIsMade }
+{}
+
+/// Before its first call a purger hasn't ended. Over a store in which the names are that it is told to be there it works alone.
+#[tactic(auto, using(crate::proofs::AloneLemmas::begins_alone))]
+pub fn begins_alone()
+    ensures { BeginsAlone }
+{}
+
+/// A purger that has worked alone and is done: its names are gone, under each other name stands what stood there, and nothing is
+/// pending. It ends as Crowded only where each temporary name was taken when it began; where one was free it is done, or a call
+/// failed.
+#[tactic(auto, using(crate::proofs::AloneLemmas::ends_alone))]
+pub fn ends_alone()
+    ensures { AloneLaw }
 {}

@@ -14,10 +14,15 @@
 //! after every list of events. A step is one event of that machine (Stepping.antt, Tie.antt), and its clause `keeps` says what it
 //! keeps of the shelf (Keeping.antt): the invariant, for every list of adders and every purger that it stands for, and the count of
 //! faults, which rises exactly where it answers Fault, and over a sure shelf on which all is as it was left not at all.
-//! Counting.antt says how many calls it makes at most.
+//!
+//! For a loop of steps: after More fewer calls are left, by a measure that a step's clause `advances` names (Progress.antt). Where
+//! nobody else changes the shelf, each step finds all as the purger left it, so over a sure shelf none answers Fault, and what stands
+//! under each name is known at every moment (Alone.antt). Counting.antt says how many calls a purger makes at most, and what it has
+//! found where it ends as Crowded.
 //!
 //! proofs: PurgingLemmas (a call of the purger, and what a call of an adder leaves of the purger's), KeptLemmas (every event, and
-//! the law), DoneLemmas (after Done), StepLemmas and KeepingLemmas (a step), CountingLemmas (how many).
+//! the law), DoneLemmas (after Done), StepLemmas, ProgressLemmas and KeepingLemmas (a step), AloneLemmas (where nobody else changes
+//! the shelf), CountingLemmas (how many, and Crowded).
 #![tactic(auto)]
 
 mod begin;

@@ -3,8 +3,8 @@
 ghost use Rattle.std.specs.Prelude.{◌≡◌, ◌++◌, ◌∷◌, [], ◌<◌, true, false, IfOk, OnOk};
 ghost use Rattle.std.specs.Vec.{vec_len, vec_capacity};
 ghost use Rattle.zi_session.specs.Phases.{tmp_name};
-ghost use Rattle.zi_purge.specs.Phases.{is_over};
 ghost use Rattle.zi_purge.specs.Stepping.{standing, IsStep};
+ghost use Rattle.zi_purge.specs.Progress.{has_ended, Advances};
 ghost use Rattle.zi_purge.specs.Keeping.{KeepsShelf};
 ghost use Rattle.zi_purge.specs.declared.phase.Phase.TheVariants.{Moves, Seals, Clears, Closes};
 
@@ -23,8 +23,9 @@ const TRIES: u32 = 10_000;
 impl Purge {
     /// Makes the next call of the shelf, or none where it lacks memory, or none after an end.
     pub fn step<K: Shelf>(&mut self, alloc: Global, k: &mut K) -> PurgeStep
-        ensures steps { is_over self.old.phase ≡ false → IsStep (standing self.old) (K.seen k.old) result (standing self.new) (K.seen k.new) }
-        ensures over { is_over self.old.phase ≡ true → (result ≡ PurgeStep.Over) × (k.new ≡ k.old) × (self.new ≡ self.old) }
+        ensures steps { has_ended (standing self.old).phase ≡ false → IsStep (standing self.old) (K.seen k.old) result (standing self.new) (K.seen k.new) }
+        ensures over { has_ended (standing self.old).phase ≡ true → (result ≡ PurgeStep.Over) × (k.new ≡ k.old) × (self.new ≡ self.old) }
+        ensures advances { Advances (standing self.old) result (standing self.new) }
         ensures keeps { KeepsShelf (standing self.old) (K.seen k.old) result (standing self.new) (K.seen k.new) }
     {
         match self.phase {

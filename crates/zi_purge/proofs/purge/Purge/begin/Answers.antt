@@ -1,8 +1,7 @@
-use Rattle.std.proofs.Common.{◌≡◌, ◌∙◌, map, filter, not, sym, ap, length, true, false}
+use Rattle.std.proofs.Common.{◌∙◌, map, filter, not, sym, ap, length}
 use Rattle.std.proofs.lemmas.Bool.{eqb-true, eq-eqb}
 use Rattle.zi_digest.specs.Name.{spelling}
 use Rattle.zi_store.specs.Rising.{is_among}
-use Rattle.zi_purge.specs.Machine.{moving, purged}
 use Rattle.zi_purge.specs.Phases.{phase_of}
 use Rattle.zi_purge.proofs.StepLemmas.{texts_are, before_first, closes_if, starts_if}
 use Rattle.zi_purge.proofs.purge.Purge.begin.Goals.{then-is_empty, else-is_empty}

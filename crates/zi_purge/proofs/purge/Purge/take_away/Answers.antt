@@ -2,7 +2,7 @@ use Rattle.std.proofs.Common.{Ok, ◌≡◌, ◌∷◌, [], ◌++◌, refl, sym,
 use Rattle.zi_digest.specs.Name.{spelling}
 use Rattle.zi_shelf.specs.Shelved.{Did, Exists, Failed, Memory}
 use Rattle.zi_shelf.specs.Told.{moved_reply, fault_reply}
-use Rattle.zi_purge.specs.Machine.{Moving, Sealing, Ended, Crowded, Fault}
+use Rattle.zi_purge.specs.Machine.{Sealing, Ended, Crowded, Fault}
 use Rattle.zi_purge.specs.Phases.{phase_of, has_name}
 use Rattle.zi_purge.proofs.StepLemmas.{renamed, waits, noted, on_next, tries_out, as_reply, at_index, at_name}
 use Rattle.zi_purge.proofs.purge.Purge.take_away.Goals as goal
