@@ -75,6 +75,20 @@ def dependencies(folder, size):
     return [write(folder, "root.xml", f'<group version="1" local-path=".">{needs}{rows(size - len(needs), impl)}</group>')]
 
 
+def packages(folder, size):
+    """A hundred dependencies, and what is said of packages of the system, which all have them. No table has a row for one."""
+    needs = "".join(f'<requires interface="/{n:04d}.xml"/>' for n in range(100))
+    impl = '<implementation id="i" version="1" local-path="."/>'
+    row = lambda n: f'<package-implementation package="{n:06d}"/>'
+    return [write(folder, "root.xml", f"{impl}<group>{needs}{rows(size - len(needs) - len(impl), row)}</group>")]
+
+
+def shims(size):
+    """A dependency with commands that are made known as programs: about 30,000 of them in 2 MiB."""
+    row = lambda n: f'<executable-in-path name="{n:012d}" command="{n:012d}"/>'
+    return f'<requires interface="/0.xml" importance="recommended">{rows(size - 80, row)}</requires>'
+
+
 def ranges(size):
     return f'<requires interface="/0.xml" version="{rows(size - 40, lambda n: f"{n:06d}|").rstrip("|")}"/>'
 
@@ -123,6 +137,8 @@ KINDS = (
     ("arguments", group(inside=arguments)),
     ("levels", levels),
     ("dependencies", dependencies),
+    ("packages", packages),
+    ("shims", group(inside=shims)),
     ("imported", imported),
     ("wanted languages", languages),
     ("admitted", admitted),

@@ -30,7 +30,8 @@ NS = "http://zero-install.sourceforge.net/2004/injector/interface"
 OTHER = "http://zero-install.sourceforge.net/2006/namespaces/0compile"
 SECONDS = 120
 COUNT = 60
-UNBUILT = ("executable-in-var", "executable-in-path", "overlay", "binding")
+SHIMS = ("executable-in-var", "executable-in-path")
+UNBUILT = (*SHIMS, "overlay", "binding")
 ADMITTED = ("2..", "1..!3", "..!2 | 2.18")
 REFUSED = ("..!2", "3..", "!2.18")
 
@@ -73,7 +74,8 @@ class Feeds:
         kind = self.random.choice(["environment"] * 6 + list(UNBUILT))
         if kind != "environment":
             given = {"executable-in-var": {"name": "V"}, "executable-in-path": {"name": "p"}, "overlay": {"src": "x", "mount-point": "/y"}, "binding": {"path": "z"}}
-            return element(kind, given[kind])
+            wanted = {"command": self.random.choice(["run", "other"])} if kind in SHIMS and self.some(0.5) else {}
+            return element(kind, {**given[kind], **wanted})
         attributes = {"name": self.random.choice(["PATH", "A b", "É"])}
         attributes["insert" if self.some(0.5) else "value"] = self.text()
         if self.some(0.5):
@@ -221,6 +223,8 @@ def bindings(e):
             given = [("name", child.get("name")), ("insert", child.get("insert")), ("value", child.get("value")), ("mode", other_than("prepend", child.get("mode")))]
             given += [("separator", other_than(":", child.get("separator"))), ("default", child.get("default"))]
             yield Said(name, of(given))
+        elif name in SHIMS and e.tag in {f"{{{NS}}}requires", f"{{{NS}}}runner"}:
+            yield Said(name, of([("name", child.get("name")), ("command", other_than("run", child.get("command")))]))
         else:
             yield Said(name)
 

@@ -8,6 +8,7 @@ use crate::{certificates, choices, deciding, selections, solving};
 use std::alloc::Global;
 use zi_lines::{Sheet, halves};
 use zi_outside::SureFeeds;
+use zi_packages::Packages;
 use zi_policy::{Network, Policy, Stability};
 use zi_text::{List, Memory, Text};
 use zi_universe::{LoadFault, Requirement, Universe, load};
@@ -44,7 +45,8 @@ fn universe_of(
         overrides: List::new(alloc),
     };
     out.needs(take_linux(&mut policy));
-    load(alloc, req, &policy, &[], feeds)
+    let packages = Packages::nothing(alloc);
+    load(alloc, req, &policy, &[], &packages, feeds)
 }
 
 /// Takes the root, and the command where it isn't `-`.

@@ -1,7 +1,8 @@
 //! What is loaded of the feeds that were told.
-use crate::telling::Told;
+use crate::telling::{Told, table_of};
 use std::alloc::Global;
 use zi_lines::Sheet;
+use zi_packages::PackagesFault;
 use zi_parts::{Command, Impl};
 use zi_text::{Memory, Text};
 use zi_universe::{Candidate, Interface, LoadFault, Universe, load};
@@ -17,8 +18,25 @@ fn loaded(alloc: Global, root: &str, told: &mut Told) -> Result<Universe, LoadFa
         &told.req,
         &told.policy,
         told.stored.as_slice(),
+        &told.packages,
         &mut told.feeds,
     )
+}
+
+/// Adds the distribution of a table of packages and the number of its rows, or the number of its bad line.
+pub(crate) fn put_table(alloc: Global, out: &mut Sheet, row: &str) {
+    match table_of(alloc, row) {
+        Ok(packages) => {
+            out.put(packages.distribution.as_str());
+            out.put(" ");
+            out.number(packages.rows.len() as u64);
+        }
+        Err(PackagesFault::Bad { line }) => {
+            out.put("bad ");
+            out.number(line);
+        }
+        Err(PackagesFault::Memory) => out.lose(),
+    }
 }
 
 /// Adds an interface with the ids of its candidates, the first of them first.

@@ -25,6 +25,7 @@ fn put_answer(alloc: Global, out: &mut Sheet, word: &str, rest: &str, told: &mut
         "address" => asking::put_address(alloc, out, rest),
         "path" => asking::put_local(alloc, out, rest),
         "inside" => asking::put_inside(alloc, out, rest),
+        "table" => loading::put_table(alloc, out, rest),
         "load" => loading::put_loaded(alloc, out, rest, told),
         "first" => loading::put_first(alloc, out, rest, told),
         "asked" => loading::put_asked(out, told),

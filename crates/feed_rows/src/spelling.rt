@@ -1,10 +1,11 @@
-//! A feed as a text that has all its fields: a line for each import, implementation, digest, method, step, dependency, command and
-//! binding, and what is absent left out.
+//! A feed as a text that has all its fields: a line for each import, implementation, package, digest, method, step, dependency, command
+//! and binding, and what is absent left out.
 use std::alloc::Global;
 use zi_digest::DigestName;
 use zi_feed::Feed;
+use zi_inherited::{Inherited, Shared};
 use zi_lines::Sheet;
-use zi_parts::{Binding, Command, Dep, Extra, Impl, Import, Method, Runner, Step, Word};
+use zi_parts::{Binding, Command, Dep, Extra, Impl, Import, Method, Native, Runner, Step, Word};
 use zi_policy::Arch;
 use zi_text::{List, Text};
 use zi_tree::RelPath;
@@ -118,6 +119,14 @@ pub(crate) fn put_binding(out: &mut Sheet, binding: &Binding) {
             out.value(mode);
             put_equal(out, "separator", separator);
             put_field(out, "default", default);
+        }
+        Binding::ExecVar { name, command } => {
+            put_named(out, "\nvar ", name);
+            put_equal(out, "command", command);
+        }
+        Binding::ExecPath { name, command } => {
+            put_named(out, "\nprogram ", name);
+            put_equal(out, "command", command);
         }
         Binding::Unbuilt { element } => put_named(out, "\nunbuilt ", element),
     }
@@ -267,20 +276,41 @@ fn put_facts(out: &mut Sheet, one: &Impl) {
     put_field(out, "local", &one.local);
 }
 
+/// Adds what groups hold too.
+fn put_inherited(
+    out: &mut Sheet,
+    deps: &Inherited<Dep>,
+    commands: &Inherited<Shared<Command>>,
+    bindings: &Inherited<Binding>,
+) {
+    for n in 0..deps.len() {
+        put_dep(out, deps.at(n));
+    }
+    for n in 0..commands.len() {
+        put_command(out, commands.at(n).as_ref());
+    }
+    for n in 0..bindings.len() {
+        put_binding(out, bindings.at(n));
+    }
+}
+
 /// Adds an implementation.
 fn put_impl(alloc: Global, out: &mut Sheet, one: &Impl) {
     put_facts(out, one);
     put_digests(alloc, out, &one.digests);
     put_methods(out, &one.methods);
-    for n in 0..one.deps.len() {
-        put_dep(out, one.deps.at(n));
-    }
-    for n in 0..one.commands.len() {
-        put_command(out, one.commands.at(n).as_ref());
-    }
-    for n in 0..one.bindings.len() {
-        put_binding(out, one.bindings.at(n));
-    }
+    put_inherited(out, &one.deps, &one.commands, &one.bindings);
+}
+
+/// Adds what a feed says of a package.
+fn put_native(out: &mut Sheet, one: &Native) {
+    put_named(out, "\npackage ", &one.package);
+    out.put(" at=");
+    out.number(one.place);
+    put_fields(out, "distribution", &one.distributions);
+    put_fields(out, "lang", one.langs.as_ref());
+    put_field(out, "released", &one.released);
+    put_inherited(out, &one.deps, &one.commands, &one.bindings);
 }
 
 /// Adds the imports.
@@ -298,5 +328,8 @@ pub(crate) fn put_feed(alloc: Global, out: &mut Sheet, feed: &Feed) {
     put_imports(out, feed.imports.as_slice());
     for one in feed.impls.as_slice() {
         put_impl(alloc, out, one);
+    }
+    for one in feed.natives.as_slice() {
+        put_native(out, one);
     }
 }

@@ -4,6 +4,7 @@ use std::alloc::Global;
 use zi_digest::DigestName;
 use zi_lines::{Sheet, halves, take_numbers};
 use zi_outside::MemoryFeeds;
+use zi_packages::{Packages, PackagesFault};
 use zi_policy::{Network, Override, Policy, Stability};
 use zi_text::{List, Memory, Text};
 use zi_universe::{Limit, Requirement};
@@ -17,6 +18,8 @@ pub(crate) struct Told {
     pub req: Requirement,
     /// The digests of the trees that are stored.
     pub stored: Vec<DigestName>,
+    /// The packages of the operating system.
+    pub packages: Packages,
 }
 
 impl Told {
@@ -31,6 +34,7 @@ impl Told {
                 limits: List::new(alloc),
             },
             stored: Vec::new(alloc),
+            packages: Packages::nothing(alloc),
         }
     }
 
@@ -233,6 +237,29 @@ fn take_stored(word: &str, stored: &mut Vec<DigestName>) -> Result<(), Memory> {
     }
 }
 
+/// The table of packages whose lines a row has, each with `|` at its end.
+pub(crate) fn table_of(alloc: Global, row: &str) -> Result<Packages, PackagesFault> {
+    let mut text = Sheet::new(alloc);
+    for piece in row.split("|").enumerate() {
+        let (n, line) = piece;
+        if n > 0 {
+            text.put("\n");
+        }
+        text.put(line);
+    }
+    Packages::read(alloc, text.text()?.as_bytes())
+}
+
+/// Takes a table of packages; none where it isn't right.
+fn take_packages(alloc: Global, row: &str, told: &mut Told) -> Result<(), Memory> {
+    match table_of(alloc, row) {
+        Ok(packages) => told.packages = packages,
+        Err(PackagesFault::Bad { .. }) => {}
+        Err(PackagesFault::Memory) => return Err(Memory),
+    }
+    Ok(())
+}
+
 /// Takes what a line tells, and says whether it tells something.
 pub(crate) fn tells(
     alloc: Global,
@@ -252,6 +279,7 @@ pub(crate) fn tells(
         "override" => out.needs(take_override(alloc, rest, &mut told.policy)),
         "limit" => out.needs(take_limit(alloc, rest, &mut told.req)),
         "stored" => out.needs(take_stored(rest, &mut told.stored)),
+        "packages" => out.needs(take_packages(alloc, rest, told)),
         _ => return false,
     }
     true

@@ -10,6 +10,7 @@ use thiserror::Error;
 use zi_build::{BuildFault, build};
 use zi_formula::{Formula, Lent};
 use zi_outside::SureFeeds;
+use zi_packages::Packages;
 use zi_policy::{Network, Policy, Stability};
 use zi_text::{List, Memory, Text};
 use zi_universe::{LoadFault, Requirement, load};
@@ -108,7 +109,14 @@ fn built(alloc: Global, lines: &str, times: u32) -> Result<String, Fault> {
         limits: List::new(alloc),
     };
     let mut feeds = feeds_of(alloc, lines)?;
-    let universe = load(alloc, &req, &policy(alloc)?, &[], &mut feeds)?;
+    let universe = load(
+        alloc,
+        &req,
+        &policy(alloc)?,
+        &[],
+        &Packages::nothing(alloc),
+        &mut feeds,
+    )?;
     let mut told = String::from_str(alloc, "loaded")?;
     for _ in 0..times {
         let formula = build(alloc, &universe, &req)?;

@@ -1,13 +1,13 @@
 //! Which implementations may be used, and which stands before which. An implementation is a row of words: languages apart by commas (`-` for
-//! none), stability, where it is (`local`, `stored`, `remote` or `nowhere`), version, platform (or `none`), id, feed, and its place as so
-//! many strokes.
+//! none), stability, where it is (`local`, `stored`, `remote`, `nowhere`, or `installed` or `available` as a package), version, platform (or
+//! `none`), id, feed, and its place as so many strokes.
 use crate::policies::{no_policy, stability};
 use std::alloc::Global;
 use std::cmp::Ordering;
 use zi_inherited::Shared;
 use zi_lines::{Sheet, halves};
 use zi_policy::{Arch, Network, Policy};
-use zi_rank::{Standing, before, compare, usable};
+use zi_rank::{Origin, Standing, before, compare, usable};
 use zi_text::{List, Memory, Text};
 use zi_version::{Version, VersionFault};
 
@@ -57,6 +57,16 @@ fn no_standing(alloc: Global, version: Version, langs: Shared<List<Text>>) -> St
         local: false,
         stored: false,
         retrievable: false,
+        origin: Origin::Feed,
+    }
+}
+
+/// Where the implementation comes from that is at the place of a word.
+fn origin(word: &str) -> Origin {
+    match word {
+        "installed" => Origin::Installed,
+        "available" => Origin::Available,
+        _ => Origin::Feed,
     }
 }
 
@@ -65,6 +75,7 @@ fn take_place(one: &mut Standing, word: &str) {
     one.local = word == "local";
     one.stored = word == "stored";
     one.retrievable = word == "remote";
+    one.origin = origin(word);
 }
 
 /// Takes the words of a row behind the version.

@@ -5,7 +5,7 @@ use Rattle.zi_tree.specs.Parts.{parts_of}
 use Rattle.zi_outside.specs.Vars.{value_of, with_var}
 use Rattle.zi_outside.specs.declared.var.Var.{Var}
 use Rattle.zi_parts.specs.declared.types.Binding.{Binding}
-use Rattle.zi_parts.specs.declared.types.Binding.TheVariants.{Env, Unbuilt}
+use Rattle.zi_parts.specs.declared.types.Binding.TheVariants.{Env, ExecVar, ExecPath, Unbuilt}
 use Rattle.zi_parts.specs.declared.types.Extra.{Extra}
 use Rattle.zi_parts.specs.declared.types.Extra.TheVariants.{Insert, Value}
 use Rattle.zi_parts.specs.declared.types.Mode.{Mode}
@@ -45,6 +45,8 @@ new_value Replace separator extra old = extra
 -- the variables after one binding; one that isn't built changes nothing
 unfoldable pub with_binding : List ℕ → Binding → List Var → List Var
 with_binding folder (Env name extra mode separator default) vars = with_var name (new_value mode separator (extra_text folder extra) (old_value vars name default)) vars
+with_binding folder (ExecVar name command) vars = vars
+with_binding folder (ExecPath name command) vars = vars
 with_binding folder (Unbuilt element) vars = vars
 
 -- the variables after bindings with one folder, one after another
@@ -57,9 +59,12 @@ abbrev pub fault_of_extra : Extra → Option ApplyFault
 fault_of_extra (Insert path) = if is_some (parts_of path) then None else Some (fault.BadPath path)
 fault_of_extra (Value text) = None
 
--- why a binding can't be applied: it isn't built, or what it inserts is no relative path
+-- why a binding can't be applied: it isn't built, as none is that makes a command known as a program, or what it inserts is no
+-- relative path
 unfoldable pub fault_of : Binding → Option ApplyFault
 fault_of (Env name extra mode separator default) = fault_of_extra extra
+fault_of (ExecVar name command) = Some (fault.Unbuilt (codes "executable-in-var"))
+fault_of (ExecPath name command) = Some (fault.Unbuilt (codes "executable-in-path"))
 fault_of (Unbuilt element) = Some (fault.Unbuilt element)
 
 -- the fault of the first binding that can't be applied

@@ -104,6 +104,12 @@ fn apply_one(
     ensures { AppliesOne folder.now binding.now vars.old result vars.new }
 {
     match binding {
+        Binding::ExecVar { .. } => Err(ApplyFault::Unbuilt {
+            element: Text::from_str(alloc, "executable-in-var")?,
+        }),
+        Binding::ExecPath { .. } => Err(ApplyFault::Unbuilt {
+            element: Text::from_str(alloc, "executable-in-path")?,
+        }),
         Binding::Unbuilt { element } => Err(ApplyFault::Unbuilt {
             element: element.copy(alloc)?,
         }),

@@ -10,5 +10,6 @@ pub mod OrderLaws
 pub mod BestLaws
 pub mod ThereIsBest
 pub mod AloneLaws
+pub mod StopLaws
 pub mod TaskLaws
 pub mod TableLaws

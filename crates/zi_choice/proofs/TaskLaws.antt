@@ -19,7 +19,10 @@ use Rattle.zi_universe.specs.Naming.{AreApart}
 use Rattle.zi_universe.specs.Whole.{uris_of}
 use Rattle.zi_choice.specs.Choice.{Choice, pick, chosen, candidate_at, command_at, deps_of, needs_of, with_runner, command_of, command_place}
 use Rattle.zi_choice.proofs.Base.{stands_at, found_of}
-use Rattle.zi_choice.specs.Walk.{Use, Walk, Visits, Needs, NeedsEach, Follows, listed, comes, lacks, again, uses, no_more, one_more, ends, passes, goes, is_listed, is_used, with_place, with_use, leads_to}
+use Rattle.zi_choice.specs.Walk.{Use, Walk, is_listed, is_used, with_place, with_use, leads_to}
+use Rattle.zi_choice.specs.declared.traced.Stop.{Stop}
+use Rattle.zi_choice.specs.Stops.{came_to, needed_at, and_came, and_needed, VisitStops, NeedStops, NeedEachStops, FollowStops, been, stops, without, before, needs, no_name, a_name, no_dep, a_restriction, a_dep, walk_of_stops}
+use Rattle.zi_choice.proofs.StopLaws.{listed_came, used_needed, places_more, uses_more}
 use Rattle.zi_choice.specs.Walk.{Place as APlace}
 use Rattle.zi_choice.specs.declared.traced.Used.{Used}
 use Rattle.zi_choice.specs.declared.walking.Task.{Task}
@@ -33,11 +36,11 @@ use Rattle.zi_names.proofs.Expanded.{front_more}
 use Rattle.zi_feed.specs.IdLaws.{none_some}
 
 -- one more task at the end is done first
-pub run_last : (u : List Interface) (s : Choice) (ts : List Task) (t : Task) (a w : Walk) → Runs u s (ts ++ t ∷ []) a w → Then u s (Does u s t) ts a w
+pub run_last : (u : List Interface) (s : Choice) (ts : List Task) (t : Task) (a w : List Stop) → Runs u s (ts ++ t ∷ []) a w → Then u s (Does u s t) ts a w
 run_last u s [] t a w h = (w, subst (λ x. Does u s t x w) (sym h.1) h.2, refl)
 run_last u s (x ∷ ts) t a w h = let r : Then u s (Does u s t) ts a h.0 = run_last u s ts t a h.0 h.1 in (r.0, r.1, (h.0, r.2, h.2))
 
-pub last_run : (u : List Interface) (s : Choice) (ts : List Task) (t : Task) (a w : Walk) → Then u s (Does u s t) ts a w → Runs u s (ts ++ t ∷ []) a w
+pub last_run : (u : List Interface) (s : Choice) (ts : List Task) (t : Task) (a w : List Stop) → Then u s (Does u s t) ts a w → Runs u s (ts ++ t ∷ []) a w
 last_run u s [] t a w h = (a, refl, subst (λ x. Does u s t a x) h.2 h.1)
 last_run u s (x ∷ ts) t a w h = (h.2.0, last_run u s ts t a h.2.0 (h.0, h.1, h.2.1), h.2.2)
 
@@ -74,18 +77,18 @@ pub in_use : (i : ℕ) (name : List ℕ) (ps : List APlace) (ks js : List Used) 
 in_use i name ps ks js e = ap (λ us. a_walk ps us) (ap (map as_use) e ∙ map-append as_use ks (record { interface = i; command = name } ∷ []))
 
 -- visiting
-pub visit_old : (u : List Interface) (s : Choice) (i : ℕ) (ts : List Task) (a b : Walk) → is_listed a i ≡ true → b ≡ a → (w : Walk) → Runs u s ts b w → Then u s (Visits u s i) ts a w
-visit_old u s i ts a b l e w r = (a, listed l, subst (λ x. Runs u s ts x w) e r)
+pub visit_old : (u : List Interface) (s : Choice) (i : ℕ) (ts : List Task) (a b : List Stop) → came_to a i ≡ true → b ≡ a → (w : List Stop) → Runs u s ts b w → Then u s (VisitStops u s i) ts a w
+visit_old u s i ts a b l e w r = (a, been l, subst (λ x. Runs u s ts x w) e r)
 
-pub visit_none : (u : List Interface) (s : Choice) (i : ℕ) (ts : List Task) (a b : Walk) → is_listed a i ≡ false → b ≡ with_place s i a → chosen u s i ≡ None → (w : Walk) → Runs u s ts b w → Then u s (Visits u s i) ts a w
+pub visit_none : (u : List Interface) (s : Choice) (i : ℕ) (ts : List Task) (a b : List Stop) → came_to a i ≡ false → b ≡ and_came a i → chosen u s i ≡ None → (w : List Stop) → Runs u s ts b w → Then u s (VisitStops u s i) ts a w
 visit_none u s i ts a b l e n w r =
-    let stays : Follows u s [] b b = ends in
-    (b, comes l (subst (λ o. Follows u s (deps_of o) (with_place s i a) b) (sym n) (subst (λ x. Follows u s [] x b) e stays)), r)
+    let stays : FollowStops u s [] b b = no_dep in
+    (b, stops l (subst (λ o. FollowStops u s (deps_of o) (and_came a i) b) (sym n) (subst (λ x. FollowStops u s [] x b) e stays)), r)
 
-pub visit_some : (u : List Interface) (s : Choice) (i : ℕ) (k : Candidate) (ts : List Task) (a b : Walk) → is_listed a i ≡ false → b ≡ with_place s i a → chosen u s i ≡ Some k → (w : Walk) → Then u s (Follows u s k.imp.deps) ts b w → Then u s (Visits u s i) ts a w
+pub visit_some : (u : List Interface) (s : Choice) (i : ℕ) (k : Candidate) (ts : List Task) (a b : List Stop) → came_to a i ≡ false → b ≡ and_came a i → chosen u s i ≡ Some k → (w : List Stop) → Then u s (FollowStops u s k.imp.deps) ts b w → Then u s (VisitStops u s i) ts a w
 visit_some u s i k ts a b l e n w f =
-    let g : Follows u s k.imp.deps (with_place s i a) f.0 = subst (λ x. Follows u s k.imp.deps x f.0) e f.1 in
-    (f.0, comes l (subst (λ o. Follows u s (deps_of o) (with_place s i a) f.0) (sym n) g), f.2)
+    let g : FollowStops u s k.imp.deps (and_came a i) f.0 = subst (λ x. FollowStops u s k.imp.deps x f.0) e f.1 in
+    (f.0, stops l (subst (λ o. FollowStops u s (deps_of o) (and_came a i) f.0) (sym n) g), f.2)
 
 -- needing a command
 pub no_candidate : (u : List Interface) (s : Choice) (i : ℕ) (name : List ℕ) → chosen u s i ≡ None → command_at u s i name ≡ None
@@ -94,14 +97,14 @@ no_candidate u s i name e = ap (λ o. option_and_then (λ (c : Candidate). comma
 pub its_command : (u : List Interface) (s : Choice) (i : ℕ) (name : List ℕ) (k : Candidate) (o : Option Command) → chosen u s i ≡ Some k → command_of k name ≡ o → command_at u s i name ≡ o
 its_command u s i name k o e f = ap (λ o. option_and_then (λ (c : Candidate). command_of c name) o) e ∙ f
 
-pub need_lacks : (u : List Interface) (s : Choice) (i : ℕ) (name : List ℕ) (ts : List Task) (a : Walk) → command_at u s i name ≡ None → (w : Walk) → Runs u s ts a w → Then u s (Needs u s i name) ts a w
-need_lacks u s i name ts a n w r = (a, lacks n, r)
+pub need_lacks : (u : List Interface) (s : Choice) (i : ℕ) (name : List ℕ) (ts : List Task) (a : List Stop) → command_at u s i name ≡ None → (w : List Stop) → Runs u s ts a w → Then u s (NeedStops u s i name) ts a w
+need_lacks u s i name ts a n w r = (a, without n, r)
 
-pub need_old : (u : List Interface) (s : Choice) (i : ℕ) (name : List ℕ) (ts : List Task) (a b : Walk) → is_used a i name ≡ true → b ≡ a → (w : Walk) → Runs u s ts b w → Then u s (Needs u s i name) ts a w
-need_old u s i name ts a b l e w r = (a, again l, subst (λ x. Runs u s ts x w) e r)
+pub need_old : (u : List Interface) (s : Choice) (i : ℕ) (name : List ℕ) (ts : List Task) (a b : List Stop) → needed_at a i name ≡ true → b ≡ a → (w : List Stop) → Runs u s ts b w → Then u s (NeedStops u s i name) ts a w
+need_old u s i name ts a b l e w r = (a, before l, subst (λ x. Runs u s ts x w) e r)
 
-pub need_new : (u : List Interface) (s : Choice) (i : ℕ) (name : List ℕ) (m : Command) (ts : List Task) (a b : Walk) → command_at u s i name ≡ Some m → is_used a i name ≡ false → b ≡ with_use i name a → (w : Walk) → Then u s (Follows u s (needs_of m)) ts b w → Then u s (Needs u s i name) ts a w
-need_new u s i name m ts a b n l e w f = (f.0, uses m n l (subst (λ x. Follows u s (needs_of m) x f.0) e f.1), f.2)
+pub need_new : (u : List Interface) (s : Choice) (i : ℕ) (name : List ℕ) (m : Command) (ts : List Task) (a b : List Stop) → command_at u s i name ≡ Some m → needed_at a i name ≡ false → b ≡ and_needed a i name → (w : List Stop) → Then u s (FollowStops u s (needs_of m)) ts b w → Then u s (NeedStops u s i name) ts a w
+need_new u s i name m ts a b n l e w f = (f.0, needs m n l (subst (λ x. FollowStops u s (needs_of m) x f.0) e f.1), f.2)
 
 -- a command by its place
 pub its_place : (u v : List Interface) (s : Choice) (i c : ℕ) (k : Candidate) (name : List ℕ) (o : Option ℕ) → v ≡ u → chosen u s i ≡ Some k → Some c ≡ pick s i → o ≡ option_and_then (λ (x : Candidate). command_place x name) (candidate_at v i c) → o ≡ command_place k name
@@ -120,64 +123,64 @@ pub command_there : (k : Candidate) (name : List ℕ) (n : ℕ) → Some n ≡ c
 command_there k name n e = let f = found_of k name n (sym e) in f.2 ∙ sym f.1
 
 -- following
-pub follow_join : {u : List Interface} {s : Choice} {ds es : List Dep} {a b c : Walk} → Follows u s ds a b → Follows u s es b c → Follows u s (ds ++ es) a c
-follow_join ends g = g
-follow_join (passes e f) g = passes e (follow_join f g)
-follow_join (goes i e v n f) g = goes i e v n (follow_join f g)
+pub follow_join : {u : List Interface} {s : Choice} {ds es : List Dep} {a b c : List Stop} → FollowStops u s ds a b → FollowStops u s es b c → FollowStops u s (ds ++ es) a c
+follow_join no_dep g = g
+follow_join (a_restriction e f) g = a_restriction e (follow_join f g)
+follow_join (a_dep i e v n f) g = a_dep i e v n (follow_join f g)
 
 -- pieces of dependencies, the last of which is added first
 pub pieces_none : (u : List Interface) (s : Choice) (ps : List (Bor (List Dep))) (n : ℕ) (ts : List Task) → length ps ≤ n
-    → (a w : Walk) → Runs u s ts a w → Then u s (Follows u s (flat_map (λ q. q.now) (drop n ps))) ts a w
+    → (a w : List Stop) → Runs u s ts a w → Then u s (FollowStops u s (flat_map (λ q. q.now) (drop n ps))) ts a w
 pieces_none u s ps n ts le a w r =
-    let stays : Follows u s [] a a = ends in
-    (a, subst (λ x. Follows u s (flat_map (λ q. q.now) x) a a) (sym (drop_all n ps le)) stays, r)
+    let stays : FollowStops u s [] a a = no_dep in
+    (a, subst (λ x. FollowStops u s (flat_map (λ q. q.now) x) a a) (sym (drop_all n ps le)) stays, r)
 
 pub pieces_more : (u : List Interface) (s : Choice) (ts us vs : List Task) (ps : List (Bor (List Dep))) (i n : ℕ) (p : Bor (List Dep)) → n ≡ i + 1 → i < length ps → p ≡ get_or ps i p → vs ≡ us ++ Follow p ∷ []
-    → ((a w : Walk) → Runs u s us a w → Then u s (Follows u s (flat_map (λ q. q.now) (drop n ps))) ts a w)
-    → (a w : Walk) → Runs u s vs a w → Then u s (Follows u s (flat_map (λ q. q.now) (drop i ps))) ts a w
+    → ((a w : List Stop) → Runs u s us a w → Then u s (FollowStops u s (flat_map (λ q. q.now) (drop n ps))) ts a w)
+    → (a w : List Stop) → Runs u s vs a w → Then u s (FollowStops u s (flat_map (λ q. q.now) (drop i ps))) ts a w
 pieces_more u s ts us vs ps i n p e lt is more later a w r =
     let m : suc i ≡ n = omega (arith, e) in
     let split : p ∷ drop n ps ≡ drop i ps = sym (drop-cons ps i p lt ∙ ap (λ y. y ∷ drop (suc i) ps) (sym is) ∙ ap (λ j. p ∷ drop j ps) m) in
     let f : Then u s (Does u s (Follow p)) us a w = run_last u s us (Follow p) a w (subst (λ x. Runs u s x a w) more r) in
-    let g : Then u s (Follows u s (flat_map (λ q. q.now) (drop n ps))) ts f.0 w = later f.0 w f.2 in
-    (g.0, subst (λ x. Follows u s (flat_map (λ q. q.now) x) a g.0) split (follow_join f.1 g.1), g.2)
+    let g : Then u s (FollowStops u s (flat_map (λ q. q.now) (drop n ps))) ts f.0 w = later f.0 w f.2 in
+    (g.0, subst (λ x. FollowStops u s (flat_map (λ q. q.now) x) a g.0) split (follow_join f.1 g.1), g.2)
 
-pub needs_alone : (u : List Interface) (s : Choice) (m : Command) (ts us : List Task) (ds : Bor (List Dep)) (a : Walk) → m.runner ≡ None → ds.now ≡ m.deps → us ≡ ts ++ Follow ds ∷ [] → (w : Walk) → Runs u s us a w → Then u s (Follows u s (needs_of m)) ts a w
+pub needs_alone : (u : List Interface) (s : Choice) (m : Command) (ts us : List Task) (ds : Bor (List Dep)) (a : List Stop) → m.runner ≡ None → ds.now ≡ m.deps → us ≡ ts ++ Follow ds ∷ [] → (w : List Stop) → Runs u s us a w → Then u s (FollowStops u s (needs_of m)) ts a w
 needs_alone u s m ts us ds a n d t w r =
     let f : Then u s (Does u s (Follow ds)) ts a w = run_last u s ts (Follow ds) a w (subst (λ x. Runs u s x a w) t r) in
-    (f.0, subst (λ o. Follows u s (with_runner m.deps o) a f.0) (sym n) (subst (λ x. Follows u s x a f.0) d f.1), f.2)
+    (f.0, subst (λ o. FollowStops u s (with_runner m.deps o) a f.0) (sym n) (subst (λ x. FollowStops u s x a f.0) d f.1), f.2)
 
-pub needs_runner : (u : List Interface) (s : Choice) (m : Command) (q : Runner) (ts us vs : List Task) (ds : Bor (List Dep)) (o : Bor Dep) (a : Walk) → m.runner ≡ Some q → o.now ≡ q.dep → ds.now ≡ m.deps → us ≡ ts ++ FollowOne o ∷ [] → vs ≡ us ++ Follow ds ∷ [] → (w : Walk) → Runs u s vs a w → Then u s (Follows u s (needs_of m)) ts a w
+pub needs_runner : (u : List Interface) (s : Choice) (m : Command) (q : Runner) (ts us vs : List Task) (ds : Bor (List Dep)) (o : Bor Dep) (a : List Stop) → m.runner ≡ Some q → o.now ≡ q.dep → ds.now ≡ m.deps → us ≡ ts ++ FollowOne o ∷ [] → vs ≡ us ++ Follow ds ∷ [] → (w : List Stop) → Runs u s vs a w → Then u s (FollowStops u s (needs_of m)) ts a w
 needs_runner u s m q ts us vs ds o a n p d t v w r =
     let f : Then u s (Does u s (Follow ds)) us a w = run_last u s us (Follow ds) a w (subst (λ x. Runs u s x a w) v r) in
     let g : Then u s (Does u s (FollowOne o)) ts f.0 w = run_last u s ts (FollowOne o) f.0 w (subst (λ x. Runs u s x f.0 w) t f.2) in
-    let h : Follows u s (q.dep ∷ []) f.0 g.0 = subst (λ x. Follows u s (x ∷ []) f.0 g.0) p g.1 in
-    let j : Follows u s (m.deps ++ q.dep ∷ []) a g.0 = follow_join (subst (λ x. Follows u s x a f.0) d f.1) h in
-    (g.0, subst (λ y. Follows u s (with_runner m.deps y) a g.0) (sym n) j, g.2)
+    let h : FollowStops u s (q.dep ∷ []) f.0 g.0 = subst (λ x. FollowStops u s (x ∷ []) f.0 g.0) p g.1 in
+    let j : FollowStops u s (m.deps ++ q.dep ∷ []) a g.0 = follow_join (subst (λ x. FollowStops u s x a f.0) d f.1) h in
+    (g.0, subst (λ y. FollowStops u s (with_runner m.deps y) a g.0) (sym n) j, g.2)
 
-pub along_none : (u : List Interface) (s : Choice) (d : Dep) (ts : List Task) (a : Walk) → leads_to u d ≡ None → (w : Walk) → Runs u s ts a w → Then u s (Follows u s (d ∷ [])) ts a w
-along_none u s d ts a n w r = (a, passes n ends, r)
+pub along_none : (u : List Interface) (s : Choice) (d : Dep) (ts : List Task) (a : List Stop) → leads_to u d ≡ None → (w : List Stop) → Runs u s ts a w → Then u s (FollowStops u s (d ∷ [])) ts a w
+along_none u s d ts a n w r = (a, a_restriction n no_dep, r)
 
-pub along_some : (u : List Interface) (s : Choice) (d : Dep) (i : ℕ) (ts us : List Task) (names : Bor (List (List ℕ))) (a : Walk) → leads_to u d ≡ Some i → names.now ≡ d.commands → us ≡ ts ++ Need i names ∷ [] → (w : Walk) → Then u s (Visits u s i) us a w → Then u s (Follows u s (d ∷ [])) ts a w
+pub along_some : (u : List Interface) (s : Choice) (d : Dep) (i : ℕ) (ts us : List Task) (names : Bor (List (List ℕ))) (a : List Stop) → leads_to u d ≡ Some i → names.now ≡ d.commands → us ≡ ts ++ Need i names ∷ [] → (w : List Stop) → Then u s (VisitStops u s i) us a w → Then u s (FollowStops u s (d ∷ [])) ts a w
 along_some u s d i ts us names a n p t w v =
     let f : Then u s (Does u s (Need i names)) ts v.0 w = run_last u s ts (Need i names) v.0 w (subst (λ x. Runs u s x v.0 w) t v.2) in
-    (f.0, goes i n v.1 (subst (λ x. NeedsEach u s i x v.0 f.0) p f.1) ends, f.2)
+    (f.0, a_dep i n v.1 (subst (λ x. NeedEachStops u s i x v.0 f.0) p f.1) no_dep, f.2)
 
-pub follow_none : (u : List Interface) (s : Choice) (ds : List Dep) (ts : List Task) (a : Walk) → ds ≡ [] → (w : Walk) → Runs u s ts a w → Then u s (Follows u s ds) ts a w
-follow_none u s ds ts a e w r = let stays : Follows u s [] a a = ends in (a, subst (λ x. Follows u s x a a) (sym e) stays, r)
+pub follow_none : (u : List Interface) (s : Choice) (ds : List Dep) (ts : List Task) (a : List Stop) → ds ≡ [] → (w : List Stop) → Runs u s ts a w → Then u s (FollowStops u s ds) ts a w
+follow_none u s ds ts a e w r = let stays : FollowStops u s [] a a = no_dep in (a, subst (λ x. FollowStops u s x a a) (sym e) stays, r)
 
-pub follow_some : (u : List Interface) (s : Choice) (d : Dep) (ds : List Dep) (rest : Bor (List Dep)) (ts us : List Task) (a : Walk) → ds ≡ d ∷ rest.now → us ≡ ts ++ Follow rest ∷ [] → (w : Walk) → Then u s (Follows u s (d ∷ [])) us a w → Then u s (Follows u s ds) ts a w
+pub follow_some : (u : List Interface) (s : Choice) (d : Dep) (ds : List Dep) (rest : Bor (List Dep)) (ts us : List Task) (a : List Stop) → ds ≡ d ∷ rest.now → us ≡ ts ++ Follow rest ∷ [] → (w : List Stop) → Then u s (FollowStops u s (d ∷ [])) us a w → Then u s (FollowStops u s ds) ts a w
 follow_some u s d ds rest ts us a e t w v =
     let f : Then u s (Does u s (Follow rest)) ts v.0 w = run_last u s ts (Follow rest) v.0 w (subst (λ x. Runs u s x v.0 w) t v.2) in
-    (f.0, subst (λ x. Follows u s x a f.0) (sym e) (follow_join v.1 f.1), f.2)
+    (f.0, subst (λ x. FollowStops u s x a f.0) (sym e) (follow_join v.1 f.1), f.2)
 
-pub each_none : (u : List Interface) (s : Choice) (i : ℕ) (names : List (List ℕ)) (ts : List Task) (a : Walk) → names ≡ [] → (w : Walk) → Runs u s ts a w → Then u s (NeedsEach u s i names) ts a w
-each_none u s i names ts a e w r = let stays : NeedsEach u s i [] a a = no_more in (a, subst (λ x. NeedsEach u s i x a a) (sym e) stays, r)
+pub each_none : (u : List Interface) (s : Choice) (i : ℕ) (names : List (List ℕ)) (ts : List Task) (a : List Stop) → names ≡ [] → (w : List Stop) → Runs u s ts a w → Then u s (NeedEachStops u s i names) ts a w
+each_none u s i names ts a e w r = let stays : NeedEachStops u s i [] a a = no_name in (a, subst (λ x. NeedEachStops u s i x a a) (sym e) stays, r)
 
-pub each_some : (u : List Interface) (s : Choice) (i : ℕ) (name : List ℕ) (names : List (List ℕ)) (rest : Bor (List (List ℕ))) (ts us : List Task) (a : Walk) → names ≡ name ∷ rest.now → us ≡ ts ++ Need i rest ∷ [] → (w : Walk) → Then u s (Needs u s i name) us a w → Then u s (NeedsEach u s i names) ts a w
+pub each_some : (u : List Interface) (s : Choice) (i : ℕ) (name : List ℕ) (names : List (List ℕ)) (rest : Bor (List (List ℕ))) (ts us : List Task) (a : List Stop) → names ≡ name ∷ rest.now → us ≡ ts ++ Need i rest ∷ [] → (w : List Stop) → Then u s (NeedStops u s i name) us a w → Then u s (NeedEachStops u s i names) ts a w
 each_some u s i name names rest ts us a e t w v =
     let f : Then u s (Does u s (Need i rest)) ts v.0 w = run_last u s ts (Need i rest) v.0 w (subst (λ x. Runs u s x v.0 w) t v.2) in
-    (f.0, subst (λ x. NeedsEach u s i x a f.0) (sym e) (one_more v.1 f.1), f.2)
+    (f.0, subst (λ x. NeedEachStops u s i x a f.0) (sym e) (a_name v.1 f.1), f.2)
 
 -- what is lent
 pub lent_none : {T : Type 0} (o : Option (Bor T)) (p : Option T) → option_copied o ≡ p → o ≡ None → p ≡ None
@@ -255,6 +258,20 @@ less_place u s i a b l n e = subst (λ x. to_come u s x < to_come u s a) (sym e)
 pub less_use : (u : List Interface) (s : Choice) (i : ℕ) (name : List ℕ) (m : Command) (a b : Walk) → command_at u s i name ≡ Some m → is_used a i name ≡ false → b ≡ with_use i name a → to_come u s b < to_come u s a
 less_use u s i name m a b c n e = subst (λ x. to_come u s x < to_come u s a) (sym e) (use_less u s i name m a c n)
 
+-- what a note of a command says
+abbrev pub Known : ℕ → List Stop → List Stop → List ℕ → Type 0
+Known i a b name = (needed_at a i name ≡ true) × (b ≡ a)
+
+abbrev pub Noted : ℕ → List Stop → List Stop → List ℕ → Type 0
+Noted i a b name = (needed_at a i name ≡ false) × (b ≡ and_needed a i name)
+
+-- one stop more
+pub less_came : (u : List Interface) (s : Choice) (i : ℕ) (a b : List Stop) → i < length u → came_to a i ≡ false → b ≡ and_came a i → to_come u s (walk_of_stops s b) < to_come u s (walk_of_stops s a)
+less_came u s i a b l n e = less_place u s i (walk_of_stops s a) (walk_of_stops s b) l (listed_came s i a ∙ n) (ap (walk_of_stops s) e ∙ places_more s i a)
+
+pub less_needed : (u : List Interface) (s : Choice) (i : ℕ) (name : List ℕ) (m : Command) (a b : List Stop) → command_at u s i name ≡ Some m → needed_at a i name ≡ false → b ≡ and_needed a i name → to_come u s (walk_of_stops s b) < to_come u s (walk_of_stops s a)
+less_needed u s i name m a b c n e = less_use u s i name m (walk_of_stops s a) (walk_of_stops s b) c (used_needed s i name a ∙ n) (ap (walk_of_stops s) e ∙ uses_more s i name a)
+
 -- whether a command isn't among those that are used
 abbrev pub named : ℕ → List ℕ → List Used → Bool
 named i name ks = not (list_any (same_use i name) ks)
@@ -288,10 +305,6 @@ front (y ∷ ys) x l e = ap (λ z. z ∷ ys) (sym e) ∙ ap (λ zs. x ∷ zs) (s
 pub empty : {A : Type 0} (xs : List A) → length xs < 1 → xs ≡ []
 empty [] l = refl
 empty (x ∷ xs) l = absurd (omega (arith, l))
-
-pub one_more_taken : {A B C : Type 0} (f : A → C) (g : B → C) (ys : List A) (xs : List B) (i : ℕ) (y : A) (x : B) → i < length xs → x ≡ get_or xs i x → map f ys ≡ map g (take i xs) → f y ≡ g x → map f (ys ++ y ∷ []) ≡ map g (take (i + 1) xs)
-one_more_taken f g ys xs i y x l e h k =
-    map-append f ys (y ∷ []) ∙ ap (λ zs. zs ++ f y ∷ []) h ∙ ap (λ z. map g (take i xs) ++ z ∷ []) k ∙ sym (map-append g (take i xs) (x ∷ [])) ∙ ap (map g) (sym (front_more xs i x l e))
 
 -- an address that is gone through for the first time isn't there yet
 not_there : (is : List Interface) (i : ℕ) (y : List ℕ) → ((k : ℕ) (d : Interface) → k < i → (get_or is k d).uri ≡ y → ⊥) → i ≤ length is → list_any (bytes_eq y) (uris_of (take i is)) ≡ false

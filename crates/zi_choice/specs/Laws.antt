@@ -4,6 +4,8 @@ use Rattle.zi_universe.specs.declared.types.Requirement.{Requirement}
 use Rattle.zi_universe.specs.declared.types.Interface.{Interface}
 use Rattle.zi_choice.specs.Choice.{Choice, first_alone}
 use Rattle.zi_choice.specs.Walk.{Walk, Walks}
+use Rattle.zi_choice.specs.Stops.{AreStops, walk_of_stops}
+use Rattle.zi_choice.specs.declared.traced.Stop.{Stop}
 use Rattle.zi_choice.specs.Valid.{IsValid}
 use Rattle.zi_choice.specs.Best.{RanksEarlier, IsBest}
 
@@ -14,6 +16,14 @@ WalkIsOne = (u : List Interface) (req : Requirement) (s : Choice) (v w : Walk) �
 -- a choice has a walk
 abbrev pub WalkIsThere : Type 0
 WalkIsThere = (u : List Interface) (req : Requirement) (s : Choice) → (w : Walk) × Walks u req s w
+
+-- a walk has stops, which told apart are the walk
+abbrev pub StopsAreThere : Type 0
+StopsAreThere = (u : List Interface) (req : Requirement) (s : Choice) (w : Walk) → Walks u req s w → (xs : List Stop) × AreStops u req s xs × (walk_of_stops s xs ≡ w)
+
+-- a choice has no others
+abbrev pub StopsAreOne : Type 0
+StopsAreOne = (u : List Interface) (req : Requirement) (s : Choice) (xs ys : List Stop) → AreStops u req s xs → AreStops u req s ys → xs ≡ ys
 
 -- "ranks earlier" is a strict order
 pub record IsStrict (u : List Interface) (req : Requirement) : Type 0 where

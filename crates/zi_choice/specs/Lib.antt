@@ -5,6 +5,7 @@ pub mod Best
 pub mod Laws
 pub mod Vars
 pub mod Left
+pub mod Stops
 pub mod Tables
 pub mod Tasks
 pub mod Traces

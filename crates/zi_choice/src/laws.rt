@@ -1,6 +1,6 @@
 //! What holds of walks and of the best choice as such: each function's clause is a law, proved over the definitions alone.
 
-ghost use Rattle.zi_choice.specs.Laws.{WalkIsOne, WalkIsThere, EarlierIsStrict, OneRanksEarlier, BestIsOne, BestIsThere, FirstAloneIsBest, NoRootNoChoice};
+ghost use Rattle.zi_choice.specs.Laws.{WalkIsOne, WalkIsThere, StopsAreThere, StopsAreOne, EarlierIsStrict, OneRanksEarlier, BestIsOne, BestIsThere, FirstAloneIsBest, NoRootNoChoice};
 
 /// A choice has one walk at most.
 pub fn walk_is_one()
@@ -10,6 +10,16 @@ pub fn walk_is_one()
 /// A choice has a walk.
 pub fn walk_is_there()
     ensures { WalkIsThere }
+{}
+
+/// A walk has stops: what it comes to, in one list. Told apart they are its places and its used commands.
+pub fn stops_are_there()
+    ensures { StopsAreThere }
+{}
+
+/// A choice has no other stops.
+pub fn stops_are_one()
+    ensures { StopsAreOne }
 {}
 
 /// "Ranks earlier" is a strict order.

@@ -1,11 +1,11 @@
 //! Choices and their walks, as values.
 
-ghost use Rattle.std.specs.Prelude.{◌≡◌, IfOk, map};
+ghost use Rattle.std.specs.Prelude.{◌≡◌, ◌++◌, ◌∷◌, [], IfOk, OnOk, map};
 ghost use Rattle.zi_universe.specs.Whole.{BeginsWith};
 ghost use Rattle.zi_choice.specs.Choice.{Fits, pick};
 ghost use Rattle.zi_choice.specs.Walk.{Walks};
 ghost use Rattle.zi_choice.specs.Traces.{as_place, as_use, as_walk};
-ghost use Rattle.zi_choice.specs.Tasks.{place_at};
+ghost use Rattle.zi_choice.specs.Stops.{AreStops, places_of, uses_of};
 
 use crate::names::Names;
 use crate::walking::{Setting, walk};
@@ -38,6 +38,30 @@ pub struct Used {
     pub command: Text,
 }
 
+/// A stop of a walk: what it comes to for the first time.
+#[derive(Drop, PartialEq, Eq, Hash)]
+pub enum Stop {
+    /// The interface of this number, from 0, is listed.
+    Came(u32),
+    /// The command of this name is used of the interface of this number.
+    Needed(u32, Text),
+}
+
+impl Stop {
+    /// The stop again, with a copy of its name.
+    pub fn copy(&self, alloc: Global) -> Result<Stop, Memory>
+        ensures { IfOk result (λ x. x ≡ self.now) }
+    {
+        match self {
+            Stop::Came(i) => Ok(Stop::Came(*i)),
+            Stop::Needed(i, name) => {
+                let command = name.copy(alloc)?;
+                Ok(Stop::Needed(*i, command))
+            }
+        }
+    }
+}
+
 /// A walk: where a choice leads from the root, depth first and in document order.
 pub struct Traced {
     /// The interfaces that it comes to, each once.
@@ -63,32 +87,52 @@ pub(crate) fn picked(picks: &[Option<u32>], i: u32) -> Option<u32>
     }
 }
 
+// The place of a stop, if it is one.
+fn add_place(picks: &[Option<u32>], stop: &Stop, places: &mut List<Place>) -> Result<(), Memory>
+    ensures { OnOk result (map as_place places.new ≡ map as_place places.old ++ places_of picks.now (stop.now ∷ [])) }
+{
+    match stop {
+        Stop::Came(i) => {
+            let interface = *i;
+            let pick = picked(picks, interface);
+            places.push(Place { interface, pick })
+        }
+        Stop::Needed(_, _) => Ok(()),
+    }
+}
+
 // The places of a walk.
-fn places(alloc: Global, picks: &[Option<u32>], order: &[u32]) -> Result<List<Place>, Memory>
-    ensures { IfOk result (λ ps. map as_place ps ≡ map (place_at picks.now) order.now) }
+fn places(alloc: Global, picks: &[Option<u32>], stops: &[Stop]) -> Result<List<Place>, Memory>
+    ensures { IfOk result (λ ps. map as_place ps ≡ places_of picks.now stops.now) }
 {
     let mut places = List::new(alloc);
-    for interface in order {
-        let pick = picked(picks, *interface);
-        places.push(Place {
-            interface: *interface,
-            pick,
-        })?;
+    for stop in stops {
+        add_place(picks, stop, &mut places)?;
     }
     Ok(places)
 }
 
+// The used command of a stop, if it is one.
+fn add_use(alloc: Global, stop: &Stop, uses: &mut List<Used>) -> Result<(), Memory>
+    ensures { OnOk result (map as_use uses.new ≡ map as_use uses.old ++ uses_of (stop.now ∷ [])) }
+{
+    match stop {
+        Stop::Came(_) => Ok(()),
+        Stop::Needed(i, name) => {
+            let interface = *i;
+            let command = name.copy(alloc)?;
+            uses.push(Used { interface, command })
+        }
+    }
+}
+
 // The used commands of a walk.
-fn uses(alloc: Global, used: &[Used]) -> Result<List<Used>, Memory>
-    ensures { IfOk result (λ xs. map as_use xs ≡ map as_use used.now) }
+fn uses(alloc: Global, stops: &[Stop]) -> Result<List<Used>, Memory>
+    ensures { IfOk result (λ xs. map as_use xs ≡ uses_of stops.now) }
 {
     let mut uses = List::new(alloc);
-    for x in used {
-        let command = x.command.copy(alloc)?;
-        uses.push(Used {
-            interface: x.interface,
-            command,
-        })?;
+    for stop in stops {
+        add_use(alloc, stop, &mut uses)?;
     }
     Ok(uses)
 }
@@ -112,8 +156,8 @@ pub fn trace_picks(
         picks,
     };
     let way = walk(&on, &req.command)?;
-    let places = places(alloc, picks, way.order.as_slice())?;
-    let used = uses(alloc, way.used.as_slice())?;
+    let places = places(alloc, picks, way.stops.as_slice())?;
+    let used = uses(alloc, way.stops.as_slice())?;
     Ok(Traced { places, used })
 }
 
@@ -125,4 +169,36 @@ pub fn trace(alloc: Global, u: &Universe, req: &Requirement, c: &Choice) -> Resu
 {
     let names = Names::of(alloc, u)?;
     trace_picks(alloc, &names, req, c.picks.as_slice())
+}
+
+// Stops again.
+fn copies(alloc: Global, stops: &[Stop]) -> Result<List<Stop>, Memory>
+    ensures { IfOk result (λ xs. xs ≡ stops.now) }
+{
+    let mut copies = List::new(alloc);
+    for stop in stops {
+        copies.push(stop.copy(alloc)?)?;
+    }
+    Ok(copies)
+}
+
+/// The stops of what is picked for each interface, and for none behind the last pick: what its walk comes to, places and used
+/// commands in one list, in the order in which they are met. The work is that of the walk.
+pub fn stops(
+    alloc: Global,
+    names: &Names,
+    req: &Requirement,
+    picks: &[Option<u32>],
+) -> Result<List<Stop>, Memory>
+    ensures { IfOk result (λ xs. AreStops names.now req.now picks.now xs) }
+{
+    let on = Setting {
+        alloc,
+        universe: names.universe(),
+        names,
+        picks,
+    };
+    let way = walk(&on, &req.command)?;
+    let stops = copies(alloc, way.stops.as_slice())?;
+    Ok(stops)
 }

@@ -1,12 +1,13 @@
 //! A walk, task by task, without recursion.
 ghost use Rattle.std.specs.Prelude.{◌≡◌, ◌≤◌, ◌<◌, ◌+◌, ◌∷◌, ◌++◌, [], true, false, Some, length, IfOk, IfSome, OnOk, option_copied, map};
 ghost use Rattle.zi_choice.specs.Choice.{chosen, command_of, needs_of};
-ghost use Rattle.zi_choice.specs.Walk.{Visits, Needs, NeedsEach, Follows, leads_to};
-ghost use Rattle.zi_choice.specs.Tasks.{universe_of, picks_of, walk_of, Does, Runs, Steps, Moves, WalksOn, size, sizes, dep_size, deps_size, IsFurther, IsSame};
+ghost use Rattle.zi_choice.specs.Walk.{leads_to};
+ghost use Rattle.zi_choice.specs.Stops.{came_to, needed_at, and_came, and_needed, VisitStops, NeedStops, NeedEachStops, FollowStops};
+ghost use Rattle.zi_choice.specs.Tasks.{universe_of, picks_of, stops_of, Does, Runs, Steps, Moves, StopsOn, size, sizes, dep_size, deps_size, IsFurther, IsSame};
 ghost use Rattle.zi_choice.specs.declared.walking.Way.{Way as AWay};
 
 use crate::names::Names;
-use crate::traced::{Used, picked};
+use crate::traced::{Stop, picked};
 use indexmap::IndexSet;
 use std::alloc::Global;
 use zi_inherited::Inherited;
@@ -23,17 +24,10 @@ pub(crate) struct Setting<'u> {
     pub picks: &'u [Option<u32>],
 }
 
-/// What a walk has come to: the interfaces by their numbers, and the commands that are used.
+/// What a walk has come to, in order.
+#[derive(Drop)]
 pub(crate) struct Way {
-    pub order: IndexSet<u32>,
-    pub used: IndexSet<Used>,
-}
-
-// One call wherever one is dropped.
-impl Drop for Way {
-    fn drop(self) {
-        let Way { order: _, used: _ } = self;
-    }
+    pub stops: IndexSet<Stop>,
 }
 
 /// What is still to be done.
@@ -86,7 +80,7 @@ fn add_follows<'u>(
     deps: &'u Inherited<Dep>,
     tasks: &mut Vec<Task<'u>>,
 ) -> Result<(), Memory>
-    ensures { OnOk result ((way : AWay) → Steps on.now (Follows (universe_of on.now) (picks_of on.now) deps.now) tasks.old.items way tasks.new.items way) }
+    ensures { OnOk result ((way : AWay) → Steps on.now (FollowStops (universe_of on.now) (picks_of on.now) deps.now) tasks.old.items way tasks.new.items way) }
 {
     let segments = deps.segments(on.alloc)?;
     let pieces = segments.as_slice();
@@ -98,6 +92,24 @@ fn add_follows<'u>(
     Ok(())
 }
 
+// An interface is one more stop, if it isn't one yet. Says whether it was new.
+fn note_interface(way: &mut Way, i: u32) -> Result<bool, Memory>
+    ensures new { IfOk result (λ new. new ≡ true → (came_to way.old.stops.keys i ≡ false) × (way.new.stops.keys ≡ and_came way.old.stops.keys i)) }
+    ensures old { IfOk result (λ new. new ≡ false → (came_to way.old.stops.keys i ≡ true) × (way.new.stops.keys ≡ way.old.stops.keys)) }
+{
+    let new = way.stops.insert(Stop::Came(i))?;
+    Ok(new)
+}
+
+// A command is one more stop, if it isn't one yet. Says whether it was new.
+fn note_command(way: &mut Way, i: u32, name: Text) -> Result<bool, Memory>
+    ensures new { IfOk result (λ new. new ≡ true → (needed_at way.old.stops.keys i name ≡ false) × (way.new.stops.keys ≡ and_needed way.old.stops.keys i name)) }
+    ensures old { IfOk result (λ new. new ≡ false → (needed_at way.old.stops.keys i name ≡ true) × (way.new.stops.keys ≡ way.old.stops.keys)) }
+{
+    let new = way.stops.insert(Stop::Needed(i, name))?;
+    Ok(new)
+}
+
 // An interface is visited. Says whether it was new.
 fn visit<'u>(
     on: &Setting<'u>,
@@ -106,11 +118,11 @@ fn visit<'u>(
     way: &mut Way,
 ) -> Result<bool, Memory>
     requires { i < length (universe_of on.now) }
-    ensures steps { OnOk result (Steps on.now (Visits (universe_of on.now) (picks_of on.now) i) tasks.old.items way.old tasks.new.items way.new) }
+    ensures steps { OnOk result (Steps on.now (VisitStops (universe_of on.now) (picks_of on.now) i) tasks.old.items way.old tasks.new.items way.new) }
     ensures new { IfOk result (λ new. new ≡ true → IsFurther on.now way.old way.new) }
-    ensures old { IfOk result (λ new. new ≡ false → (tasks.new.items ≡ tasks.old.items) × IsSame on.now way.old way.new) }
+    ensures old { IfOk result (λ new. new ≡ false → (tasks.new.items ≡ tasks.old.items) × IsSame way.old way.new) }
 {
-    if !way.order.insert(i)? {
+    if !note_interface(way, i)? {
         return Ok(false);
     }
     let Some(k) = chosen(on, i) else {
@@ -127,7 +139,7 @@ fn add_needs<'u>(
     tasks: &mut Vec<Task<'u>>,
     way: &Way,
 ) -> Result<(), Memory>
-    ensures { OnOk result (Steps on.now (Follows (universe_of on.now) (picks_of on.now) (needs_of m.now)) tasks.old.items way.now tasks.new.items way.now) }
+    ensures { OnOk result (Steps on.now (FollowStops (universe_of on.now) (picks_of on.now) (needs_of m.now)) tasks.old.items way.now tasks.new.items way.now) }
 {
     if let Some(runner) = &m.runner {
         tasks.push(Task::FollowOne(&runner.dep))?;
@@ -145,9 +157,9 @@ fn need<'u>(
     way: &mut Way,
 ) -> Result<bool, Memory>
     requires { on.now.names.now ≡ universe_of on.now }
-    ensures steps { OnOk result (Steps on.now (Needs (universe_of on.now) (picks_of on.now) i name.now) tasks.old.items way.old tasks.new.items way.new) }
+    ensures steps { OnOk result (Steps on.now (NeedStops (universe_of on.now) (picks_of on.now) i name.now) tasks.old.items way.old tasks.new.items way.new) }
     ensures new { IfOk result (λ new. new ≡ true → IsFurther on.now way.old way.new) }
-    ensures old { IfOk result (λ new. new ≡ false → (tasks.new.items ≡ tasks.old.items) × IsSame on.now way.old way.new) }
+    ensures old { IfOk result (λ new. new ≡ false → (tasks.new.items ≡ tasks.old.items) × IsSame way.old way.new) }
 {
     let Some(k) = chosen(on, i) else {
         return Ok(false);
@@ -156,11 +168,7 @@ fn need<'u>(
         return Ok(false);
     };
     let command = name.copy(on.alloc)?;
-    let used = Used {
-        interface: i,
-        command,
-    };
-    if !way.used.insert(used)? {
+    if !note_command(way, i, command)? {
         return Ok(false);
     }
     add_needs(on, m, tasks, way)?;
@@ -175,9 +183,9 @@ fn along<'u>(
     way: &mut Way,
 ) -> Result<bool, Memory>
     requires { on.now.names.now ≡ universe_of on.now }
-    ensures steps { OnOk result (Steps on.now (Follows (universe_of on.now) (picks_of on.now) (dep.now ∷ [])) tasks.old.items way.old tasks.new.items way.new) }
+    ensures steps { OnOk result (Steps on.now (FollowStops (universe_of on.now) (picks_of on.now) (dep.now ∷ [])) tasks.old.items way.old tasks.new.items way.new) }
     ensures new { IfOk result (λ new. new ≡ true → IsFurther on.now way.old way.new) }
-    ensures old { IfOk result (λ new. new ≡ false → (sizes tasks.new.items < sizes tasks.old.items + dep_size dep.now) × IsSame on.now way.old way.new) }
+    ensures old { IfOk result (λ new. new ≡ false → (sizes tasks.new.items < sizes tasks.old.items + dep_size dep.now) × IsSame way.old way.new) }
 {
     let Some(i) = leads_to(on, dep) else {
         return Ok(false);
@@ -195,9 +203,9 @@ fn follow<'u>(
     way: &mut Way,
 ) -> Result<bool, Memory>
     requires { on.now.names.now ≡ universe_of on.now }
-    ensures steps { OnOk result (Steps on.now (Follows (universe_of on.now) (picks_of on.now) deps.now) tasks.old.items way.old tasks.new.items way.new) }
+    ensures steps { OnOk result (Steps on.now (FollowStops (universe_of on.now) (picks_of on.now) deps.now) tasks.old.items way.old tasks.new.items way.new) }
     ensures new { IfOk result (λ new. new ≡ true → IsFurther on.now way.old way.new) }
-    ensures old { IfOk result (λ new. new ≡ false → (sizes tasks.new.items < sizes tasks.old.items + (1 + deps_size deps.now)) × IsSame on.now way.old way.new) }
+    ensures old { IfOk result (λ new. new ≡ false → (sizes tasks.new.items < sizes tasks.old.items + (1 + deps_size deps.now)) × IsSame way.old way.new) }
 {
     let [dep, rest @ ..] = deps else {
         return Ok(false);
@@ -216,9 +224,9 @@ fn need_first<'u>(
     way: &mut Way,
 ) -> Result<bool, Memory>
     requires { on.now.names.now ≡ universe_of on.now }
-    ensures steps { OnOk result (Steps on.now (NeedsEach (universe_of on.now) (picks_of on.now) i names.now) tasks.old.items way.old tasks.new.items way.new) }
+    ensures steps { OnOk result (Steps on.now (NeedEachStops (universe_of on.now) (picks_of on.now) i names.now) tasks.old.items way.old tasks.new.items way.new) }
     ensures new { IfOk result (λ new. new ≡ true → IsFurther on.now way.old way.new) }
-    ensures old { IfOk result (λ new. new ≡ false → (sizes tasks.new.items < sizes tasks.old.items + (1 + length names.now)) × IsSame on.now way.old way.new) }
+    ensures old { IfOk result (λ new. new ≡ false → (sizes tasks.new.items < sizes tasks.old.items + (1 + length names.now)) × IsSame way.old way.new) }
 {
     let [name, rest @ ..] = names else {
         return Ok(false);
@@ -238,7 +246,7 @@ fn step<'u>(
     requires { on.now.names.now ≡ universe_of on.now }
     ensures steps { OnOk result (Steps on.now (Does (universe_of on.now) (picks_of on.now) task.entry) tasks.old.items way.old tasks.new.items way.new) }
     ensures new { IfOk result (λ new. new ≡ true → IsFurther on.now way.old way.new) }
-    ensures old { IfOk result (λ new. new ≡ false → (sizes tasks.new.items < sizes tasks.old.items + size task.entry) × IsSame on.now way.old way.new) }
+    ensures old { IfOk result (λ new. new ≡ false → (sizes tasks.new.items < sizes tasks.old.items + size task.entry) × IsSame way.old way.new) }
 {
     match task {
         Task::Follow(deps) => follow(on, deps, tasks, way),
@@ -253,7 +261,7 @@ fn advance<'u>(on: &Setting<'u>, tasks: &mut Vec<Task<'u>>, way: &mut Way) -> Re
     ensures moves { OnOk result (Moves on.now tasks.old.items way.old tasks.new.items way.new) }
     ensures new { IfOk result (λ new. new ≡ true → IsFurther on.now way.old way.new) }
     ensures done { IfOk result (λ new. new ≡ false → tasks.new.items ≡ []) }
-    ensures same { IfOk result (λ new. new ≡ false → IsSame on.now way.old way.new) }
+    ensures same { IfOk result (λ new. new ≡ false → IsSame way.old way.new) }
 {
     while let Some(task) = tasks.pop() {
         if step(on, task, tasks, way)? {
@@ -266,7 +274,7 @@ fn advance<'u>(on: &Setting<'u>, tasks: &mut Vec<Task<'u>>, way: &mut Way) -> Re
 // All tasks, to the end.
 fn finish<'u>(on: &Setting<'u>, mut tasks: Vec<Task<'u>>, way: &mut Way) -> Result<(), Memory>
     requires { on.now.names.now ≡ universe_of on.now }
-    ensures { OnOk result (Runs (universe_of on.now) (picks_of on.now) tasks.entry.items (walk_of on.now way.old) (walk_of on.now way.new)) }
+    ensures { OnOk result (Runs (universe_of on.now) (picks_of on.now) tasks.entry.items (stops_of way.old) (stops_of way.new)) }
 {
     let mut more = true;
     while more {
@@ -279,7 +287,7 @@ fn finish<'u>(on: &Setting<'u>, mut tasks: Vec<Task<'u>>, way: &mut Way) -> Resu
 fn visit_all(on: &Setting, i: u32, way: &mut Way) -> Result<(), Memory>
     requires numbered { on.now.names.now ≡ universe_of on.now }
     requires there { i < length (universe_of on.now) }
-    ensures { OnOk result (Visits (universe_of on.now) (picks_of on.now) i (walk_of on.now way.old) (walk_of on.now way.new)) }
+    ensures { OnOk result (VisitStops (universe_of on.now) (picks_of on.now) i (stops_of way.old) (stops_of way.new)) }
 {
     let mut tasks = Vec::new(on.alloc);
     visit(on, i, &mut tasks, way)?;
@@ -289,7 +297,7 @@ fn visit_all(on: &Setting, i: u32, way: &mut Way) -> Result<(), Memory>
 // A command is needed, and all that follows is done.
 fn need_all(on: &Setting, i: u32, name: &Text, way: &mut Way) -> Result<(), Memory>
     requires { on.now.names.now ≡ universe_of on.now }
-    ensures { OnOk result (Needs (universe_of on.now) (picks_of on.now) i name.now (walk_of on.now way.old) (walk_of on.now way.new)) }
+    ensures { OnOk result (NeedStops (universe_of on.now) (picks_of on.now) i name.now (stops_of way.old) (stops_of way.new)) }
 {
     let mut tasks = Vec::new(on.alloc);
     need(on, i, name, &mut tasks, way)?;
@@ -299,11 +307,10 @@ fn need_all(on: &Setting, i: u32, name: &Text, way: &mut Way) -> Result<(), Memo
 /// The whole walk, from the root.
 pub(crate) fn walk(on: &Setting, command: &Option<Text>) -> Result<Way, Memory>
     requires numbered { on.now.names.now ≡ universe_of on.now }
-    ensures { IfOk result (λ way. WalksOn on.now command.now way) }
+    ensures { IfOk result (λ way. StopsOn on.now command.now way) }
 {
     let mut way = Way {
-        order: IndexSet::new(on.alloc),
-        used: IndexSet::new(on.alloc),
+        stops: IndexSet::new(on.alloc),
     };
     on.universe.root();
     visit_all(on, 0, &mut way)?;

@@ -6,6 +6,7 @@ use Rattle.std.specs.Str.{chars, is_utf8}
 use Rattle.std.proofs.lemmas.Bool.Decides.{nat_tests}
 use Rattle.std.proofs.lemmas.Str.{is_utf8-from_IsUtf8}
 use Rattle.std.proofs.lemmas.Bool.{and_from, and_parts}
+use Rattle.std.proofs.lemmas.List.Elements.{All-nil}
 use Rattle.zi_xml.specs.Chars.{is_char}
 use Rattle.zi_docout.specs.Amiss.{is_carried, first_amiss}
 use Rattle.zi_policy.specs.declared.types.Policy.{Policy}
@@ -13,6 +14,7 @@ use Rattle.zi_digest.specs.declared.DigestName.{DigestName}
 use Rattle.zi_outside.specs.Views.{Holding, Feeding, holding}
 use Rattle.zi_words.specs.declared.request.Ask.{Ask}
 use Rattle.zi_words.specs.Forms.{is_address, is_carried as is_right}
+use Rattle.zi_packages.specs.declared.types.Packages.{Packages}
 use Rattle.zi_universe.specs.declared.types.Interface.{Interface}
 use Rattle.zi_universe.specs.declared.types.Requirement.{Requirement}
 use Rattle.zi_universe.specs.declared.fault.LoadFault.{LoadFault}
@@ -23,8 +25,9 @@ use Rattle.zi_choice.specs.Valid.{IsValid}
 use Rattle.zi_sels.specs.declared.types.Selections.{Selections}
 use Rattle.zi_sels.specs.Chosen.{AreSelected}
 use Rattle.zi_sels.specs.Written.{tree}
+use Rattle.zi_sels_laws.specs.Rows.{IsRightRow, HasRightRows}
 use Rattle.zi_choosing.specs.Wanted.{requirement_of}
-use Rattle.zi_choosing.specs.Loaded.{task_of, IsLoaded, IsRefused}
+use Rattle.zi_choosing.specs.Loaded.{no_packages, task_of, IsLoaded, IsRefused}
 use Rattle.zi_choosing.specs.SelectParts.{CanBeWritten}
 
 -- The address of a root can be carried by XML.
@@ -47,25 +50,30 @@ root_carried text root e h utf8 = subst (λ t. is_carried t ≡ true) (sym e) (c
 
 -- What was loaded is what the words ask for.
 
+-- rows of which there are none are right
+no_rows : (t : Packages) → t ≡ no_packages → HasRightRows t
+no_rows t e = subst HasRightRows (sym e) (All-nil IsRightRow)
+
 -- each element of what a valid choice from a loaded universe selects can be written, as the law says
-pub all_written : (before after : Feeding) (req : Requirement) (policy : Policy) (stored : List DigestName) (u : List Interface)
+pub all_written : (before after : Feeding) (req : Requirement) (policy : Policy) (stored : List DigestName) (packages : Packages) (u : List Interface)
     → ((told : Option Holding) (r : Requirement) (p : Policy) (s : Store) (universe : List Interface) (choice : Choice) (sels : Selections)
-    → is_carried r.interface ≡ true → Loads told r p s universe → IsValid universe r choice → AreSelected universe r choice sels → first_amiss (tree sels) ≡ None)
-    → is_carried req.interface ≡ true → LoadsAsking (record { req = req; policy = policy; stored = names_of stored }) before u after → CanBeWritten u req
-all_written before after req policy stored u law root loads choice valid sels are = law (holding before) req policy (names_of stored) u choice sels root loads.loads valid are
+    → is_carried r.interface ≡ true → HasRightRows s.packages → Loads told r p s universe → IsValid universe r choice → AreSelected universe r choice sels → first_amiss (tree sels) ≡ None)
+    → packages ≡ no_packages → is_carried req.interface ≡ true → LoadsAsking (record { req = req; policy = policy; stored = names_of stored packages }) before u after → CanBeWritten u req
+all_written before after req policy stored packages u law none root loads choice valid sels are =
+    law (holding before) req policy (names_of stored packages) u choice sels root (no_rows packages none) loads.loads valid are
 
-task_is : (stored : List DigestName) (ask : Ask) (req : Requirement) (policy : Policy) → req ≡ requirement_of ask → policy ≡ ask.policy
-    → ◌≡◌ {A = Task} (record { req = req; policy = policy; stored = names_of stored }) (task_of stored ask)
-task_is stored ask req policy at_req at_policy =
-    let task : Requirement → Policy → Task = λ r p. record { req = r; policy = p; stored = names_of stored } in
-    ap (λ r. task r policy) at_req ∙ ap (λ p. task (requirement_of ask) p) at_policy
+task_is : (stored : List DigestName) (packages : Packages) (ask : Ask) (req : Requirement) (policy : Policy) → packages ≡ no_packages → req ≡ requirement_of ask → policy ≡ ask.policy
+    → ◌≡◌ {A = Task} (record { req = req; policy = policy; stored = names_of stored packages }) (task_of stored ask)
+task_is stored packages ask req policy none at_req at_policy =
+    let task : Packages → Requirement → Policy → Task = λ t r p. record { req = r; policy = p; stored = names_of stored t } in
+    ap (λ t. task t req policy) none ∙ (ap (λ r. task no_packages r policy) at_req ∙ ap (λ p. task no_packages (requirement_of ask) p) at_policy)
 
-pub loaded_as : (stored : List DigestName) (ask : Ask) (req : Requirement) (policy : Policy) (before after : Feeding) (u : List Interface) → req ≡ requirement_of ask → policy ≡ ask.policy
-    → LoadsAsking (record { req = req; policy = policy; stored = names_of stored }) before u after → IsLoaded stored ask before after u
-loaded_as stored ask req policy before after u at_req at_policy loads =
-    subst (λ t. LoadsAsking t before u after) (task_is stored ask req policy at_req at_policy) loads
+pub loaded_as : (stored : List DigestName) (packages : Packages) (ask : Ask) (req : Requirement) (policy : Policy) (before after : Feeding) (u : List Interface) → packages ≡ no_packages
+    → req ≡ requirement_of ask → policy ≡ ask.policy → LoadsAsking (record { req = req; policy = policy; stored = names_of stored packages }) before u after → IsLoaded stored ask before after u
+loaded_as stored packages ask req policy before after u none at_req at_policy loads =
+    subst (λ t. LoadsAsking t before u after) (task_is stored packages ask req policy none at_req at_policy) loads
 
-pub refused_as : (stored : List DigestName) (ask : Ask) (req : Requirement) (policy : Policy) (before after : Feeding) (e : LoadFault) → req ≡ requirement_of ask → policy ≡ ask.policy
-    → RefusesAsking (record { req = req; policy = policy; stored = names_of stored }) before e after → IsRefused stored ask before after e
-refused_as stored ask req policy before after e at_req at_policy refuses =
-    subst (λ t. RefusesAsking t before e after) (task_is stored ask req policy at_req at_policy) refuses
+pub refused_as : (stored : List DigestName) (packages : Packages) (ask : Ask) (req : Requirement) (policy : Policy) (before after : Feeding) (e : LoadFault) → packages ≡ no_packages
+    → req ≡ requirement_of ask → policy ≡ ask.policy → RefusesAsking (record { req = req; policy = policy; stored = names_of stored packages }) before e after → IsRefused stored ask before after e
+refused_as stored packages ask req policy before after e none at_req at_policy refuses =
+    subst (λ t. RefusesAsking t before e after) (task_is stored packages ask req policy none at_req at_policy) refuses

@@ -26,7 +26,7 @@ use Rattle.zi_parts.specs.declared.types.Runner.{Runner}
 use Rattle.zi_parts.specs.declared.types.Word.{Word}
 use Rattle.zi_parts.specs.declared.types.Word.TheVariants.{Arg, ForEach}
 use Rattle.zi_parts.specs.declared.types.Binding.{Binding}
-use Rattle.zi_parts.specs.declared.types.Binding.TheVariants.{Env, Unbuilt}
+use Rattle.zi_parts.specs.declared.types.Binding.TheVariants.{Env, ExecVar, ExecPath, Unbuilt}
 use Rattle.zi_parts.specs.declared.types.Extra.{Extra}
 use Rattle.zi_parts.specs.declared.types.Extra.TheVariants.{Insert, Value}
 use Rattle.zi_parts.specs.declared.types.Mode.{Mode}
@@ -111,8 +111,28 @@ binding_tells (Env n x m s d) (Env n' x' m' s' d') =
     (λ (h : (n ≡ n') × ((x ≡ x') × ((m ≡ m') × ((s ≡ s') × (d ≡ d'))))) i. Env (h.0 i) (h.1.0 i) (h.1.1.0 i) (h.1.1.1.0 i) (h.1.1.1.1 i))
     (λ e. (cc, (cc, (cc, (cc, cc)))))
     (Decides-and _ _ (texts n n') (Decides-and _ _ (extra_tells x x') (Decides-and _ _ (mode_tells m m') (Decides-and _ _ (texts s s') (options (pointwise ◌==◌) texts d d')))))
-binding_tells (Env n x m s d) (Unbuilt e) = (λ t. absurd (false≢true t), λ e. absurd cc)
-binding_tells (Unbuilt e) (Env n x m s d) = (λ t. absurd (false≢true t), λ e. absurd cc)
+binding_tells (Env n x m s d) (ExecVar n' k') = (λ t. absurd (false≢true t), λ h. absurd cc)
+binding_tells (Env n x m s d) (ExecPath n' k') = (λ t. absurd (false≢true t), λ h. absurd cc)
+binding_tells (Env n x m s d) (Unbuilt e') = (λ t. absurd (false≢true t), λ h. absurd cc)
+binding_tells (ExecVar n k) (Env n' x' m' s' d') = (λ t. absurd (false≢true t), λ h. absurd cc)
+binding_tells (ExecVar n k) (ExecVar n' k') =
+    Decides-like ((binding.eq-value).it (ExecVar n k) (ExecVar n' k'))
+    (λ (h : (n ≡ n') × (k ≡ k')) i. ExecVar (h.0 i) (h.1 i))
+    (λ e. (cc, cc))
+    (Decides-and _ _ (texts n n') (texts k k'))
+binding_tells (ExecVar n k) (ExecPath n' k') = (λ t. absurd (false≢true t), λ h. absurd cc)
+binding_tells (ExecVar n k) (Unbuilt e') = (λ t. absurd (false≢true t), λ h. absurd cc)
+binding_tells (ExecPath n k) (Env n' x' m' s' d') = (λ t. absurd (false≢true t), λ h. absurd cc)
+binding_tells (ExecPath n k) (ExecVar n' k') = (λ t. absurd (false≢true t), λ h. absurd cc)
+binding_tells (ExecPath n k) (ExecPath n' k') =
+    Decides-like ((binding.eq-value).it (ExecPath n k) (ExecPath n' k'))
+    (λ (h : (n ≡ n') × (k ≡ k')) i. ExecPath (h.0 i) (h.1 i))
+    (λ e. (cc, cc))
+    (Decides-and _ _ (texts n n') (texts k k'))
+binding_tells (ExecPath n k) (Unbuilt e') = (λ t. absurd (false≢true t), λ h. absurd cc)
+binding_tells (Unbuilt e) (Env n' x' m' s' d') = (λ t. absurd (false≢true t), λ h. absurd cc)
+binding_tells (Unbuilt e) (ExecVar n' k') = (λ t. absurd (false≢true t), λ h. absurd cc)
+binding_tells (Unbuilt e) (ExecPath n' k') = (λ t. absurd (false≢true t), λ h. absurd cc)
 binding_tells (Unbuilt x) (Unbuilt y) = (λ t. ap Unbuilt ((texts x y).0 t), λ e. (texts x y).1 cc)
 
 word_tells : Tells (word.eq-value).it
@@ -155,52 +175,29 @@ command_tells a b =
 selection_tells : Tells (selection.eq-value).it
 selection_tells a b =
     Decides-like ((selection.eq-value).it a b)
-    (λ (h : (a.interface ≡ b.interface) × ((a.id ≡ b.id) × ((a.version ≡ b.version) × ((a.from_feed ≡ b.from_feed) × ((a.local ≡ b.local) × ((a.arch ≡ b.arch) × ((a.released ≡ b.released) × ((a.stability ≡ b.stability)
-    × ((a.digests ≡ b.digests) × ((a.deps ≡ b.deps) × ((a.commands ≡ b.commands) × (a.bindings ≡ b.bindings)))))))))))) i.
+    (λ (h : (a.interface ≡ b.interface) × ((a.id ≡ b.id) × ((a.version ≡ b.version) × ((a.from_feed ≡ b.from_feed) × ((a.«package» ≡ b.«package») × ((a.local ≡ b.local) × ((a.arch ≡ b.arch) × ((a.released ≡ b.released) × ((a.stability ≡ b.stability)
+    × ((a.digests ≡ b.digests) × ((a.deps ≡ b.deps) × ((a.commands ≡ b.commands) × (a.bindings ≡ b.bindings))))))))))))) i.
     record {
       interface = h.0 i;
       id = h.1.0 i;
       version = h.1.1.0 i;
       from_feed = h.1.1.1.0 i;
-      local = h.1.1.1.1.0 i;
-      arch = h.1.1.1.1.1.0 i;
-      released = h.1.1.1.1.1.1.0 i;
-      stability = h.1.1.1.1.1.1.1.0 i;
-      digests = h.1.1.1.1.1.1.1.1.0 i;
-      deps = h.1.1.1.1.1.1.1.1.1.0 i;
-      commands = h.1.1.1.1.1.1.1.1.1.1.0 i;
-      bindings = h.1.1.1.1.1.1.1.1.1.1.1 i;
+      «package» = h.1.1.1.1.0 i;
+      local = h.1.1.1.1.1.0 i;
+      arch = h.1.1.1.1.1.1.0 i;
+      released = h.1.1.1.1.1.1.1.0 i;
+      stability = h.1.1.1.1.1.1.1.1.0 i;
+      digests = h.1.1.1.1.1.1.1.1.1.0 i;
+      deps = h.1.1.1.1.1.1.1.1.1.1.0 i;
+      commands = h.1.1.1.1.1.1.1.1.1.1.1.0 i;
+      bindings = h.1.1.1.1.1.1.1.1.1.1.1.1 i;
     })
-    (λ e. (
-      ap (λ x. x.interface) e,
-      (
-        ap (λ x. x.id) e,
-        (
-          ap (λ x. x.version) e,
-          (
-            ap (λ x. x.from_feed) e,
-            (
-              ap (λ x. x.local) e,
-              (
-                ap (λ x. x.arch) e,
-                (
-                  ap (λ x. x.released) e,
-                  (
-                    ap (λ x. x.stability) e,
-                    (ap (λ x. x.digests) e, (ap (λ x. x.deps) e, (ap (λ x. x.commands) e, ap (λ x. x.bindings) e))),
-                  ),
-                ),
-              ),
-            ),
-          ),
-        ),
-      ),
-    ))
+    (λ e. (ap (λ x. x.interface) e, (ap (λ x. x.id) e, (ap (λ x. x.version) e, (ap (λ x. x.from_feed) e, (ap (λ x. x.«package») e, (ap (λ x. x.local) e, (ap (λ x. x.arch) e, (ap (λ x. x.released) e, (ap (λ x. x.stability) e, (ap (λ x. x.digests) e, (ap (λ x. x.deps) e, (ap (λ x. x.commands) e, ap (λ x. x.bindings) e)))))))))))))
     (Decides-and _ _ (texts a.interface b.interface) (Decides-and _ _ (texts a.id b.id) (Decides-and _ _ (texts a.version b.version) (Decides-and _ _ (texts a.from_feed b.from_feed)
-    (Decides-and _ _ (options (pointwise ◌==◌) texts a.local b.local) (Decides-and _ _ (options (pointwise ◌==◌) texts a.arch b.arch) (Decides-and _ _ (options (pointwise ◌==◌) texts a.released b.released)
+    (Decides-and _ _ (options (pointwise ◌==◌) texts a.«package» b.«package») (Decides-and _ _ (options (pointwise ◌==◌) texts a.local b.local) (Decides-and _ _ (options (pointwise ◌==◌) texts a.arch b.arch) (Decides-and _ _ (options (pointwise ◌==◌) texts a.released b.released)
     (Decides-and _ _ (options (pointwise ◌==◌) texts a.stability b.stability) (Decides-and _ _ (lists (digest.eq-value).it digest_tells a.digests b.digests)
     (Decides-and _ _ (lists (dep.eq-value).it dep_tells a.deps b.deps) (Decides-and _ _ (lists (command.eq-value).it command_tells a.commands b.commands)
-    (lists (binding.eq-value).it binding_tells a.bindings b.bindings))))))))))))
+    (lists (binding.eq-value).it binding_tells a.bindings b.bindings)))))))))))))
 
 pub selections_tell : Tells (selections.eq-value).it
 selections_tell a b =

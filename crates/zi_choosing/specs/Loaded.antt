@@ -4,6 +4,7 @@ use Rattle.zi_digest.specs.declared.DigestName.{DigestName}
 use Rattle.zi_outside.specs.Views.{Feeding, Sinking}
 use Rattle.zi_store.specs.Keeping.{Keeps, is_names}
 use Rattle.zi_words.specs.declared.request.Ask.{Ask}
+use Rattle.zi_packages.specs.declared.types.Packages.{Packages}
 use Rattle.zi_universe.specs.declared.types.Interface.{Interface}
 use Rattle.zi_universe.specs.declared.types.Requirement.{Requirement}
 use Rattle.zi_universe.specs.declared.fault.LoadFault.{LoadFault}
@@ -18,9 +19,13 @@ use Rattle.zi_world.specs.World.{World, FeedsUnasked, ShelfCalm}
 use Rattle.zi_world.specs.StoreRead.{FailsAt, AreStored}
 use Rattle.zi_choosing.specs.Wanted.{requirement_of}
 
+-- no packages of the operating system, as none is chosen from
+abbrev pub no_packages : Packages
+no_packages = record { distribution = []; rows = [] }
+
 -- what the words ask for, over a store with these names
 abbrev pub task_of : List DigestName → Ask → Task
-task_of stored ask = record { req = requirement_of ask; policy = ask.policy; stored = names_of stored }
+task_of stored ask = record { req = requirement_of ask; policy = ask.policy; stored = names_of stored no_packages }
 
 -- the loading of that gives these interfaces, the root first
 abbrev pub IsLoaded : List DigestName → Ask → Feeding → Feeding → List Interface → Type 0

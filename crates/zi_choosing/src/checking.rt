@@ -17,6 +17,7 @@ use zi_choice::Names;
 use zi_digest::DigestName;
 use zi_outcome::{Outcome, put_text, refused};
 use zi_outside::{Feeds, FeedsFault, Got, Sink};
+use zi_packages::Packages;
 use zi_proof::{Certificate, ProofFault};
 use zi_sels::{Selections, SelsFault};
 use zi_shelf::{Shelf, ShelfFault};
@@ -203,7 +204,8 @@ fn check_over<F: Feeds, O: Sink>(
     let Ok(job) = into_job(alloc, ask) else {
         return Outcome::Memory;
     };
-    match load(alloc, &job.req, &job.policy, stored, feeds) {
+    let packages = Packages::nothing(alloc);
+    match load(alloc, &job.req, &job.policy, stored, &packages, feeds) {
         Ok(universe) => check_file(alloc, &universe, &job.req, sels, proof, feeds, out),
         Err(fault) => refused(fault),
     }

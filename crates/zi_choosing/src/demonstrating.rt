@@ -20,6 +20,7 @@ use zi_choice::Choice;
 use zi_demo::universe_of;
 use zi_outcome::{Outcome, put_text, refused};
 use zi_outside::{Feeds, Sink};
+use zi_packages::Packages;
 use zi_proof::{Certificate, Proof};
 use zi_solve::{Answer, solve};
 use zi_text::{Memory, Text};
@@ -144,7 +145,8 @@ fn count_over<F: Feeds, O: Sink>(alloc: Global, feeds: &mut F, out: &mut O) -> O
     let Ok(job) = demo_job(alloc) else {
         return Outcome::Memory;
     };
-    match load(alloc, &job.req, &job.policy, &[], feeds) {
+    let packages = Packages::nothing(alloc);
+    match load(alloc, &job.req, &job.policy, &[], &packages, feeds) {
         Ok(universe) => count_best(alloc, &job.req, &universe, out),
         Err(fault) => refused(fault),
     }

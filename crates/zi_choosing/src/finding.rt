@@ -15,6 +15,7 @@ use zi_choice::Choice;
 use zi_digest::DigestName;
 use zi_outcome::{Outcome, refused};
 use zi_outside::Feeds;
+use zi_packages::Packages;
 use zi_sels::from_choice;
 use zi_shelf::{Shelf, ShelfFault};
 use zi_solve::{Answer, solve};
@@ -64,7 +65,15 @@ fn find_over<F: Feeds>(
 {
     let budget = ask.search;
     let job = into_job(alloc, ask)?;
-    let universe = match load(alloc, &job.req, &job.policy, stored.as_slice(), feeds) {
+    let packages = Packages::nothing(alloc);
+    let universe = match load(
+        alloc,
+        &job.req,
+        &job.policy,
+        stored.as_slice(),
+        &packages,
+        feeds,
+    ) {
         Ok(universe) => universe,
         Err(fault) => return Err(refused(fault)),
     };

@@ -11,6 +11,7 @@ use zi_check::check_none;
 use zi_digest::DigestName;
 use zi_outcome::{Outcome, put_text, refused};
 use zi_outside::{Feeds, FeedsFault, Got, Sink};
+use zi_packages::Packages;
 use zi_proof::{Certificate, ProofFault, read};
 use zi_shelf::{Shelf, ShelfFault};
 use zi_store::stored_names;
@@ -107,7 +108,8 @@ fn refute_over<F: Feeds, O: Sink>(
     let Ok(job) = into_job(alloc, ask) else {
         return Outcome::Memory;
     };
-    match load(alloc, &job.req, &job.policy, stored, feeds) {
+    let packages = Packages::nothing(alloc);
+    match load(alloc, &job.req, &job.policy, stored, &packages, feeds) {
         Ok(universe) => check_file(alloc, &job.req, &universe, name, feeds, out),
         Err(fault) => refused(fault),
     }

@@ -22,6 +22,7 @@ use zi_digest::DigestName;
 use zi_docout::WriteFault;
 use zi_outcome::{Outcome, put_text, refused};
 use zi_outside::{Feeds, Sink};
+use zi_packages::Packages;
 use zi_proof::{Certificate, Proof};
 use zi_sels::{Selections, from_choice};
 use zi_shelf::{Shelf, ShelfFault};
@@ -182,7 +183,8 @@ fn select_over<F: Feeds, O: Sink>(
         return Outcome::Memory;
     };
     what_is_chosen_can_be_written();
-    match load(alloc, &job.req, &job.policy, stored, feeds) {
+    let packages = Packages::nothing(alloc);
+    match load(alloc, &job.req, &job.policy, stored, &packages, feeds) {
         Ok(universe) => {
             let outcome = choose(alloc, &job.req, &universe, budget, proof, out);
             // The program ends behind this, and to take all apart would take a tenth of its time.

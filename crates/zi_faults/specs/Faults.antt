@@ -1,6 +1,6 @@
 -- The faults of a feed (the Zero Install feed format): one table.
-use Rattle.std.specs.Prelude.{ℕ, Bool, true, false, not, ◌&&◌, ◌||◌, ◌==◌, nat_le, nat_lt, List, [], ◌∷◌, ◌++◌, map, Option, Some, None, is_some, codes, if◌then◌else◌}
-use Rattle.std.specs.List.{list_any, filter}
+use Rattle.std.specs.Prelude.{ℕ, Bool, true, false, not, ◌&&◌, ◌||◌, ◌==◌, nat_le, nat_lt, nat_eq, List, [], ◌∷◌, ◌++◌, map, Option, Some, None, is_some, codes, if◌then◌else◌}
+use Rattle.std.specs.List.{list_any, filter, starts_with}
 use Rattle.zi_elements.specs.Forest.{Elem, attribute, has, lacks, value}
 use Rattle.zi_text.specs.Numeral.{numeral}
 use Rattle.zi_policy.specs.Platform.{arch_of}
@@ -16,7 +16,7 @@ use Rattle.zi_faults.specs.Sites.{Site, path}
 use Rattle.zi_faults.specs.Said.{Said, said, version_text, local_text}
 use Rattle.zi_faults.specs.declared.fault.Fault.{Fault}
 use Rattle.zi_faults.specs.declared.fault.FeedKind.{FeedKind}
-use Rattle.zi_faults.specs.declared.fault.FeedKind.TheVariants.{NotInterface, NoId, BadVersion, BadRange, BadArch, BadDigest, BadPart, BadStep, NoInterface, WrongUri, BadStability, BadAddress, SameId}
+use Rattle.zi_faults.specs.declared.fault.FeedKind.TheVariants.{NotInterface, NoId, BadVersion, BadRange, BadArch, BadDigest, BadPart, BadStep, NoInterface, WrongUri, BadStability, BadAddress, SameId, NoPackage}
 
 abbrev pub number : FeedKind → ℕ
 number NotInterface = 1
@@ -32,10 +32,11 @@ number WrongUri = 10
 number BadStability = 11
 number BadAddress = 12
 number SameId = 13
+number NoPackage = 14
 
 -- those from 8 on
 abbrev pub late_kinds : List FeedKind
-late_kinds = BadStep ∷ NoInterface ∷ WrongUri ∷ BadStability ∷ BadAddress ∷ SameId ∷ []
+late_kinds = BadStep ∷ NoInterface ∷ WrongUri ∷ BadStability ∷ BadAddress ∷ SameId ∷ NoPackage ∷ []
 
 -- all kinds, in the order of their numbers
 abbrev pub all_kinds : List FeedKind
@@ -123,6 +124,7 @@ has_fault ways s BadAddress e =
     || (is (codes "file") e && has_bad_address ways (codes "href") e)
     || (is_impl e && has_bad_local ways s e)
 has_fault ways s SameId e = false
+has_fault ways s NoPackage e = is (codes "package-implementation") e && is_none (value (codes "package") e)
 
 abbrev pub fault_at : Elem → FeedKind → Fault
 fault_at e k = record { kind = k; place = e.place }
@@ -130,6 +132,25 @@ fault_at e k = record { kind = k; place = e.place }
 -- the elements that repeat one: a second runner in a command, and a second command of one name in one element
 unfoldable pub repeats_in : Ways → Elem → List Elem
 repeats_in ways e = repeated (λ a b. true) (named ways (listed (codes "runner")) e) ++ repeated (share (codes "name")) (named ways (listed (codes "command")) e)
+
+-- A name that no program of a shim can have: an empty one, one that begins with `.`, one that holds `/`, `=` or a newline.
+abbrev pub holds : ℕ → List ℕ → Bool
+holds b text = list_any (λ c. c == b) text
+
+abbrev pub is_no_program : List ℕ → Bool
+is_no_program name = is_none name || starts_with nat_eq name (codes ".") || holds 47 name || holds 61 name || holds 10 name
+
+-- a binding that makes a command known under such a name, or under none
+unfoldable pub is_bad_shim : Elem → Bool
+is_bad_shim e = is_no_program (value (codes "name") e)
+
+-- an element whose bindings may make a command known
+abbrev pub takes_shims : Elem → Bool
+takes_shims e = is (codes "requires") e || is (codes "runner") e
+
+-- the bad ones in a dependency; elsewhere these bindings aren't built, and no name of theirs is looked at
+unfoldable pub shims_in : Ways → Elem → List Elem
+shims_in ways e = if takes_shims e then filter is_bad_shim (named ways (listed (codes "executable-in-var executable-in-path")) e) else []
 
 -- those of these kinds that stand at an element
 abbrev pub kinds_among : List FeedKind → Ways → Said → Elem → List FeedKind
@@ -139,12 +160,12 @@ kinds_among kinds ways s e = filter (λ k. has_fault ways s k e) kinds
 unfoldable pub kinds_at : Ways → Said → Elem → List FeedKind
 kinds_at ways s e = kinds_among all_kinds ways s e
 
--- The faults at one element where this is said along its path, and of repeats in it. Where its condition is no expression,
--- that is the only one.
+-- The faults at one element where this is said along its path, of repeats in it and of shims in it. Where its condition is no
+-- expression, that is the only one.
 unfoldable pub faults_with : Ways → Said → Elem → List Fault
 faults_with ways s e =
     if is_unclear e then fault_at e BadRange ∷ []
-    else map (fault_at e) (kinds_at ways s e) ++ map (λ r. fault_at r BadPart) (repeats_in ways e)
+    else map (fault_at e) (kinds_at ways s e) ++ map (λ r. fault_at r BadPart) (repeats_in ways e ++ shims_in ways e)
 
 abbrev pub faults_at : Ways → Site → List Fault
 faults_at ways t = faults_with ways (said (path t)) t.element

@@ -1,5 +1,6 @@
 //! The faults at one element, a function for each kind.
-ghost use Rattle.std.specs.Prelude.{◌≡◌, ◌&&◌, ◌||◌, IfOk, codes, map, true, option_copied, is_some};
+ghost use Rattle.std.specs.Prelude.{◌≡◌, ◌&&◌, ◌||◌, ◌++◌, IfOk, codes, map, true, option_copied, is_some};
+ghost use Rattle.std.specs.List.{filter};
 ghost use Rattle.zi_elements.specs.Forest.{element_view, attribute, lacks, value};
 ghost use Rattle.zi_policy.specs.Platform.{arch_of};
 ghost use Rattle.zi_text.specs.Numeral.{numeral};
@@ -10,7 +11,7 @@ ghost use Rattle.zi_parts.specs.Digests.{digest_by, attribute_by};
 ghost use Rattle.zi_reading.specs.Forms.{is_version, is_expression, stability_of, is_path, is_dest};
 ghost use Rattle.zi_parts.specs.Values.{mode_of, importance_of};
 ghost use Rattle.zi_reading.specs.Reading.{meaning, is};
-ghost use Rattle.zi_faults.specs.Faults.{names_interface, is_impl, has_bad_digits, is_bad_environment, is_bad_for_each, is_bad_file, is_bad_rename, has_bad_address, is_wrong_local, has_bad_local, has_fault, share, is_bad_part, has_no_interface, repeats_in, late_kinds, kinds_among, kinds_at, faults_with, fault_at, number, is_first, least, lesser_of};
+ghost use Rattle.zi_faults.specs.Faults.{names_interface, is_impl, has_bad_digits, is_bad_environment, is_bad_for_each, is_bad_file, is_bad_rename, has_bad_address, is_wrong_local, has_bad_local, has_fault, share, is_bad_part, has_no_interface, repeats_in, is_no_program, is_bad_shim, takes_shims, shims_in, late_kinds, kinds_among, kinds_at, faults_with, fault_at, number, is_first, least, lesser_of};
 ghost use Rattle.zi_faults.specs.Said.{version_text};
 ghost use Rattle.zi_reading.specs.Views.{views};
 ghost use Rattle.zi_faults.specs.Carrying.{said_by, IsChecked};
@@ -290,6 +291,13 @@ fn has_no_interface(e: &Part) -> bool
         || (e.is(Kind::Feed) && !has(e.element(), "src"))
 }
 
+// A `package-implementation` that names no package.
+fn has_no_package(e: &Part) -> bool
+    ensures { result ≡ (is (codes "package-implementation") (element_view e.now) && is_none (value (codes "package") (element_view e.now))) }
+{
+    e.is(Kind::PackageImplementation) && value(e.element(), "package").is_empty()
+}
+
 // A stability that a feed may not say.
 fn has_bad_stability(said: &Carried, e: &Part) -> bool
     ensures { result ≡ (is_impl (element_view e.now) && is_wrong (λ t. is_some (stability_of t)) (said_by said.now).stability) }
@@ -396,6 +404,9 @@ fn late_kind(
     if is_badly_addressed(alloc, ways, said, e)? {
         return Ok(Some(FeedKind::BadAddress));
     }
+    if has_no_package(e) {
+        return Ok(Some(FeedKind::NoPackage));
+    }
     Ok(None)
 }
 
@@ -470,6 +481,7 @@ pub fn number(kind: FeedKind) -> u8
         FeedKind::BadStability => 11,
         FeedKind::BadAddress => 12,
         FeedKind::SameId => 13,
+        FeedKind::NoPackage => 14,
     }
 }
 
@@ -536,8 +548,73 @@ fn repeat_in(alloc: Global, ways: Ways, e: &Part) -> Result<Option<Fault>, Memor
     Ok(lesser_of(second, shared))
 }
 
-/// The least fault at an element where this is said along its path, itself included, and of repeats in it. Memory is the one
-/// refusal.
+// A name that no program of a shim can have.
+fn is_no_program(name: &[u8]) -> bool
+    ensures { result ≡ is_no_program name.now }
+{
+    name.is_empty()
+        || name.starts_with(b".")
+        || name.contains(&b'/')
+        || name.contains(&b'=')
+        || name.contains(&b'\n')
+}
+
+// A binding that makes a command known under such a name, or under none.
+#[tactic(auto, unfolding(crate::specs::Faults::is_bad_shim))]
+fn is_bad_shim(e: &Element) -> bool
+    ensures { result ≡ is_bad_shim (element_view e.now) }
+{
+    is_no_program(value(e, "name").as_bytes())
+}
+
+// The least fault of those of these bindings that are bad.
+fn least_bad_shim(elements: &[&Element]) -> Option<Fault>
+    ensures { result ≡ least (map (λ r. fault_at r kind.BadPart) (filter is_bad_shim (views elements.now))) }
+{
+    let mut found = None;
+    for e in elements {
+        if is_bad_shim(e) {
+            found = lesser_of(found, Some(fault_at(e, FeedKind::BadPart)));
+        }
+    }
+    found
+}
+
+// Whether the bindings in it may make a command known.
+fn takes_shims(e: &Part) -> bool
+    ensures { result ≡ takes_shims (element_view e.now) }
+{
+    e.is(Kind::Requires) || e.is(Kind::Runner)
+}
+
+// The least fault of the bindings in a dependency that make a command known.
+#[tactic(auto, unfolding(crate::specs::Faults::shims_in))]
+fn shim_in(alloc: Global, ways: Ways, e: &Part) -> Result<Option<Fault>, Memory>
+    ensures { IfOk result (λ f. f ≡ least (map (λ r. fault_at r kind.BadPart) (shims_in (ways_of ways.entry) (element_view e.now)))) }
+{
+    if !takes_shims(e) {
+        return Ok(None);
+    }
+    let parts = parts(alloc, ways, e)?;
+    let shims = elements_of(
+        alloc,
+        [Kind::ExecutableInVar, Kind::ExecutableInPath].as_slice(),
+        parts.as_slice(),
+    )?;
+    Ok(least_bad_shim(shims.as_slice()))
+}
+
+// The least fault of what stands in an element: of repeats, and of shims.
+fn inner_fault(alloc: Global, ways: Ways, e: &Part) -> Result<Option<Fault>, Memory>
+    ensures { IfOk result (λ f. f ≡ least (map (λ r. fault_at r kind.BadPart) (repeats_in (ways_of ways.entry) (element_view e.now) ++ shims_in (ways_of ways.entry) (element_view e.now)))) }
+{
+    let repeat = repeat_in(alloc, ways, e)?;
+    let shim = shim_in(alloc, ways, e)?;
+    Ok(lesser_of(repeat, shim))
+}
+
+/// The least fault at an element where this is said along its path, itself included, of repeats in it and of shims in it.
+/// Memory is the one refusal.
 #[tactic(auto, unfolding(crate::specs::Faults::faults_with))]
 pub fn fault_with(
     alloc: Global,
@@ -556,5 +633,5 @@ pub fn fault_with(
         Some(kind) => Some(fault_at(e, kind)),
         None => None,
     };
-    Ok(lesser_of(own, repeat_in(alloc, ways, part)?))
+    Ok(lesser_of(own, inner_fault(alloc, ways, part)?))
 }

@@ -58,15 +58,15 @@ four_added a b o d k r n h = (is, subst IsAdded (sym is) (is_added a o h))
         ∙ ap (λ v. record { deps = a.deps ++ o.deps; commands = latest are_alike (a.commands ++ o.commands); has_run = a.has_run || list_any is_run o.commands; bindings = v }) n))
 
 -- Along a path.
-deps_along : (a : Added) (os : List Own) → (fold added_with a os).deps ≡ a.deps ++ flat_map (λ (o : Own). o.deps) os
+pub deps_along : (a : Added) (os : List Own) → (fold added_with a os).deps ≡ a.deps ++ flat_map (λ (o : Own). o.deps) os
 deps_along a [] = sym (append-nil a.deps)
 deps_along a (o ∷ os) = deps_along (added_with a o) os ∙ append_assoc a.deps o.deps (flat_map (λ (o : Own). o.deps) os)
 
-bindings_along : (a : Added) (os : List Own) → (fold added_with a os).bindings ≡ a.bindings ++ flat_map (λ (o : Own). o.bindings) os
+pub bindings_along : (a : Added) (os : List Own) → (fold added_with a os).bindings ≡ a.bindings ++ flat_map (λ (o : Own). o.bindings) os
 bindings_along a [] = sym (append-nil a.bindings)
 bindings_along a (o ∷ os) = bindings_along (added_with a o) os ∙ append_assoc a.bindings o.bindings (flat_map (λ (o : Own). o.bindings) os)
 
-commands_along : (a : Added) (os : List Own) → latest are_alike (fold added_with a os).commands ≡ latest are_alike (a.commands ++ flat_map (λ (o : Own). o.commands) os)
+pub commands_along : (a : Added) (os : List Own) → latest are_alike (fold added_with a os).commands ≡ latest are_alike (a.commands ++ flat_map (λ (o : Own). o.commands) os)
 commands_along a [] = ap (latest are_alike) (sym (append-nil a.commands))
 commands_along a (o ∷ os) =
     let later : List Command = flat_map (λ (o : Own). o.commands) os in
@@ -92,13 +92,13 @@ any_run : (p : Policy) (cs : List Command) → list_any is_run (map (active_comm
 any_run p [] = refl
 any_run p (c ∷ cs) = ap (λ v. is_run c || v) (any_run p cs)
 
-main_active : (p : Policy) (m : Option (List ℕ)) (cs : List Command) → with_main m (map (active_command p) cs) ≡ map (active_command p) (with_main m cs)
+pub main_active : (p : Policy) (m : Option (List ℕ)) (cs : List Command) → with_main m (map (active_command p) cs) ≡ map (active_command p) (with_main m cs)
 main_active p None cs = refl
 main_active p (Some m) cs =
     let ks : List Command = map (active_command p) cs in
     ap (λ b. cond b ks (ks ++ main_command m ∷ [])) (any_run p cs) ∙ run_active p (list_any is_run cs) m cs
 
-latest_active : (p : Policy) (cs : List Command) → latest are_alike (map (active_command p) cs) ≡ map (active_command p) (latest are_alike cs)
+pub latest_active : (p : Policy) (cs : List Command) → latest are_alike (map (active_command p) cs) ≡ map (active_command p) (latest are_alike cs)
 latest_active p cs = latest_map are_alike are_alike (active_command p) (λ c d. refl) cs
 
 with_active : (p : Policy) (ways : Ways) (s : Said) (e : Elem) (ds : List Dep) (cs : List Command) (bs : List Binding) (version : List ℕ)

@@ -10,6 +10,7 @@ use Rattle.zi_faults.specs.declared.fault.Fault.{Fault}
 use Rattle.zi_faults.specs.declared.carrying.Seen.{Seen}
 use Rattle.zi_parts.specs.declared.types.Import.{Import}
 use Rattle.zi_parts.specs.declared.types.Impl.{Impl}
+use Rattle.zi_parts.specs.declared.types.Native.{Native}
 use Rattle.zi_feed.specs.declared.feed.Feed.{Feed}
 use Rattle.zi_policy.specs.declared.types.Policy.{Policy}
 use Rattle.zi_feed.specs.Active.{kept_feed}
@@ -129,12 +130,16 @@ imports_left uri ss = map (import_of (InFeed uri)) (filter (is (codes "feed")) (
 pub imports_end : (uri : List ℕ) (ss : List Seen) (i : ℕ) (found total : List Import) → length ss ≤ i → found ++ imports_left uri (drop i ss) ≡ total → found ≡ total
 imports_end uri ss i found total h kept = sym (append-nil found) ∙ (ap (λ v. found ++ imports_left uri v) (sym (drop_all i ss h)) ∙ kept)
 
--- a feed of which three fields are what is kept of another
-pub kept_whole : (policy : Option Policy) (f : Feed) (uri : List ℕ) (imports : List Import) (impls : List Impl) → uri ≡ f.uri → imports ≡ f.imports → impls ≡ (kept_feed policy f).impls
-    → ◌≡◌ {A = Feed} (record { uri = uri; imports = imports; impls = impls }) (kept_feed policy f)
-kept_whole None f uri imports impls u m i =
-    ap (λ v. record { uri = v; imports = imports; impls = impls }) u
-    ∙ (ap (λ v. record { uri = f.uri; imports = v; impls = impls }) m ∙ ap (λ v. record { uri = f.uri; imports = f.imports; impls = v }) i)
-kept_whole (Some p) f uri imports impls u m i =
-    ap (λ v. record { uri = v; imports = imports; impls = impls }) u
-    ∙ (ap (λ v. record { uri = f.uri; imports = v; impls = impls }) m ∙ ap (λ v. record { uri = f.uri; imports = f.imports; impls = v }) i)
+-- a feed of which each field is what is kept of another
+four_are : (f : Feed) (uri : List ℕ) (imports : List Import) (impls : List Impl) (natives : List Native) → uri ≡ f.uri → imports ≡ f.imports → impls ≡ f.impls → natives ≡ f.natives
+    → ◌≡◌ {A = Feed} (record { uri = uri; imports = imports; impls = impls; natives = natives }) f
+four_are f uri imports impls natives u m i n =
+    ap (λ v. record { uri = v; imports = imports; impls = impls; natives = natives }) u
+    ∙ (ap (λ v. record { uri = f.uri; imports = v; impls = impls; natives = natives }) m
+    ∙ (ap (λ v. record { uri = f.uri; imports = f.imports; impls = v; natives = natives }) i ∙ ap (λ v. record { uri = f.uri; imports = f.imports; impls = f.impls; natives = v }) n))
+
+pub kept_whole : (policy : Option Policy) (f : Feed) (uri : List ℕ) (imports : List Import) (impls : List Impl) (natives : List Native) → uri ≡ f.uri → imports ≡ f.imports
+    → impls ≡ (kept_feed policy f).impls → natives ≡ (kept_feed policy f).natives
+    → ◌≡◌ {A = Feed} (record { uri = uri; imports = imports; impls = impls; natives = natives }) (kept_feed policy f)
+kept_whole None f uri imports impls natives u m i n = four_are f uri imports impls natives u m i n
+kept_whole (Some p) f uri imports impls natives u m i n = four_are (kept_feed (Some p) f) uri imports impls natives u m i n

@@ -1,8 +1,10 @@
 pub mod AddedLaws
 pub mod FindingLaws
+pub mod GatherLaws
 pub mod ImplLaws
 pub mod KeptLaws
 pub mod LatestLaws
 pub mod MadeLaws
+pub mod NativeLaws
 pub mod PlaceLaws
 pub mod ShareLaws

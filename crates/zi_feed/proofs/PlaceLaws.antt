@@ -13,7 +13,7 @@ use Rattle.zi_reading.specs.Reading.{stands, is_closed, is_unclear}
 use Rattle.zi_faults.specs.Sites.{Site, sites, under, here, path}
 use Rattle.zi_faults.specs.Said.{said, version_text}
 use Rattle.zi_feed.specs.Impls.{impl_of, impl_from}
-use Rattle.zi_faults.specs.Faults.{is_impl, has_fault, fault_at, kinds_at, faults_with, faults_at, counts, implementations, same_ids, root_faults, repeats_in, all_kinds}
+use Rattle.zi_faults.specs.Faults.{is_impl, has_fault, fault_at, kinds_at, faults_with, faults_at, counts, implementations, same_ids, root_faults, repeats_in, shims_in, all_kinds}
 use Rattle.zi_feed.specs.Feeds.{feed_fault, feed_of, feed_sites, all_faults}
 use Rattle.zi_feed.specs.IdLaws.{by_bool, true_false, cons_nil, none_some, both_empty, map_nil, second_fails, unclear_false, no_faults}
 use Rattle.zi_elements.specs.Places.{places, IsBelow, AreRising}
@@ -43,7 +43,7 @@ has_version ways t c right =
     let e : Elem = t.element in
     let p : (is_impl e ≡ true) × (is_unclear e ≡ false) = unclear_false e c in
     let clear : is_unclear e ≡ false = p.1 in
-    let found : map (fault_at e) (kinds_at ways (said (path t)) e) ++ map (λ r. fault_at r BadPart) (repeats_in ways e) ≡ [] = rw clear at right in
+    let found : map (fault_at e) (kinds_at ways (said (path t)) e) ++ map (λ r. fault_at r BadPart) (repeats_in ways e ++ shims_in ways e) ≡ [] = rw clear at right in
     let kinds : kinds_at ways (said (path t)) e ≡ [] = map_nil (fault_at e) (kinds_at ways (said (path t)) e) (both_empty _ _ found).0 in
     let later : filter (λ k. has_fault ways (said (path t)) k e) (drop 1 all_kinds) ≡ [] = tail_fails (λ k. has_fault ways (said (path t)) k e) NotInterface (drop 1 all_kinds) kinds in
     let fails : has_fault ways (said (path t)) BadVersion e ≡ false = second_fails (λ k. has_fault ways (said (path t)) k e) NoId BadVersion (drop 3 all_kinds) later in

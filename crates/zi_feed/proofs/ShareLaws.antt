@@ -8,17 +8,21 @@ use Rattle.zi_elements.specs.Forest.{Elem}
 use Rattle.zi_version.specs.Range.{a_version}
 use Rattle.zi_parts.specs.declared.types.Dep.{Dep}
 use Rattle.zi_parts.specs.declared.types.Impl.{Impl}
+use Rattle.zi_parts.specs.declared.types.Native.{Native}
 use Rattle.zi_feed.specs.declared.along.Added.{Added}
 use Rattle.zi_feed.specs.declared.made.Made.{Made}
 use Rattle.zi_feed.specs.declared.shares.Level.{Level}
 use Rattle.zi_feed.specs.declared.shares.Numbers.{Numbers}
+use Rattle.zi_feed.specs.declared.shares.NativeNumbers.{NativeNumbers}
 use Rattle.zi_feed.specs.declared.shares.Shares.{Shares}
 use Rattle.zi_feed.specs.declared.shares.Gathered.{Gathered}
+use Rattle.zi_feed.specs.declared.shares.ReadFeed.{ReadFeed}
+use Rattle.zi_feed.specs.declared.feed.Feed.{Feed}
 use Rattle.zi_reading.specs.Ways.{Ways}
 use Rattle.zi_faults.specs.Said.{Said, version_text, unsaid}
-use Rattle.zi_feed.specs.Impls.{impl_with, impl_from}
-use Rattle.zi_feed.specs.Inward.{made_of, added_nothing, impl_at}
-use Rattle.zi_feed.specs.Shares.{Grows, TablesGrow, Adds, Gathers, deps_at, AreLevels, NumbersFit, HasNumbers, AreShared}
+use Rattle.zi_feed.specs.Impls.{langs_of, impl_with, impl_from}
+use Rattle.zi_feed.specs.Inward.{made_of, added_nothing, impl_at, native_at}
+use Rattle.zi_feed.specs.Shares.{Grows, TablesGrow, Adds, Gathers, deps_at, AreLevels, NumbersFit, HasNumbers, HasNativeNumbers, AreShared, NativesAreShared, IsGathered}
 use Rattle.zi_text.proofs.ListLaws.{at_front, at_last}
 
 -- Places in lists that grow.
@@ -118,12 +122,27 @@ none_shared s none right = record {
 }
 
 -- as the tables grow, what was shared is
-pub shared_grown : (s t : Shares) (is : List Impl) → Adds s t → AreShared s is → AreShared t is
+shared_grown : (s t : Shares) (is : List Impl) → Adds s t → AreShared s is → AreShared t is
 shared_grown s t is a h = record {
   levels = a.levels;
   count = ap length a.of ∙ h.count;
   each = λ k n i e f. fit_grown s t n (Some i.version) i.langs i.deps a.tables (h.each k n i (ap (λ q. slice_get q k) (sym a.of) ∙ e) f);
 }
+
+pub no_natives : (s : Shares) → s.of_natives ≡ [] → NativesAreShared s []
+no_natives s none = record { count = ap length none; each = λ k n i e f. absurd (cc) }
+
+natives_grown : (s t : Shares) (is : List Native) → Adds s t → NativesAreShared s is → NativesAreShared t is
+natives_grown s t is a h = record {
+  count = ap length a.of_natives ∙ h.count;
+  each = λ k n i e f. let g : HasNativeNumbers s n i = h.each k n i (ap (λ q. slice_get q k) (sym a.of_natives) ∙ e) f in record {
+    langs = at_grown s.langs t.langs n.langs i.langs a.tables.langs g.langs;
+    level = deps_grown s.levels t.levels n.level i.deps a.tables.levels g.level;
+  };
+}
+
+pub gathered_grown : (g : Gathered) (t : Shares) → Adds g.shares t → IsGathered g → IsGathered (record g { shares = t })
+gathered_grown g t a h = record { impls = shared_grown g.shares t g.impls a h.impls; natives = natives_grown g.shares t g.natives a h.natives }
 
 -- one implementation more
 module _ (s : Shares) (is js : List Impl) (n : Numbers) (i : Impl) (of : List Numbers) (numbers : of ≡ s.of ++ n ∷ []) (impls : js ≡ is ++ i ∷ []) (h : AreShared s is) (fits : HasNumbers s n i) where
@@ -149,6 +168,40 @@ module _ (s : Shares) (is js : List Impl) (n : Numbers) (i : Impl) (of : List Nu
     each = λ k m j e f. again m j (one k m j (ap (λ q. slice_get q k) (sym numbers) ∙ e) (ap (λ q. slice_get q k) (sym impls) ∙ f));
   }
 
+-- the packages are as they were
+natives_stay : (s : Shares) (of : List Numbers) (is : List Native) → NativesAreShared s is → NativesAreShared (record s { of = of }) is
+natives_stay s of is h = record { count = h.count; each = λ k n i e f. let g : HasNativeNumbers s n i = h.each k n i e f in record { langs = g.langs; level = g.level } }
+
+-- one package more
+module _ (s : Shares) (is js : List Native) (n : NativeNumbers) (i : Native) (of : List NativeNumbers) (numbers : of ≡ s.of_natives ++ n ∷ []) (natives : js ≡ is ++ i ∷ [])
+    (h : NativesAreShared s is) (fits : HasNativeNumbers s n i) where
+  once : (k : ℕ) (m : NativeNumbers) (j : Native) → slice_get (s.of_natives ++ n ∷ []) k ≡ Some m → slice_get (is ++ i ∷ []) k ≡ Some j → HasNativeNumbers s m j
+  once k m j e f = elim (at_cases s.of_natives n k m e) [
+    | inl a ↦ elim (at_cases is i k j f) [
+      | inl b ↦ h.each k m j a b
+      | inr b ↦ absurd (let w : k < length s.of_natives = slice_get_within s.of_natives k m a in omega (arith, w, h.count, b.0))
+    ]
+    | inr a ↦ elim (at_cases is i k j f) [
+      | inl b ↦ absurd (let w : k < length is = slice_get_within is k j b in omega (arith, w, h.count, a.0))
+      | inr b ↦ (let P : NativeNumbers → Type 0 = λ q. HasNativeNumbers s q j in let Q : Native → Type 0 = λ q. HasNativeNumbers s n q in subst P (sym a.1) (subst Q (sym b.1) fits))
+    ]
+  ]
+
+  pub natives_more : NativesAreShared (record s { of_natives = of }) js
+  natives_more = record {
+    count = ap length numbers
+        ∙ (let a = length-append s.of_natives (n ∷ []) in let b = length-append is (i ∷ []) in let c : length (s.of_natives ++ n ∷ []) ≡ length (is ++ i ∷ []) = omega (arith, a, b, h.count) in c)
+        ∙ ap length (sym natives);
+    each = λ k m j e f. let g : HasNativeNumbers s m j = once k m j (ap (λ q. slice_get q k) (sym numbers) ∙ e) (ap (λ q. slice_get q k) (sym natives) ∙ f) in record { langs = g.langs; level = g.level };
+  }
+
+impls_stay : (s : Shares) (of : List NativeNumbers) (is : List Impl) → AreShared s is → AreShared (record s { of_natives = of }) is
+impls_stay s of is h = record {
+  levels = h.levels;
+  count = h.count;
+  each = λ k n i e f. let g : HasNumbers s n i = h.each k n i e f in record { version = g.version; langs = g.langs; level = g.level };
+}
+
 -- the implementation at an element has the numbers of what is made and added there
 impl_made : (ways : Ways) (said : Said) (a : Added) (e : Elem) (m : Made) (i : Impl) (s : Shares) (n : Numbers) (o : Option (List ℕ)) → o ≡ m.version → m ≡ made_of ways said
     → Some i ≡ option_map (impl_with ways said a.deps a.commands a.bindings e) o → NumbersFit s n m.version m.langs a.deps → HasNumbers s n i
@@ -167,6 +220,15 @@ unfolding impl_at impl_from
 impl_numbers ways said a e m i s n made is fit =
     impl_made ways said a e m i s n (option_and_then a_version (version_text said)) (sym (ap (λ (q : Made). q.version) made)) made is fit
 
+-- what is said of a package there has them too
+pub native_numbers : (said : Said) (a : Added) (e : Elem) (m : Made) (i : Native) (s : Shares) (n : Numbers) → m.langs ≡ langs_of said.langs
+    → i ≡ native_at said a e → NumbersFit s n m.version m.langs a.deps → HasNativeNumbers s (record { langs = n.langs; level = n.level }) i
+unfolding native_at
+native_numbers said a e m i s n made is fit = record {
+  langs = fit.langs ∙ ap (λ q. Some q) (made ∙ ap (λ (q : Native). q.langs) (sym is));
+  level = fit.level ∙ ap (λ (q : Native). Some q.deps) (sym is);
+}
+
 -- where nothing is said, the first entries of the tables are made
 pub nothing_fits : (ways : Ways) (s : Shares) (n : Numbers) (m : Made) (a : Added) → n ≡ record { version = 0; langs = 0; level = 0 } → m ≡ made_of ways unsaid → a ≡ added_nothing
     → NumbersFit s (record { version = 0; langs = 0; level = 0 }) None [] [] → NumbersFit s n m.version m.langs a.deps
@@ -178,13 +240,34 @@ nothing_fits ways s n m a numbers made added fit = record {
 
 -- what was found has one implementation more
 pub gathers_one : (old : Gathered) (is : List Impl) (of : List Numbers) (n : Numbers) (i : Impl) → is ≡ old.impls ++ i ∷ [] → of ≡ old.shares.of ++ n ∷ []
-    → AreShared old.shares old.impls → HasNumbers old.shares n i → Gathers old (record { impls = is; shares = record (old.shares) { of = of } })
+    → IsGathered old → HasNumbers old.shares n i → Gathers old (record { impls = is; natives = old.natives; shares = record (old.shares) { of = of } })
 gathers_one old is of n i impls numbers right fit = record {
   tables = record { versions = grows_not old.shares.versions; langs = grows_not old.shares.langs; levels = grows_not old.shares.levels };
-  right = shared_more old.shares old.impls is n i of numbers impls right fit;
+  right = record { impls = shared_more old.shares old.impls is n i of numbers impls right.impls fit; natives = natives_stay old.shares of old.natives right.natives };
 }
 
-pub gathered_none : (g : Gathered) → AreShared g.shares g.impls → Gathers g g
+-- or one package
+pub gathers_native : (old : Gathered) (is : List Native) (of : List NativeNumbers) (n : NativeNumbers) (i : Native) → is ≡ old.natives ++ i ∷ [] → of ≡ old.shares.of_natives ++ n ∷ []
+    → IsGathered old → HasNativeNumbers old.shares n i → Gathers old (record { impls = old.impls; natives = is; shares = record (old.shares) { of_natives = of } })
+gathers_native old is of n i natives numbers right fit = record {
+  tables = record { versions = grows_not old.shares.versions; langs = grows_not old.shares.langs; levels = grows_not old.shares.levels };
+  right = record { impls = impls_stay old.shares of old.impls right.impls; natives = natives_more old.shares old.natives is n i of numbers natives right.natives fit };
+}
+
+-- a feed with what it shares
+pub read_impls : (r : ReadFeed) (g : Gathered) (f : Feed) → f.impls ≡ g.impls → r.feed ≡ f → r.shares ≡ g.shares → IsGathered g → AreShared r.shares r.feed.impls
+read_impls r g f is e s h =
+    let P : Shares → Type 0 = λ q. AreShared q r.feed.impls in
+    let Q : List Impl → Type 0 = λ q. AreShared g.shares q in
+    subst P (sym s) (subst Q (sym (ap (λ (v : Feed). v.impls) e ∙ is)) h.impls)
+
+pub read_natives : (r : ReadFeed) (g : Gathered) (f : Feed) → f.natives ≡ g.natives → r.feed ≡ f → r.shares ≡ g.shares → IsGathered g → NativesAreShared r.shares r.feed.natives
+read_natives r g f is e s h =
+    let P : Shares → Type 0 = λ q. NativesAreShared q r.feed.natives in
+    let Q : List Native → Type 0 = λ q. NativesAreShared g.shares q in
+    subst P (sym s) (subst Q (sym (ap (λ (v : Feed). v.natives) e ∙ is)) h.natives)
+
+pub gathered_none : (g : Gathered) → IsGathered g → Gathers g g
 gathered_none g right = record { tables = tables_not g.shares; right = right }
 
 -- a table with its first entry

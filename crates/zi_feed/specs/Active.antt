@@ -5,6 +5,7 @@ use Rattle.zi_policy.specs.Platform.{is_active}
 use Rattle.zi_parts.specs.declared.types.Dep.{Dep}
 use Rattle.zi_parts.specs.declared.types.Command.{Command}
 use Rattle.zi_parts.specs.declared.types.Impl.{Impl}
+use Rattle.zi_parts.specs.declared.types.Native.{Native}
 use Rattle.zi_feed.specs.declared.feed.Feed.{Feed}
 use Rattle.zi_feed.specs.declared.along.Own.{Own}
 
@@ -19,9 +20,13 @@ active_command p k = record k { deps = active_deps p k.deps }
 unfoldable pub active_part : Policy → Impl → Impl
 active_part p i = record i { deps = active_deps p i.deps; commands = map (active_command p) i.commands }
 
--- a feed with such implementations
+-- the same of what a feed says of a package
+unfoldable pub active_native : Policy → Native → Native
+active_native p n = record n { deps = active_deps p n.deps; commands = map (active_command p) n.commands }
+
+-- a feed with such implementations and packages
 abbrev pub active_feed : Policy → Feed → Feed
-active_feed p f = record f { impls = map (active_part p) f.impls }
+active_feed p f = record f { impls = map (active_part p) f.impls; natives = map (active_native p) f.natives }
 
 -- without a policy all of it
 abbrev pub kept_feed : Option Policy → Feed → Feed

@@ -6,6 +6,7 @@ use Rattle.zi_reading.specs.Ways.{AsWritten, InFeed}
 use Rattle.zi_reading.specs.Reading.{is, is_unclear}
 use Rattle.zi_faults.specs.Sites.{Site, sites, here}
 use Rattle.zi_feed.specs.Impls.{impl_of, import_of}
+use Rattle.zi_feed.specs.Natives.{native_of, packages}
 use Rattle.zi_faults.specs.Faults.{fault_at, faults_at, root_faults, same_ids, implementations, least}
 use Rattle.zi_feed.specs.declared.feed.Feed.{Feed}
 use Rattle.zi_faults.specs.declared.fault.Fault.{Fault}
@@ -29,6 +30,7 @@ feed_of root uri = record {
   uri = uri;
   imports = map (λ t. import_of (InFeed uri) t.element) (filter (λ t. is (codes "feed") t.element) (feed_sites uri root));
   impls = filter_map (impl_of (InFeed uri)) (implementations (feed_sites uri root));
+  natives = map (native_of (InFeed uri)) (packages (feed_sites uri root));
 }
 
 -- the fault of an element of a selections document and all in it

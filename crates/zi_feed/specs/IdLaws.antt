@@ -14,7 +14,7 @@ use Rattle.zi_reading.specs.Reading.{is, is_unclear}
 use Rattle.zi_faults.specs.Sites.{Site, path}
 use Rattle.zi_faults.specs.Said.{said}
 use Rattle.zi_feed.specs.Impls.{impl_of, impl_from}
-use Rattle.zi_faults.specs.Faults.{is_impl, share, has_fault, fault_at, kinds_at, faults_with, faults_at, counts, implementations, same_ids, root_faults, repeats_in, lesser, least, is_first, all_kinds}
+use Rattle.zi_faults.specs.Faults.{is_impl, share, has_fault, fault_at, kinds_at, faults_with, faults_at, counts, implementations, same_ids, root_faults, repeats_in, shims_in, lesser, least, is_first, all_kinds}
 use Rattle.zi_feed.specs.Feeds.{feed_fault, feed_of, feed_sites, all_faults}
 use Rattle.zi_parts.specs.declared.types.Impl.{Impl}
 use Rattle.zi_faults.specs.declared.fault.Fault.{Fault}
@@ -102,7 +102,7 @@ has_id ways t c none =
     let e : Elem = t.element in
     let p : (is_impl e ≡ true) × (is_unclear e ≡ false) = unclear_false e c in
     let clear : is_unclear e ≡ false = p.1 in
-    let found : map (fault_at e) (kinds_at ways (said (path t)) e) ++ map (λ r. fault_at r BadPart) (repeats_in ways e) ≡ [] = rw clear at none in
+    let found : map (fault_at e) (kinds_at ways (said (path t)) e) ++ map (λ r. fault_at r BadPart) (repeats_in ways e ++ shims_in ways e) ≡ [] = rw clear at none in
     let kinds : kinds_at ways (said (path t)) e ≡ [] = map_nil (fault_at e) (kinds_at ways (said (path t)) e) (both_empty _ _ found).0 in
     let fails : has_fault ways (said (path t)) NoId e ≡ false = second_fails (λ k. has_fault ways (said (path t)) k e) NotInterface NoId (drop 2 all_kinds) kinds in
     let impl : is_impl e ≡ true = p.0 in

@@ -67,6 +67,7 @@ impl_with ways s deps commands bindings e version = record {
   commands = with_main s.main (latest are_alike commands);
   bindings = bindings;
   place = e.place;
+  «package» = None;
 }
 
 -- the same; none where its version is none, which is a fault

@@ -1,5 +1,6 @@
--- What is made of what is said along a path, what its elements add, and the implementations, by the recursion that carries both.
-use Rattle.std.specs.Prelude.{ℕ, ◌≡◌, false, ◌||◌, List, [], ◌++◌, Option, Some, None, option_and_then, if◌then◌else◌}
+-- What is made of what is said along a path, what its elements add, and the implementations and packages, by the recursion that
+-- carries both.
+use Rattle.std.specs.Prelude.{ℕ, ◌≡◌, false, ◌||◌, List, [], ◌∷◌, ◌++◌, Option, Some, None, option_and_then, if◌then◌else◌}
 use Rattle.std.specs.List.{list_any}
 use Rattle.zi_elements.specs.Forest.{Forest, none, child, Elem}
 use Rattle.zi_version.specs.Range.{a_version}
@@ -10,10 +11,12 @@ use Rattle.zi_reading.specs.Words.{optional, latest}
 use Rattle.zi_reading.specs.Ways.{Ways, AsWritten, InFeed}
 use Rattle.zi_parts.specs.Values.{deps_of, commands_of, bindings_of}
 use Rattle.zi_parts.specs.declared.types.Impl.{Impl}
+use Rattle.zi_parts.specs.declared.types.Native.{Native}
 use Rattle.zi_faults.specs.Said.{Said, version_text, taken}
 use Rattle.zi_faults.specs.Faults.{counts}
 use Rattle.zi_faults.specs.Carrying.{carry}
 use Rattle.zi_feed.specs.Impls.{langs_of, are_alike, is_run, impl_from}
+use Rattle.zi_feed.specs.Natives.{counts_native, native_with}
 use Rattle.zi_feed.specs.Active.{kept_own}
 use Rattle.zi_feed.specs.declared.along.Own.{Own}
 use Rattle.zi_feed.specs.declared.along.Added.{Added}
@@ -74,3 +77,17 @@ carried_impls ways p s parent f = carry (entered ways p) (impls_at ways p) ways 
 
 abbrev pub carried_impls_in : Ways → Option Policy → State → List ℕ → Elem → List Impl
 carried_impls_in ways p s parent e = carried_impls ways p s parent (child e.space e.name e.attrs e.inside e.place none)
+
+-- what an element says of a package, where this is said there and this is added along its path, itself included
+unfoldable pub native_at : Said → Added → Elem → Native
+native_at s a e = native_with s a.deps a.commands a.bindings e
+
+abbrev pub natives_at : Ways → Option Policy → State → Elem → List Native
+natives_at ways p s e = if counts_native e then native_at (taken s.0 e) (added_with s.1 (kept_own p (own_of ways e))) e ∷ [] else []
+
+-- the packages among nodes, where this goes inward
+unfoldable pub carried_natives : Ways → Option Policy → State → List ℕ → Forest → List Native
+carried_natives ways p s parent f = carry (entered ways p) (natives_at ways p) ways s parent f
+
+abbrev pub carried_natives_in : Ways → Option Policy → State → List ℕ → Elem → List Native
+carried_natives_in ways p s parent e = carried_natives ways p s parent (child e.space e.name e.attrs e.inside e.place none)

@@ -1,4 +1,5 @@
 pub mod Impls
+pub mod Natives
 pub mod Active
 pub mod Feeds
 pub mod Shares

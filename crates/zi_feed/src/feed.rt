@@ -1,6 +1,6 @@
 //! What a whole feed says.
 
-use zi_parts::{Impl, Import};
+use zi_parts::{Impl, Import, Native};
 use zi_text::{List, Text};
 
 /// What a feed says.
@@ -11,6 +11,8 @@ pub struct Feed {
     pub imports: List<Import>,
     /// Its implementations, in the order of the document.
     pub impls: List<Impl>,
+    /// What it says of packages of the operating system, in the order of the document.
+    pub natives: List<Native>,
 }
 
 // One call wherever one is dropped.
@@ -20,6 +22,7 @@ impl Drop for Feed {
             uri: _,
             imports: _,
             impls: _,
+            natives: _,
         } = self;
     }
 }

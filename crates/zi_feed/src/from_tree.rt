@@ -5,7 +5,7 @@ ghost use Rattle.zi_feed.specs.Active.{active_feed, kept_feed};
 ghost use Rattle.zi_feed.specs.Feeds.{feed_fault, feed_of, part_fault};
 ghost use Rattle.zi_parts.specs.Digests.{said_digests};
 ghost use Rattle.zi_feed.specs.Means.{Reads, counts_as, counts_as_binding};
-ghost use Rattle.zi_feed.specs.Shares.{AreShared, feed_in};
+ghost use Rattle.zi_feed.specs.Shares.{AreShared, NativesAreShared, IsGathered, feed_in};
 ghost use Rattle.zi_parts.specs.Values.{binding_of, dep_of, command_of};
 ghost use Rattle.zi_faults.specs.declared.fault.FeedFault.TheVariants.{Bad};
 
@@ -33,17 +33,21 @@ fn bad(fault: Fault) -> FeedFault
     }
 }
 
-// A feed with what its implementations share.
+// A feed with what its implementations and packages share.
 fn shared_feed(
     alloc: Global,
     uri: &str,
     imports: List<Import>,
     gathered: Gathered,
 ) -> Result<ReadFeed, Memory>
-    ensures feed { IfOk result (λ r. r.feed ≡ record { uri = uri.now; imports = imports; impls = gathered.impls }) }
+    ensures feed { IfOk result (λ r. r.feed ≡ record { uri = uri.now; imports = imports; impls = gathered.impls; natives = gathered.natives }) }
     ensures shares { IfOk result (λ r. r.shares ≡ gathered.shares) }
 {
-    let Gathered { impls, shares } = gathered;
+    let Gathered {
+        impls,
+        natives,
+        shares,
+    } = gathered;
     let shares = Shared::new(alloc, shares)?;
     let uri = Text::from_str(alloc, uri)?;
     Ok(ReadFeed {
@@ -51,13 +55,14 @@ fn shared_feed(
             uri,
             imports,
             impls,
+            natives,
         },
         shares,
     })
 }
 
 // The feed that a document's root says, with what is active of it under a policy; all of it where there is none. Beside it stands
-// what its implementations share.
+// what its implementations and packages share.
 fn from_root(
     alloc: Global,
     root: &Element,
@@ -66,6 +71,7 @@ fn from_root(
 ) -> Result<ReadFeed, FeedFault>
     ensures reads { Reads (feed_fault (element_view root.now) uri.now) (kept_feed (option_copied policy.entry) (feed_of (element_view root.now) uri.now)) (feed_in result) }
     ensures shares { IfOk result (λ r. AreShared r.shares r.feed.impls) }
+    ensures natives { IfOk result (λ r. NativesAreShared r.shares r.feed.natives) }
 {
     let root = Part::new(root);
     let found = found_in(alloc, &root, uri, policy)?;
@@ -90,7 +96,7 @@ impl Feed {
     }
 
     /// The same, with the dependencies alone that are active under a policy, in commands too, and with what its implementations
-    /// share.
+    /// and packages share.
     pub fn active_from_tree(
         alloc: Global,
         tree: &Document,
@@ -99,6 +105,7 @@ impl Feed {
     ) -> Result<ReadFeed, FeedFault>
         ensures reads { Reads (feed_fault (element_view tree.now) uri.now) (active_feed policy.now (feed_of (element_view tree.now) uri.now)) (feed_in result) }
         ensures shares { IfOk result (λ r. AreShared r.shares r.feed.impls) }
+        ensures natives { IfOk result (λ r. NativesAreShared r.shares r.feed.natives) }
     {
         from_root(alloc, tree.root(), uri, Some(policy))
     }

@@ -123,17 +123,17 @@ fn told_of(alloc: Global, ways: Ways, around: &Around, e: &Element) -> Result<To
     })
 }
 
-// What an implementation shares with the others of its groups.
+/// What an implementation or a package shares with the others of its groups.
 #[derive(Drop)]
-struct Along {
-    langs: Shared<List<Text>>,
-    deps: Inherited<Dep>,
-    commands: Inherited<Shared<Command>>,
-    bindings: Inherited<Binding>,
+pub struct Along {
+    pub langs: Shared<List<Text>>,
+    pub deps: Inherited<Dep>,
+    pub commands: Inherited<Shared<Command>>,
+    pub bindings: Inherited<Binding>,
 }
 
-// What stands along a path of it.
-fn along_of(alloc: Global, around: &Around) -> Result<Along, Memory>
+/// What stands along a path of it.
+pub fn along_of(alloc: Global, around: &Around) -> Result<Along, Memory>
     requires added { IsAdded around.now.added }
     requires langs { around.now.made.langs ≡ langs_of (said_by around.now.said).langs }
     ensures { IfOk result
@@ -203,6 +203,7 @@ fn impl_with(
         commands,
         bindings,
         place: e.place,
+        package: None,
     })
 }
 

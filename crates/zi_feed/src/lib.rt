@@ -22,10 +22,11 @@ mod from_tree;
 mod impls;
 mod laws;
 mod made;
+mod natives;
 mod shares;
 mod walking;
 
 pub use feed::Feed;
 pub use from_tree::{binding_of, command_of, counts_as, counts_as_binding, dep_of, digests_of};
 pub use laws::impls_are_in_order;
-pub use shares::{Level, Numbers, ReadFeed, Shares};
+pub use shares::{Level, NativeNumbers, Numbers, ReadFeed, Shares};

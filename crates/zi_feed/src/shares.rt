@@ -1,8 +1,8 @@
-//! What the implementations of a feed share, by numbers: those of one number have one value, so what is made of it can be made once
+//! What the implementations and the packages of a feed share, by numbers: those of one number have one value, so what is made of it can be made once
 //! for all of them. Two numbers may stand for equal values.
 ghost use Rattle.std.specs.Prelude.{◌≡◌, ◌||◌, ◌∷◌, ◌++◌, [], codes, false, length, slice_get, take, IfOk, Some, None};
 ghost use Rattle.zi_elements.specs.Forest.{element_view, has};
-ghost use Rattle.zi_feed.specs.Shares.{Adds, Gathers, Grows, AreLevels, AreShared, HasNumbers, NumbersFit, deps_at};
+ghost use Rattle.zi_feed.specs.Shares.{Adds, Gathers, Grows, IsGathered, AreLevels, AreShared, HasNativeNumbers, HasNumbers, NativesAreShared, NumbersFit, deps_at};
 
 use crate::along::Added;
 use crate::around::Around;
@@ -12,7 +12,7 @@ use std::alloc::Global;
 use zi_elements::Element;
 use zi_faults::says_version;
 use zi_inherited::{Inherited, Shared};
-use zi_parts::{Dep, Impl};
+use zi_parts::{Dep, Impl, Native};
 use zi_reading::has;
 use zi_text::{List, Memory, Text};
 use zi_version::Version;
@@ -39,7 +39,16 @@ pub struct Numbers {
     pub level: usize,
 }
 
-/// What implementations share.
+/// The numbers of what a feed says of a package, which has no version.
+#[derive(Clone, Copy)]
+pub struct NativeNumbers {
+    /// That of its languages.
+    pub langs: usize,
+    /// That of the level whose dependencies it has.
+    pub level: usize,
+}
+
+/// What implementations and packages share.
 pub struct Shares {
     /// The versions by their numbers; none where there is none, which no implementation has.
     pub versions: List<Option<Version>>,
@@ -49,6 +58,8 @@ pub struct Shares {
     pub levels: List<Level>,
     /// The numbers of each implementation, in their order.
     pub of: List<Numbers>,
+    /// The same of what is said of packages.
+    pub of_natives: List<NativeNumbers>,
 }
 
 // One call wherever one is dropped.
@@ -59,23 +70,25 @@ impl Drop for Shares {
             langs: _,
             levels: _,
             of: _,
+            of_natives: _,
         } = self;
     }
 }
 
-/// The implementations that were found so far, with what they share.
+/// The implementations that were found so far, and what was said of packages, with what they share.
 #[derive(Drop)]
 pub struct Gathered {
     pub impls: List<Impl>,
+    pub natives: List<Native>,
     pub shares: Shares,
 }
 
-/// A feed, with what its implementations share.
+/// A feed, with what its implementations and packages share.
 #[derive(Drop)]
 pub struct ReadFeed {
     /// The feed.
     pub feed: Feed,
-    /// What its implementations share.
+    /// What its implementations and packages share.
     pub shares: Shared<Shares>,
 }
 
@@ -93,10 +106,11 @@ impl Numbers {
 }
 
 impl Shares {
-    /// What no implementation shares: each table has one entry alone, of number 0, for what is said nowhere. Memory is the
+    /// What no implementation and no package shares: each table has one entry alone, of number 0, for what is said nowhere. Memory is the
     /// one refusal.
     pub fn nothing(alloc: Global) -> Result<Shares, Memory>
         ensures none { IfOk result (λ s. AreShared s []) }
+        ensures no_natives { IfOk result (λ s. NativesAreShared s []) }
         ensures fit { IfOk result (λ s. NumbersFit s (record { version = 0; langs = 0; level = 0 }) None [] []) }
     {
         let mut versions = List::new(alloc);
@@ -115,11 +129,13 @@ impl Shares {
         levels.push(outermost)?;
         let room = Vec::with_capacity(alloc, 1)?;
         let of = List::from_vec(room);
+        let of_natives = List::new(alloc);
         Ok(Shares {
             versions,
             langs,
             levels,
             of,
+            of_natives,
         })
     }
 }
@@ -127,13 +143,27 @@ impl Shares {
 impl Gathered {
     /// Adds an implementation that has these numbers. Memory is the one refusal.
     pub fn push(&mut self, imp: Impl, numbers: Numbers) -> Result<(), Memory>
-        requires shared { AreShared self.old.shares self.old.impls }
+        requires shared { IsGathered self.old }
         requires fit { HasNumbers self.old.shares numbers imp }
         ensures impls { IfOk result (λ _. self.new.impls ≡ self.old.impls ++ imp ∷ []) }
+        ensures natives { IfOk result (λ _. self.new.natives ≡ self.old.natives) }
         ensures shares { IfOk result (λ _. Gathers self.old self.new) }
     {
         self.impls.push(imp)?;
         self.shares.of.push(numbers)?;
+        Ok(())
+    }
+
+    /// Adds what is said of a package, which has these numbers. Memory is the one refusal.
+    pub fn push_native(&mut self, native: Native, numbers: NativeNumbers) -> Result<(), Memory>
+        requires shared { IsGathered self.old }
+        requires fit { HasNativeNumbers self.old.shares numbers native }
+        ensures impls { IfOk result (λ _. self.new.impls ≡ self.old.impls) }
+        ensures natives { IfOk result (λ _. self.new.natives ≡ self.old.natives ++ native ∷ []) }
+        ensures shares { IfOk result (λ _. Gathers self.old self.new) }
+    {
+        self.natives.push(native)?;
+        self.shares.of_natives.push(numbers)?;
         Ok(())
     }
 }

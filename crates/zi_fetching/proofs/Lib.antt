@@ -1,4 +1,5 @@
 pub mod FetchLaws
 pub mod WebLaws
+pub mod NoPackageLaws
 pub mod FetchableLaws
 pub mod DownloadLaws

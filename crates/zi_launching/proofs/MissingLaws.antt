@@ -95,6 +95,7 @@ as_stored x d = record {
   id = x.id;
   version = x.version;
   from_feed = x.from_feed;
+  «package» = x.«package»;
   local = None;
   arch = x.arch;
   released = x.released;

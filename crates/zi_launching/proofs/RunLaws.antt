@@ -22,6 +22,7 @@ use Rattle.zi_adding.proofs.HistoryLaws.{AreDone, calm_done, uses_gain, names_on
 use Rattle.zi_outcome.specs.declared.outcome.Outcome.{Outcome}
 use Rattle.zi_choosing.specs.Wanted.{requirement_of}
 use Rattle.zi_choosing.specs.declared.chosen.Chosen.{Chosen}
+use Rattle.zi_choosing.specs.Loaded.{no_packages}
 use Rattle.zi_choosing.specs.Finding.{Sources, FindsBest}
 use Rattle.zi_fetching.specs.Known.{Names, is_there}
 use Rattle.zi_fetching.specs.Fetching.{from_chosen, names_in, FetchesAll}
@@ -149,7 +150,7 @@ module _ (ask : Ask) (vars : List Var) (user : List (List ℕ)) (before mid : So
       let missed = none_missing stored c.sels.items there in
       let placed = all_placed before.shelf.root stored c.sels.items there in
       let is = (chosen_so ask before mid c f).chosen in
-      let whole = chosen_whole (holding before.feeds) (requirement_of ask) ask.policy (names_of c.stored) c.universe c.choice.picks c.sels is.loaded.loads is.best.valid is.selected in
+      let whole = chosen_whole (holding before.feeds) (requirement_of ask) ask.policy (names_of c.stored no_packages) c.universe c.choice.picks c.sels is.loaded.loads is.best.valid is.selected in
       record {
         feeds = f.feeds;
         web = web_stays c web (Ok stored) g.tried then g.fetches;

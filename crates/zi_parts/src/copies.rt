@@ -1,12 +1,11 @@
-//! Copies of dependencies, commands and bindings.
+//! Copies of bindings, arguments and implementations.
 ghost use Rattle.std.specs.Prelude.{◌≡◌, ◌++◌, IfOk};
 
-use crate::types::{Binding, Command, Dep, Extra, Impl, Runner, Word};
+use crate::types::{Binding, Extra, Impl, Package, Word};
 use std::alloc::Global;
 use zi_digest::DigestName;
-use zi_policy::{Arch, Condition};
+use zi_policy::Arch;
 use zi_text::{List, Memory, Text};
-use zi_version::Range;
 
 /// The same text once more, where there is one. Memory is the one refusal.
 pub fn copy_text(alloc: Global, text: &Option<Text>) -> Result<Option<Text>, Memory>
@@ -25,17 +24,6 @@ pub fn copy_texts(alloc: Global, texts: &List<Text>) -> Result<List<Text>, Memor
     let mut out = List::new(alloc);
     for text in texts.as_slice() {
         out.push(text.copy(alloc)?)?;
-    }
-    Ok(out)
-}
-
-// The same expressions once more.
-fn copy_ranges(alloc: Global, ranges: &List<Range>) -> Result<List<Range>, Memory>
-    ensures { IfOk result (λ rs. rs ≡ ranges.now) }
-{
-    let mut out = List::from_vec(Vec::with_capacity(alloc, ranges.len())?);
-    for range in ranges.as_slice() {
-        out.push(range.copy(alloc)?)?;
     }
     Ok(out)
 }
@@ -71,6 +59,14 @@ impl Binding {
                 extra: extra.copy(alloc)?,
                 default: copy_text(alloc, default)?,
             }),
+            Binding::ExecVar { name, command } => Ok(Binding::ExecVar {
+                name: name.copy(alloc)?,
+                command: command.copy(alloc)?,
+            }),
+            Binding::ExecPath { name, command } => Ok(Binding::ExecPath {
+                name: name.copy(alloc)?,
+                command: command.copy(alloc)?,
+            }),
             Binding::Unbuilt { element } => Ok(Binding::Unbuilt {
                 element: element.copy(alloc)?,
             }),
@@ -98,44 +94,6 @@ pub fn copy_bindings(alloc: Global, bindings: &List<Binding>) -> Result<List<Bin
 {
     let mut out = List::new(alloc);
     add_bindings(alloc, bindings.as_slice(), &mut out)?;
-    Ok(out)
-}
-
-impl Dep {
-    /// The same dependency once more. Memory is its one refusal.
-    pub fn copy(&self, alloc: Global) -> Result<Dep, Memory>
-        ensures { IfOk result (λ d. d ≡ self.now) }
-    {
-        Ok(Dep {
-            interface: self.interface.copy(alloc)?,
-            kind: self.kind,
-            ranges: copy_ranges(alloc, &self.ranges)?,
-            commands: copy_texts(alloc, &self.commands)?,
-            bindings: copy_bindings(alloc, &self.bindings)?,
-            condition: Condition {
-                os: copy_text(alloc, &self.condition.os)?,
-                wanted: copy_text(alloc, &self.condition.wanted)?,
-            },
-        })
-    }
-}
-
-/// Adds the same dependencies once more.
-pub fn add_deps(alloc: Global, deps: &[Dep], out: &mut List<Dep>) -> Result<(), Memory>
-    ensures { IfOk result (λ _. out.new ≡ out.old ++ deps.now) }
-{
-    for dep in deps {
-        out.push(dep.copy(alloc)?)?;
-    }
-    Ok(())
-}
-
-// The same dependencies once more.
-fn copy_deps(alloc: Global, deps: &List<Dep>) -> Result<List<Dep>, Memory>
-    ensures { IfOk result (λ ds. ds ≡ deps.now) }
-{
-    let mut out = List::new(alloc);
-    add_deps(alloc, deps.as_slice(), &mut out)?;
     Ok(out)
 }
 
@@ -170,44 +128,6 @@ pub fn copy_words(alloc: Global, words: &List<Word>) -> Result<List<Word>, Memor
     Ok(out)
 }
 
-impl Runner {
-    /// The same runner once more. Memory is its one refusal.
-    pub fn copy(&self, alloc: Global) -> Result<Runner, Memory>
-        ensures { IfOk result (λ r. r ≡ self.now) }
-    {
-        let dep = self.dep.copy(alloc)?;
-        let words = copy_words(alloc, &self.words)?;
-        Ok(Runner { dep, words })
-    }
-}
-
-// The same runner once more, where there is one.
-fn copy_runner(alloc: Global, runner: &Option<Runner>) -> Result<Option<Runner>, Memory>
-    ensures { IfOk result (λ r. r ≡ runner.now) }
-{
-    match runner {
-        Some(runner) => Ok(Some(runner.copy(alloc)?)),
-        None => Ok(None),
-    }
-}
-
-impl Command {
-    /// The same command once more. Memory is its one refusal.
-    pub fn copy(&self, alloc: Global) -> Result<Command, Memory>
-        ensures { IfOk result (λ c. c ≡ self.now) }
-    {
-        Ok(Command {
-            name: self.name.copy(alloc)?,
-            words: copy_words(alloc, &self.words)?,
-            deps: copy_deps(alloc, &self.deps)?,
-            bindings: copy_bindings(alloc, &self.bindings)?,
-            path: copy_text(alloc, &self.path)?,
-            unbuilt: copy_text(alloc, &self.unbuilt)?,
-            runner: copy_runner(alloc, &self.runner)?,
-        })
-    }
-}
-
 /// The same platform once more, where there is one. Memory is the one refusal.
 pub fn copied_arch(alloc: Global, arch: &Option<Arch>) -> Result<Option<Arch>, Memory>
     ensures { IfOk result (λ a. a ≡ arch.now) }
@@ -223,6 +143,19 @@ pub fn copy_digests(alloc: Global, digests: &List<DigestName>) -> Result<List<Di
     ensures { IfOk result (λ ds. ds ≡ digests.now) }
 {
     Ok(List::from_vec(Vec::from_slice(alloc, digests.as_slice())?))
+}
+
+// The same package once more, where there is one.
+fn copy_package(alloc: Global, whole: &Option<Package>) -> Result<Option<Package>, Memory>
+    ensures { IfOk result (λ p. p ≡ whole.now) }
+{
+    match whole {
+        Some(package) => Ok(Some(Package {
+            name: package.name.copy(alloc)?,
+            installed: package.installed,
+        })),
+        None => Ok(None),
+    }
 }
 
 impl Impl {
@@ -241,6 +174,7 @@ impl Impl {
         let deps = self.deps.share()?;
         let commands = self.commands.share()?;
         let bindings = self.bindings.share()?;
+        let package = copy_package(alloc, &self.package)?;
         Ok(Impl {
             id,
             version,
@@ -255,6 +189,7 @@ impl Impl {
             commands,
             bindings,
             place: self.place,
+            package,
         })
     }
 }

@@ -4,8 +4,9 @@
 //! specs/Values.antt has bindings, dependencies and commands, Digests.antt which digest name a text spells and which ones elements
 //! say, Methods.antt the ways to fetch. Each is defined by one element and the elements that count in it, whatever stands around it.
 //!
-//! `types` has the types, `parts` dependencies, commands and bindings, `digests` and `methods` what their names say, `copies` the
-//! same once more. `laws` has a law: that a digest is the one that is spelled so.
+//! `types` has the types, `parts` dependencies, commands and bindings, `shims` the bindings of a dependency that make a command of
+//! it known as a program, `digests` and `methods` what their names say, `copies` the same once more. `laws` has a law: that a
+//! digest is the one that is spelled so.
 #![tactic(auto)]
 
 mod copies;
@@ -13,6 +14,7 @@ mod digests;
 mod laws;
 mod methods;
 mod parts;
+mod shims;
 mod types;
 
 pub use copies::{
@@ -26,5 +28,6 @@ pub use parts::{
     importance_of, mode_of, value_text,
 };
 pub use types::{
-    Binding, Command, Dep, DepKind, Extra, Impl, Import, Method, Mode, Runner, Step, Word,
+    Binding, Command, Dep, DepKind, Extra, Impl, Import, Method, Mode, Native, Package, Runner,
+    Step, Word,
 };

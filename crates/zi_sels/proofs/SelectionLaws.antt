@@ -1,5 +1,5 @@
 -- One selection: its parts, its fault and its value.
-use Rattle.std.proofs.Common.{◌≡◌, ℕ, Bool, true, false, List, [], ◌∷◌, ◌++◌, map, Option, Some, None, Err, refl, sym, ap, ◌∙◌, append_assoc}
+use Rattle.std.proofs.Common.{◌≡◌, ℕ, Bool, true, false, List, [], ◌∷◌, ◌++◌, map, Option, Some, None, Result, Ok, Err, IfOk, refl, sym, ap, ◌∙◌, append_assoc}
 use Rattle.std.specs.Prelude.{codes, filter, option_map, unwrap_or, if◌then◌else◌}
 use Rattle.std.specs.List.{flat_map}
 use Rattle.std.proofs.lemmas.Grind.{flat_map-append}
@@ -25,10 +25,10 @@ use Rattle.zi_faults.specs.declared.fault.FeedKind.TheVariants.{BadRange, BadPar
 use Rattle.zi_faults.proofs.LeastLaws.{lesser_assoc, lesser_none, least_append}
 use Rattle.zi_sels.specs.declared.selecting.Parts.{Parts}
 use Rattle.zi_sels.specs.declared.types.Selection.{Selection}
-use Rattle.zi_sels.specs.Read.{counting, bindings_in, said_in, in_order_of_use, selection_of}
+use Rattle.zi_sels.specs.Read.{counting, bindings_in, is_package, digests_in, id_digest, said_in, in_order_of_use, selection_of}
 use Rattle.zi_sels.specs.Notes.{right, faults_of, AreRead}
 use Rattle.zi_sels.specs.Refused.{parts_in, second_commands, own_kind, selection_fault}
-use Rattle.zi_sels.specs.Parts.{selection_with, ArePartsOf}
+use Rattle.zi_sels.specs.Parts.{selection_with, AreDigestsOf, ArePartsOf}
 use Rattle.zi_sels.proofs.NoteLaws.{neither, all_right, read_among}
 
 faults_append : (es fs : List Elem) → faults_of part_fault (es ++ fs) ≡ faults_of part_fault es ++ faults_of part_fault fs
@@ -53,43 +53,65 @@ chain a b c d f0 f1 f2 f3 f4 p q r s =
     r ∙ (ap (λ v. lesser_of v lc) two ∙ (lesser_assoc f0 (least (faults_of part_fault (a ++ b))) lc ∙ ap (lesser_of f0) (sym (least_both (a ++ b) c)))) in
     s ∙ (ap (λ v. lesser_of v ld) three ∙ (lesser_assoc f0 (least (faults_of part_fault (a ++ b ++ c))) ld ∙ ap (lesser_of f0) (sym (least_both (a ++ b ++ c) d))))
 
+-- what is read of digests: nothing of those of a package
+pub digests_none : (e : Elem) (digests : List DigestName) (fault : Option Fault) → is_package e ≡ true → digests ≡ [] → AreDigestsOf e fault digests fault
+digests_none e digests fault h none = record {
+  digests = none ∙ ap (λ (b : Bool). in_order_of_use (flat_map said_digests (right part_fault (if b then [] else counting (codes "manifest-digest") e)) ++ (if b then [] else optional (digest_of (value (codes "id") e))))) (sym h);
+  first = sym (lesser_none fault) ∙ ap (λ (b : Bool). lesser_of fault (least (faults_of part_fault (if b then [] else counting (codes "manifest-digest") e)))) (sym h);
+}
+
+digests_some : (e : Elem) (es : List Elem) (said : List (List DigestName)) (id : List ℕ) (digests : List DigestName) (fault now : Option Fault) → is_package e ≡ false → es ≡ elements e.inside
+    → AreRead part_fault said_digests (filter (counts_as (codes "manifest-digest")) es) [] fault said now
+    → id ≡ value (codes "id") e
+    → digests ≡ in_order_of_use (flat_map (λ ds. ds) said ++ optional (digest_of id))
+    → AreDigestsOf e fault digests now
+digests_some e es said id digests fault now h is read named given =
+    let m = read_among part_fault said_digests (counts_as (codes "manifest-digest")) es (elements e.inside) [] said fault now is read in record {
+      digests =
+          given
+          ∙ (ap (λ v. in_order_of_use (flat_map (λ ds. ds) said ++ optional (digest_of v))) named
+          ∙ (ap (λ v. in_order_of_use (v ++ optional (digest_of (value (codes "id") e))))
+          (ap (flat_map (λ ds. ds)) m.values ∙ flat_map-map (λ ds. ds) said_digests (right part_fault (counting (codes "manifest-digest") e)))
+          ∙ ap (λ (b : Bool). in_order_of_use (flat_map said_digests (right part_fault (if b then [] else counting (codes "manifest-digest") e)) ++ (if b then [] else optional (digest_of (value (codes "id") e))))) (sym h)));
+      first = m.first ∙ ap (λ (b : Bool). lesser_of fault (least (faults_of part_fault (if b then [] else counting (codes "manifest-digest") e)))) (sym h);
+    }
+
+pub digests_given : {X : Type 0} (e : Elem) (es : List Elem) (said names : List (List DigestName)) (id : List ℕ) (fault now : Option Fault) (r : Result (List DigestName) X) → is_package e ≡ false
+    → es ≡ elements e.inside → AreRead part_fault said_digests (filter (counts_as (codes "manifest-digest")) es) [] fault said now
+    → id ≡ value (codes "id") e → names ≡ said
+    → IfOk r (λ ds. ds ≡ in_order_of_use (flat_map (λ ds. ds) names ++ optional (digest_of id))) → IfOk r (λ ds. AreDigestsOf e fault ds now)
+digests_given e es said names id fault now (Ok ds) h is read named told given =
+    digests_some e es said id ds fault now h is read named (given ∙ ap (λ v. in_order_of_use (flat_map (λ ds. ds) v ++ optional (digest_of id))) told)
+digests_given e es said names id fault now (Err x) h is read named told given = tt
+
 -- what was read kind by kind
-pub four_read : (e : Elem) (parts : Parts) (said : List (List DigestName)) (id : List ℕ) (f0 f1 f2 f3 f4 : Option Fault)
+pub four_read : (e : Elem) (parts : Parts) (f0 f1 f2 f3 f4 : Option Fault)
     → AreRead part_fault binding_of (bindings_in e) [] f0 parts.bindings f1
     → AreRead part_fault (dep_of AsWritten) (counting (codes "requires") e) [] f1 parts.deps f2
     → AreRead part_fault (command_of AsWritten) (counting (codes "command") e) [] f2 parts.commands f3
-    → AreRead part_fault said_digests (counting (codes "manifest-digest") e) [] f3 said f4
-    → id ≡ value (codes "id") e
-    → parts.digests ≡ in_order_of_use (flat_map (λ ds. ds) said ++ optional (digest_of id))
+    → AreDigestsOf e f3 parts.digests f4
     → ArePartsOf e f0 parts f4
-four_read e parts said id f0 f1 f2 f3 f4 b r k m named digests = record {
+four_read e parts f0 f1 f2 f3 f4 b r k m = record {
   bindings = b.values;
   deps = r.values;
   commands = k.values;
-  digests =
-      digests
-      ∙ (ap (λ v. in_order_of_use (flat_map (λ ds. ds) said ++ optional (digest_of v))) named
-      ∙ ap (λ v. in_order_of_use (v ++ optional (digest_of (value (codes "id") e))))
-      (ap (flat_map (λ ds. ds)) m.values ∙ flat_map-map (λ ds. ds) said_digests (right part_fault (counting (codes "manifest-digest") e))));
-  first = chain (bindings_in e) (counting (codes "requires") e) (counting (codes "command") e) (counting (codes "manifest-digest") e) f0 f1 f2 f3 f4 b.first r.first k.first m.first;
+  digests = m.digests;
+  first = chain (bindings_in e) (counting (codes "requires") e) (counting (codes "command") e) (digests_in e) f0 f1 f2 f3 f4 b.first r.first k.first m.first;
 }
 
 -- the same, where the elements in it are known by another name
-pub four_among : (e : Elem) (es : List Elem) (parts : Parts) (said : List (List DigestName)) (id : List ℕ) (f0 f1 f2 f3 f4 : Option Fault) → es ≡ elements e.inside
+pub four_among : (e : Elem) (es : List Elem) (parts : Parts) (f0 f1 f2 f3 f4 : Option Fault) → es ≡ elements e.inside
     → AreRead part_fault binding_of (filter counts_as_binding es) [] f0 parts.bindings f1
     → AreRead part_fault (dep_of AsWritten) (filter (counts_as (codes "requires")) es) [] f1 parts.deps f2
     → AreRead part_fault (command_of AsWritten) (filter (counts_as (codes "command")) es) [] f2 parts.commands f3
-    → AreRead part_fault said_digests (filter (counts_as (codes "manifest-digest")) es) [] f3 said f4
-    → id ≡ value (codes "id") e
-    → parts.digests ≡ in_order_of_use (flat_map (λ ds. ds) said ++ optional (digest_of id))
+    → AreDigestsOf e f3 parts.digests f4
     → ArePartsOf e f0 parts f4
-four_among e es parts said id f0 f1 f2 f3 f4 is b r k m named digests =
-    four_read e parts said id f0 f1 f2 f3 f4
+four_among e es parts f0 f1 f2 f3 f4 is b r k m =
+    four_read e parts f0 f1 f2 f3 f4
     (read_among part_fault binding_of counts_as_binding es (elements e.inside) [] parts.bindings f0 f1 is b)
     (read_among part_fault (dep_of AsWritten) (counts_as (codes "requires")) es (elements e.inside) [] parts.deps f1 f2 is r)
     (read_among part_fault (command_of AsWritten) (counts_as (codes "command")) es (elements e.inside) [] parts.commands f2 f3 is k)
-    (read_among part_fault said_digests (counts_as (codes "manifest-digest")) es (elements e.inside) [] said f3 f4 is m)
-    named digests
+    m
 
 -- a condition that is no expression
 pub unclear_fault : (e : Elem) → is_unclear e ≡ true → selection_fault e ≡ Some (fault_at e BadRange)
@@ -123,13 +145,13 @@ value_is e start parts parted =
     let bs : List Elem = bindings_in e in
     let rs : List Elem = counting (codes "requires") e in
     let ks : List Elem = counting (codes "command") e in
-    let ms : List Elem = counting (codes "manifest-digest") e in
+    let ms : List Elem = digests_in e in
     let none : faults_of part_fault (bs ++ rs ++ ks ++ ms) ≡ [] = least_none _ (neither start (least (faults_of part_fault (bs ++ rs ++ ks ++ ms))) (sym parted.first)).1 in
     let m : (faults_of part_fault (bs ++ rs ++ ks) ≡ []) × (faults_of part_fault ms ≡ []) = both_empty _ _ (sym (faults_append (bs ++ rs ++ ks) ms) ∙ none) in
     let k : (faults_of part_fault (bs ++ rs) ≡ []) × (faults_of part_fault ks ≡ []) = both_empty _ _ (sym (faults_append (bs ++ rs) ks) ∙ m.0) in
     let r : (faults_of part_fault bs ≡ []) × (faults_of part_fault rs ≡ []) = both_empty _ _ (sym (faults_append bs rs) ∙ k.0) in
     joined e parts.digests (in_order_of_use (said_in e)) parts.deps (map (dep_of AsWritten) rs) parts.commands (map (command_of AsWritten) ks) parts.bindings (map binding_of bs)
-    (parted.digests ∙ ap (λ v. in_order_of_use (flat_map said_digests v ++ optional (digest_of (value (codes "id") e)))) (all_right part_fault ms m.1))
+    (parted.digests ∙ ap (λ v. in_order_of_use (flat_map said_digests v ++ id_digest e)) (all_right part_fault ms m.1))
     (parted.deps ∙ ap (map (dep_of AsWritten)) (all_right part_fault rs r.1))
     (parted.commands ∙ ap (map (command_of AsWritten)) (all_right part_fault ks k.1))
     (parted.bindings ∙ ap (map binding_of) (all_right part_fault bs r.0))

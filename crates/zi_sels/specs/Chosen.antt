@@ -68,6 +68,7 @@ selection_by universe choice walk i uri candidate = record {
   id = candidate.imp.id;
   version = candidate.imp.version;
   from_feed = candidate.standing.feed;
+  «package» = option_map (λ p. p.name) candidate.imp.«package»;
   local = candidate.imp.local;
   arch = option_map arch_text candidate.imp.arch;
   released = candidate.imp.released;

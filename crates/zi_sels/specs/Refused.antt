@@ -15,10 +15,14 @@ use Rattle.zi_faults.specs.declared.fault.FeedKind.{FeedKind}
 use Rattle.zi_faults.specs.declared.fault.FeedKind.TheVariants.{NoId, BadVersion, BadRange, BadPart, NoInterface, BadAddress}
 use Rattle.zi_sels.specs.declared.fault.SelsFault.{SelsFault}
 use Rattle.zi_sels.specs.declared.fault.SelsFault.TheVariants as fault
-use Rattle.zi_sels.specs.Read.{counting, selections_in, bindings_in}
+use Rattle.zi_sels.specs.Read.{counting, selections_in, bindings_in, is_package, digests_in}
 use Rattle.zi_sels.specs.Notes.{faults_of}
 
 -- One selection.
+
+-- the local path of a selection isn't one from the top folder; that of a package is passed over
+abbrev pub has_bad_local : Elem → Bool
+has_bad_local e = not (is_package e) && is_wrong is_local (attribute (codes "local-path") e)
 
 -- the least kind of fault that stands at a selection itself: it has no id, no version, no interface, or a local path that isn't
 -- one from the top folder
@@ -27,12 +31,12 @@ own_kind e =
     if is_none (value (codes "id") e) then Some NoId
     else if is_amiss is_version (attribute (codes "version") e) then Some BadVersion
     else if lacks (codes "interface") e then Some NoInterface
-    else if is_wrong is_local (attribute (codes "local-path") e) then Some BadAddress
+    else if has_bad_local e then Some BadAddress
     else None
 
 -- the elements that are read in a selection
 abbrev pub parts_in : Elem → List Elem
-parts_in e = bindings_in e ++ counting (codes "requires") e ++ counting (codes "command") e ++ counting (codes "manifest-digest") e
+parts_in e = bindings_in e ++ counting (codes "requires") e ++ counting (codes "command") e ++ digests_in e
 
 -- the commands of a selection whose names earlier ones have; one whose condition is no expression has no name
 abbrev pub clear_among : List Elem → List Elem

@@ -21,7 +21,7 @@ use Rattle.zi_parts.specs.declared.types.Runner.{Runner}
 use Rattle.zi_parts.specs.declared.types.Word.{Word}
 use Rattle.zi_parts.specs.declared.types.Word.TheVariants.{Arg, ForEach}
 use Rattle.zi_parts.specs.declared.types.Binding.{Binding}
-use Rattle.zi_parts.specs.declared.types.Binding.TheVariants.{Env, Unbuilt}
+use Rattle.zi_parts.specs.declared.types.Binding.TheVariants.{Env, ExecVar, ExecPath, Unbuilt}
 use Rattle.zi_parts.specs.declared.types.Extra.{Extra}
 use Rattle.zi_parts.specs.declared.types.Extra.TheVariants.{Insert, Value}
 use Rattle.zi_parts.specs.declared.types.Mode.{Mode}
@@ -54,6 +54,10 @@ mode_attrs Prepend = []
 mode_attrs Append = attr (codes "mode") (codes "append") ∷ []
 mode_attrs Replace = attr (codes "mode") (codes "replace") ∷ []
 
+-- one that makes a command known as a program of this name
+abbrev pub shim_elem : List ℕ → List ℕ → List ℕ → Elem
+shim_elem element name command = elem element (attr (codes "name") name ∷ [] ++ attr_unless (codes "run") (codes "command") command) []
+
 unfoldable pub binding_elem : Binding → Elem
 binding_elem (Env name extra mode separator default) =
     elem (codes "environment")
@@ -62,6 +66,8 @@ binding_elem (Env name extra mode separator default) =
     ++ attr_unless (codes ":") (codes "separator") separator
     ++ attr_of (codes "default") default)
     []
+binding_elem (ExecVar name command) = shim_elem (codes "executable-in-var") name command
+binding_elem (ExecPath name command) = shim_elem (codes "executable-in-path") name command
 binding_elem (Unbuilt element) = elem element [] []
 
 -- Dependencies.
@@ -141,6 +147,7 @@ unfoldable pub selection_attrs : Selection → List Attr
 selection_attrs item =
     attr (codes "interface") item.interface ∷ attr (codes "id") item.id ∷ attr (codes "version") item.version ∷ []
     ++ attr_unless item.interface (codes "from-feed") item.from_feed
+    ++ attr_of (codes "package") item.«package»
     ++ attr_of (codes "local-path") item.local
     ++ attr_of (codes "arch") item.arch
     ++ attr_of (codes "released") item.released

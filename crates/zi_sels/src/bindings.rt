@@ -2,7 +2,7 @@
 ghost use Rattle.std.specs.Prelude.{◌≡◌, ◌∷◌, [], ◌++◌, map, codes, IfOk, OnOk};
 ghost use Rattle.zi_elements.specs.Forest.{element_view};
 ghost use Rattle.zi_docout.specs.Elements.{Adds};
-ghost use Rattle.zi_sels.specs.Written.{extra_attr, mode_attrs, kind_attrs, binding_elem, dep_elem};
+ghost use Rattle.zi_sels.specs.Written.{extra_attr, mode_attrs, kind_attrs, shim_elem, binding_elem, dep_elem};
 
 use crate::elements::{put_unless, put_where_there};
 use std::alloc::Global;
@@ -31,6 +31,16 @@ fn put_mode(alloc: Global, attrs: &mut List<Attr>, mode: Mode) -> Result<(), Mem
     }
 }
 
+// A binding that makes a command known as a program of this name, as an element.
+fn shim_element(alloc: Global, kind: &str, name: &Text, command: &Text) -> Result<Element, Memory>
+    ensures { IfOk result (λ e. element_view e ≡ shim_elem kind.now name.now command.now) }
+{
+    let mut attrs = List::new(alloc);
+    put_attr(alloc, &mut attrs, "name", name.as_str())?;
+    put_unless(alloc, &mut attrs, "run", "command", command.as_str())?;
+    element(alloc, kind, attrs, List::new(alloc))
+}
+
 // A binding as an element.
 #[tactic(auto, unfolding(crate::specs::Written::binding_elem))]
 fn binding_element(alloc: Global, binding: &Binding) -> Result<Element, Memory>
@@ -51,6 +61,12 @@ fn binding_element(alloc: Global, binding: &Binding) -> Result<Element, Memory>
             put_unless(alloc, &mut attrs, ":", "separator", separator.as_str())?;
             put_where_there(alloc, &mut attrs, "default", default)?;
             element(alloc, "environment", attrs, List::new(alloc))
+        }
+        Binding::ExecVar { name, command } => {
+            shim_element(alloc, "executable-in-var", name, command)
+        }
+        Binding::ExecPath { name, command } => {
+            shim_element(alloc, "executable-in-path", name, command)
         }
         Binding::Unbuilt { element: name } => {
             element(alloc, name.as_str(), attrs, List::new(alloc))

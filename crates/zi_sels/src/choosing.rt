@@ -6,7 +6,7 @@ ghost use Rattle.zi_sels.specs.Chosen.{met, used_command, used_of, selection_by,
 ghost use Rattle.zi_sels.specs.Settings.{universe_of, picks_of, walk_of};
 ghost use Rattle.zi_sels.specs.Using.{walk_with};
 
-use crate::copies::{arch_text, copy_inherited, plain_copy, plain_runner};
+use crate::copies::{arch_text, copy_inherited, package_name, plain_copy, plain_runner};
 use crate::sorting::sort;
 use crate::types::{Selection, Selections};
 use crate::used::UsedTable;
@@ -153,6 +153,7 @@ fn selection_by(
     let deps = met_of(on, &imp.deps)?;
     let commands = used_of(on, i, &imp.commands)?;
     let bindings = copy_inherited(on.alloc, &imp.bindings)?;
+    let package = package_name(on.alloc, &imp.package)?;
     let local = copy_text(on.alloc, &imp.local)?;
     let arch = arch_text(on.alloc, &imp.arch)?;
     let released = copy_text(on.alloc, &imp.released)?;
@@ -161,6 +162,7 @@ fn selection_by(
         id,
         version,
         from_feed,
+        package,
         local,
         arch,
         released,

@@ -6,7 +6,9 @@ ghost use Rattle.zi_sels.specs.Chosen.{plain, plain_runner, arch_text};
 use std::alloc::Global;
 use zi_elements::Element;
 use zi_inherited::Inherited;
-use zi_parts::{Binding, Dep, Runner, add_bindings, copy_bindings, copy_texts, copy_words};
+use zi_parts::{
+    Binding, Dep, Package, Runner, add_bindings, copy_bindings, copy_texts, copy_words,
+};
 use zi_policy::{Arch, Condition};
 use zi_reading::attribute_text;
 use zi_text::{List, Memory, Text};
@@ -64,6 +66,16 @@ pub fn plain_runner(alloc: Global, runner: &Option<Runner>) -> Result<Option<Run
             let words = copy_words(alloc, &runner.words)?;
             Ok(Some(Runner { dep, words }))
         }
+    }
+}
+
+/// The name of a package once more, where there is one.
+pub fn package_name(alloc: Global, whole: &Option<Package>) -> Result<Option<Text>, Memory>
+    ensures { IfOk result (λ t. t ≡ option_map (λ p. p.name) whole.now) }
+{
+    match whole {
+        None => Ok(None),
+        Some(whole) => Ok(Some(whole.name.copy(alloc)?)),
     }
 }
 

@@ -1,15 +1,15 @@
 //! The faults of a selection itself, and of its repeated commands.
 ghost use Rattle.std.specs.Prelude.{◌≡◌, ◌++◌, ◌∷◌, [], IfOk, OnOk, codes, map, not, ◌&&◌};
 ghost use Rattle.zi_elements.specs.Forest.{element_view, attribute};
-ghost use Rattle.zi_reading.specs.Words.{is_wrong, is_amiss};
+ghost use Rattle.zi_reading.specs.Words.{is_amiss};
 ghost use Rattle.zi_reading.specs.Forms.{is_version};
-ghost use Rattle.zi_address.specs.Address.{is_local};
 ghost use Rattle.zi_reading.specs.Reading.{is_unclear};
 ghost use Rattle.zi_faults.specs.Faults.{fault_at, least};
 ghost use Rattle.zi_feed.specs.Means.{counts_as};
 ghost use Rattle.zi_reading.specs.Views.{views};
 ghost use Rattle.zi_faults.specs.declared.fault.FeedKind.TheVariants.{BadPart};
-ghost use Rattle.zi_sels.specs.Refused.{own_kind, clear_among, second_commands};
+ghost use Rattle.zi_sels.specs.Refused.{has_bad_local, own_kind, clear_among, second_commands};
+ghost use Rattle.zi_sels.specs.Read.{is_package};
 
 use crate::parts::children;
 use std::alloc::Global;
@@ -29,10 +29,20 @@ fn has_no_version(alloc: Global, e: &Element) -> Result<bool, Memory>
     }
 }
 
-// The local path of a selection doesn't begin at the top folder.
-fn has_bad_local(e: &Element) -> bool
-    ensures { result ≡ is_wrong is_local (attribute (codes "local-path") (element_view e.now)) }
+/// Whether it is a selection of a package of the operating system.
+pub fn is_package(e: &Element) -> bool
+    ensures { result ≡ is_package (element_view e.now) }
 {
+    !value(e, "package").is_empty()
+}
+
+// The local path of a selection doesn't begin at the top folder; that of a package is passed over.
+fn has_bad_local(e: &Element) -> bool
+    ensures { result ≡ has_bad_local (element_view e.now) }
+{
+    if is_package(e) {
+        return false;
+    }
     match attribute(e, "local-path") {
         Some(path) => !path.as_bytes().starts_with(b"/"),
         None => false,

@@ -1,15 +1,16 @@
 //! One selection, read.
 ghost use Rattle.std.specs.Prelude.{◌≡◌, IfOk, option_map, unwrap_or};
-ghost use Rattle.zi_elements.specs.Forest.{element_view, attribute, value};
+ghost use Rattle.zi_elements.specs.Forest.{element_view, elements, attribute, value};
 ghost use Rattle.zi_faults.specs.Faults.{fault_at};
 ghost use Rattle.zi_feed.specs.Means.{Reads};
 ghost use Rattle.zi_faults.specs.declared.fault.FeedFault.TheVariants.{Bad};
-ghost use Rattle.zi_sels.specs.Read.{selection_of};
+ghost use Rattle.zi_reading.specs.Views.{views};
+ghost use Rattle.zi_sels.specs.Read.{package_in, local_in, selection_of};
 ghost use Rattle.zi_sels.specs.Refused.{own_kind, selection_fault};
-ghost use Rattle.zi_sels.specs.Parts.{selection_with, ArePartsOf};
+ghost use Rattle.zi_sels.specs.Parts.{selection_with, AreDigestsOf, ArePartsOf};
 
 use crate::copies::copied;
-use crate::own::{own_kind, second_command};
+use crate::own::{is_package, own_kind, second_command};
 use crate::parts::{bindings_in, children, commands_in, deps_in, said_in};
 use crate::said::in_order_of_use;
 use crate::types::Selection;
@@ -67,6 +68,28 @@ fn text_of(alloc: Global, e: &Element, name: &str) -> Result<Text, Memory>
     Text::from_str(alloc, value(e, name))
 }
 
+// The package that it is a selection of, where it is one of a package.
+fn package_in(alloc: Global, e: &Element) -> Result<Option<Text>, Memory>
+    ensures { IfOk result (λ t. t ≡ package_in (element_view e.now)) }
+{
+    if is_package(e) {
+        copied(alloc, e, "package")
+    } else {
+        Ok(None)
+    }
+}
+
+// The path of its folder, where it has one.
+fn local_in(alloc: Global, e: &Element) -> Result<Option<Text>, Memory>
+    ensures { IfOk result (λ t. t ≡ local_in (element_view e.now)) }
+{
+    if is_package(e) {
+        Ok(None)
+    } else {
+        copied(alloc, e, "local-path")
+    }
+}
+
 // A selection of these parts.
 fn with_parts(alloc: Global, e: &Element, parts: Parts) -> Result<Selection, Memory>
     ensures { IfOk result (λ s. s ≡ selection_with (element_view e.now) parts) }
@@ -75,7 +98,8 @@ fn with_parts(alloc: Global, e: &Element, parts: Parts) -> Result<Selection, Mem
     let id = text_of(alloc, e, "id")?;
     let version = text_of(alloc, e, "version")?;
     let from_feed = text_or(alloc, e, "from-feed", value(e, "interface"))?;
-    let local = copied(alloc, e, "local-path")?;
+    let package = package_in(alloc, e)?;
+    let local = local_in(alloc, e)?;
     let arch = copied(alloc, e, "arch")?;
     let released = copied(alloc, e, "released")?;
     let stability = copied(alloc, e, "stability")?;
@@ -84,6 +108,7 @@ fn with_parts(alloc: Global, e: &Element, parts: Parts) -> Result<Selection, Mem
         id,
         version,
         from_feed,
+        package,
         local,
         arch,
         released,
@@ -95,6 +120,23 @@ fn with_parts(alloc: Global, e: &Element, parts: Parts) -> Result<Selection, Mem
     })
 }
 
+// The digests of a selection with these elements, of those without a fault, and of all their faults the first one counts.
+fn digests_in(
+    alloc: Global,
+    e: &Element,
+    inside: &[&Element],
+    fault: &mut Option<Fault>,
+) -> Result<List<DigestName>, Memory>
+    requires { views inside.now ≡ elements (element_view e.now).inside }
+    ensures { IfOk result (λ ds. AreDigestsOf (element_view e.now) fault.old ds fault.new) }
+{
+    if is_package(e) {
+        return Ok(List::new(alloc));
+    }
+    let said = said_in(alloc, inside, fault)?;
+    in_order_of_use(alloc, said.as_slice(), value(e, "id"))
+}
+
 // The parts of a selection, those without a fault, and of all their faults the first one counts.
 fn parts_in(alloc: Global, e: &Element, fault: &mut Option<Fault>) -> Result<Parts, Memory>
     ensures { IfOk result (λ parts. ArePartsOf (element_view e.now) fault.old parts fault.new) }
@@ -104,8 +146,7 @@ fn parts_in(alloc: Global, e: &Element, fault: &mut Option<Fault>) -> Result<Par
     let bindings = bindings_in(alloc, inside, fault)?;
     let deps = deps_in(alloc, inside, fault)?;
     let commands = commands_in(alloc, inside, fault)?;
-    let said = said_in(alloc, inside, fault)?;
-    let digests = in_order_of_use(alloc, said.as_slice(), value(e, "id"))?;
+    let digests = digests_in(alloc, e, inside, fault)?;
     Ok(Parts {
         digests,
         deps,

@@ -24,6 +24,8 @@ pub struct Selection {
     pub version: Text,
     /// The address of the feed that it stands in.
     pub from_feed: Text,
+    /// The package of the operating system that it is, where it is one. Such a selection has no folder and no digests.
+    pub package: Option<Text>,
     /// The path of its folder, where it is local.
     pub local: Option<Text>,
     /// Its platform, as it is written.
@@ -50,6 +52,7 @@ impl Drop for Selection {
             id: _,
             version: _,
             from_feed: _,
+            package: _,
             local: _,
             arch: _,
             released: _,

@@ -27,6 +27,7 @@ fn selection_attrs(alloc: Global, item: &Selection) -> Result<List<Attr>, Memory
     put_attr(alloc, &mut attrs, "id", item.id.as_str())?;
     put_attr(alloc, &mut attrs, "version", item.version.as_str())?;
     put_unless(alloc, &mut attrs, interface, "from-feed", feed)?;
+    put_where_there(alloc, &mut attrs, "package", &item.package)?;
     put_where_there(alloc, &mut attrs, "local-path", &item.local)?;
     put_where_there(alloc, &mut attrs, "arch", &item.arch)?;
     put_where_there(alloc, &mut attrs, "released", &item.released)?;

@@ -13,9 +13,9 @@ use Rattle.zi_reading.specs.Words.{is_among, listed, is_wrong, repeated}
 use Rattle.zi_parts.specs.Values.{mode_of, importance_of, binding_of}
 use Rattle.zi_reading.specs.Reading.{is, is_closed, is_part, is_unclear, parts, binding_names, those}
 use Rattle.zi_faults.specs.Said.{Said}
-use Rattle.zi_faults.specs.Faults.{faults_with, kinds_at, is_bad_part, is_bad_environment, is_bad_for_each, repeats_in, share}
+use Rattle.zi_faults.specs.Faults.{faults_with, kinds_at, is_bad_part, is_bad_environment, is_bad_for_each, repeats_in, shims_in, share}
 use Rattle.zi_parts.specs.declared.types.Binding.{Binding}
-use Rattle.zi_parts.specs.declared.types.Binding.TheVariants.{Env, Unbuilt}
+use Rattle.zi_parts.specs.declared.types.Binding.TheVariants.{Env, ExecVar, ExecPath, Unbuilt}
 use Rattle.zi_parts.specs.declared.types.Extra.{Extra}
 use Rattle.zi_parts.specs.declared.types.Extra.TheVariants.{Insert, Value}
 use Rattle.zi_parts.specs.declared.types.Mode.{Mode}
@@ -26,13 +26,15 @@ use Rattle.zi_sels_laws.proofs.FieldLaws.{Field, field, fields, looked, unless, 
 use Rattle.zi_sels_laws.proofs.PlainLaws.{here_is, made_is, condition, IsOf, among_each, free_clear}
 use Rattle.zi_sels_laws.proofs.CleanLaws.{IsClean, clean_inside, tested_faults, quiet_where}
 
--- the names of bindings that aren't built
+-- the names of bindings that aren't built outside a dependency
 abbrev pub other_names : List (List ℕ)
 other_names = listed (codes "executable-in-var executable-in-path overlay binding")
 
--- a binding as it may be read
+-- a binding as it may be read outside a dependency
 abbrev pub IsProperBinding : Binding → Type 0
 IsProperBinding (Env name extra mode separator default) = (is_none name ≡ false) × (list_any (λ c. c == 61) name ≡ false)
+IsProperBinding (ExecVar name command) = ⊥
+IsProperBinding (ExecPath name command) = ⊥
 IsProperBinding (Unbuilt name) = is_among other_names name ≡ true
 
 -- What is in a part of an element.
@@ -162,8 +164,8 @@ env_back name extra mode separator default f p =
     ∙ app (app (ap {B = Mode → List ℕ → Binding} (λ x m s. Env name x m s default) (extra_again extra)) (mode_again mode)) (unless_back (codes ":") separator))
 
 env_tested : (s : Said) (fs : List Field) (f : Forest) (p : ℕ)
-    → faults_with AsWritten s (env_here fs f p) ≡ tested_faults (env_here fs f p) (is_unclear (env_here fs f p)) false (is_bad_part (env_here fs f p)) false false (repeats_in AsWritten (env_here fs f p))
-unfolding faults_with kinds_at same is_among injector
+    → faults_with AsWritten s (env_here fs f p) ≡ tested_faults (env_here fs f p) (is_unclear (env_here fs f p)) false (is_bad_part (env_here fs f p)) false false (repeats_in AsWritten (env_here fs f p)) []
+unfolding faults_with kinds_at shims_in same is_among injector
 env_tested s fs f p = refl
 
 env_bad : (fs : List Field) (f : Forest) (p : ℕ)
@@ -198,8 +200,8 @@ env_clean : (name : List ℕ) (extra : Extra) (mode : Mode) (separator : List �
 env_clean name extra mode separator default f p h inside =
     let fs = env_fields name extra mode separator default in
     let e = env_here fs f p in (
-      λ s. env_tested s fs f p ∙ quiet_where e (is_unclear e) false (is_bad_part e) false false (repeats_in AsWritten e)
-          (free_clear e (env_free name extra mode separator default f p)) refl (env_part fs f p (env_good name extra mode separator default f p h)) refl refl (empty_repeats e inside),
+      λ s. env_tested s fs f p ∙ quiet_where e (is_unclear e) false (is_bad_part e) false false (repeats_in AsWritten e) []
+          (free_clear e (env_free name extra mode separator default f p)) refl (env_part fs f p (env_good name extra mode separator default f p h)) refl refl (empty_repeats e inside) refl,
       clean_inside (codes "environment") f (subst (Each IsClean) (sym inside) tt),
     )
 
@@ -210,16 +212,16 @@ unfolding binding_of same injector
 other_back name f p h = among_each (λ n. binding_of (here_is n [] f p) ≡ Unbuilt n) other_names name (refl, (refl, (refl, (refl, tt)))) h
 
 other_tested : (name : List ℕ) (s : Said) (f : Forest) (p : ℕ) → is_among other_names name ≡ true
-    → faults_with AsWritten s (here_is name [] f p) ≡ tested_faults (here_is name [] f p) false false false false false (repeats_in AsWritten (here_is name [] f p))
-unfolding faults_with kinds_at same is_among is_unclear injector
+    → faults_with AsWritten s (here_is name [] f p) ≡ tested_faults (here_is name [] f p) false false false false false (repeats_in AsWritten (here_is name [] f p)) []
+unfolding faults_with kinds_at shims_in same is_among is_unclear injector
 other_tested name s f p h =
-    among_each (λ n. faults_with AsWritten s (here_is n [] f p) ≡ tested_faults (here_is n [] f p) false false false false false (repeats_in AsWritten (here_is n [] f p)))
+    among_each (λ n. faults_with AsWritten s (here_is n [] f p) ≡ tested_faults (here_is n [] f p) false false false false false (repeats_in AsWritten (here_is n [] f p)) [])
     other_names name (refl, (refl, (refl, (refl, tt)))) h
 
 other_clean : (name : List ℕ) (f : Forest) (p : ℕ) → is_among other_names name ≡ true → elements f ≡ [] → IsClean (here_is name [] f p)
 other_clean name f p h inside =
     let e = here_is name [] f p in (
-      λ s. other_tested name s f p h ∙ quiet_where e false false false false false (repeats_in AsWritten e) refl refl refl refl refl (empty_repeats e inside),
+      λ s. other_tested name s f p h ∙ quiet_where e false false false false false (repeats_in AsWritten e) [] refl refl refl refl refl (empty_repeats e inside) refl,
       clean_inside name f (subst (Each IsClean) (sym inside) tt),
     )
 
@@ -247,6 +249,8 @@ binding_is (Env name extra mode separator default) r h s = record {
   };
   known = env_known;
 }
+binding_is (ExecVar name command) r h s = absurd h
+binding_is (ExecPath name command) r h s = absurd h
 binding_is (Unbuilt name) r h s = record {
   name = name;
   plain = record { space = ap (λ (e : Elem). e.space) (sym (made_is name [] _ r s)); named = s.name; free = ap (λ v. value_among condition v) s.attrs };
@@ -262,6 +266,8 @@ unfolding binding_elem
 binding_back (Env name extra mode separator default) r h s =
     ap binding_of (sym (env_same name extra mode separator default r (made_is (codes "environment") (env_attrs name extra mode separator default) _ r s)))
     ∙ env_back name extra mode separator default r.inside r.place
+binding_back (ExecVar name command) r h s = absurd h
+binding_back (ExecPath name command) r h s = absurd h
 binding_back (Unbuilt name) r h s = ap binding_of (sym (made_is name [] _ r s)) ∙ other_back name r.inside r.place h
 
 pub binding_clean : (b : Binding) (r : Elem) → IsProperBinding b → IsSame (binding_elem b) r → IsClean r
@@ -270,6 +276,8 @@ binding_clean (Env name extra mode separator default) r h s =
     let attrs = env_attrs name extra mode separator default in
     subst IsClean (env_same name extra mode separator default r (made_is (codes "environment") attrs _ r s))
     (env_clean name extra mode separator default r.inside r.place h (none_same (elements r.inside) (same_inside (codes "environment") attrs [] r s)))
+binding_clean (ExecVar name command) r h s = absurd h
+binding_clean (ExecPath name command) r h s = absurd h
 binding_clean (Unbuilt name) r h s =
     subst IsClean (made_is name [] _ r s) (other_clean name r.inside r.place h (none_same (elements r.inside) (same_inside name [] [] r s)))
 

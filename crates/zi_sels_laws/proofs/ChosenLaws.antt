@@ -38,7 +38,9 @@ use Rattle.zi_sels_laws.proofs.RootLaws.{interfaces_of, IsProper, IsWritten, wri
 use Rattle.zi_sels_laws.proofs.FreeLaws.{each_weak, each_map}
 use Rattle.zi_sels_laws.proofs.ApartLaws.{AreOther, none_repeated}
 use Rattle.zi_sels_laws.proofs.EachLaws.{all_each, each_permuted, each_at}
-use Rattle.zi_sels_laws.proofs.LoadedLaws.{IsGivenCandidate, AreGivenIn, loaded_given}
+use Rattle.zi_sels_laws.proofs.LoadedLaws.{IsGivenCandidate, AreGivenIn, AreReadableIn, loaded_given, loaded_readable}
+use Rattle.zi_sels_laws.specs.Rows.{HasRightRows}
+use Rattle.zi_sels_laws.proofs.FeedLaws.{IsReadable}
 use Rattle.zi_sels_laws.proofs.SelectedLaws.{IsThere, each_selected, target_there, there_among}
 use Rattle.zi_sels_laws.proofs.MadeLaws.{made_proper}
 use Rattle.zi_sels_laws.proofs.UsedLaws.{AreUsesMet, made_met}
@@ -88,6 +90,12 @@ chosen_given u s j k h e =
     let x = interface_at u j c.0 k c.2 in
     each_at IsGivenCandidate x.0.candidates c.0 k (each_at AreGivenIn u j x.0 h x.1) x.2
 
+pub chosen_readable : (u : List Interface) (s : Choice) (j : ℕ) (k : Candidate) → Each AreReadableIn u → chosen u s j ≡ Some k → IsReadable k.imp
+chosen_readable u s j k h e =
+    let c = chosen_from u s j k e in
+    let x = interface_at u j c.0 k c.2 in
+    each_at (λ (y : Candidate). IsReadable y.imp) x.0.candidates c.0 k (each_at AreReadableIn u j x.0 h x.1) x.2
+
 root_there : (u : List Interface) (s : Choice) (root : List ℕ) (P : Candidate → Type 0) → BeginsWith u root → IsSomeAnd (chosen u s 0) P → IsThere u s root
 root_there u s root P first valid = by (slice_get u 0) (chosen u s 0) refl refl first valid
   where
@@ -98,8 +106,9 @@ root_there u s root P first valid = by (slice_get u 0) (chosen u s 0) refl refl 
 
 -- The selections.
 
-chosen_proper : (u : List Interface) (req : Requirement) (s : Choice) (sels : Selections) → BeginsWith u req.interface → Each AreGivenIn u → IsValid u req s → AreSelected u req s sels → IsProper sels
-chosen_proper u req s sels first given valid are =
+pub chosen_proper : (u : List Interface) (req : Requirement) (s : Choice) (sels : Selections) → BeginsWith u req.interface → Each AreGivenIn u → Each AreReadableIn u → IsValid u req s → AreSelected u req s sels
+    → IsProper sels
+chosen_proper u req s sels first given readable valid are =
     let w = are.walk in
     let is = interfaces_of sels in
     let uses : AreUsesMet u s w = subst (λ (v : Walk). AreUsesMet u s v) (walk_one u req s valid.walk w valid.walks are.walks) valid.used_met in
@@ -107,13 +116,13 @@ chosen_proper u req s sels first given valid are =
     let one : (d : Dep) → is_some (target u s d) ≡ true → is_among is d.interface ≡ true = λ d t. there_among is u s w d.interface among (target_there u s d t) in record {
       items = each_permuted (IsMetWhole is) (selected u s w) sels.items are.same
           (each_selected (IsMetWhole is) u s w 0 u
-          (λ n j x k q at e. let g = chosen_given u s j k given e in (made_proper u s w j x.uri k g, made_met is u s w one uses j x.uri k e g)));
+          (λ n j x k q at e. let g = chosen_given u s j k given e in (made_proper u s w j x.uri k g (chosen_readable u s j k readable e), made_met is u s w one uses j x.uri k e g)));
       apart = none_repeated is (sorted_other sels.items are.sorted);
       rooted = subst (λ a. is_among is a ≡ true) (sym are.interface) (there_among is u s w req.interface among (root_there u s req.interface (λ c. IfSome req.command (λ name. Has c name)) first valid.root));
     }
 
 -- the canonical document of what a valid choice selects says it
-pub chosen_read : IsWritten → (told : Option Holding) (req : Requirement) (p : Policy) (stored : Store) (u : List Interface) (s : Choice) (sels : Selections) → Loads told req p stored u → IsValid u req s
+pub chosen_read : IsWritten → (told : Option Holding) (req : Requirement) (p : Policy) (stored : Store) (u : List Interface) (s : Choice) (sels : Selections) → HasRightRows stored.packages → Loads told req p stored u → IsValid u req s
     → AreSelected u req s sels → first_amiss (tree sels) ≡ None → Says (document sels) sels
-chosen_read written told req p stored u s sels loads valid are right =
-    written_says written sels (chosen_proper u req s sels (begins told req p stored u loads) (loaded_given told req p stored u loads) valid are) right
+chosen_read written told req p stored u s sels rows loads valid are right =
+    written_says written sels (chosen_proper u req s sels (begins told req p stored u loads) (loaded_given told req p stored u loads) (loaded_readable told req p stored u rows loads) valid are) right

@@ -76,15 +76,15 @@ tested digits part lacking address NoInterface = lacking
 tested digits part lacking address BadAddress = address
 tested digits part lacking address kind = false
 
-abbrev pub tested_faults : Elem → Bool → Bool → Bool → Bool → Bool → List Elem → List Fault
-tested_faults e unclear digits part lacking address repeats =
+abbrev pub tested_faults : Elem → Bool → Bool → Bool → Bool → Bool → List Elem → List Elem → List Fault
+tested_faults e unclear digits part lacking address repeats shims =
     if unclear then fault_at e BadRange ∷ []
-    else map (fault_at e) (filter (λ k. tested digits part lacking address k) all_kinds) ++ map (λ r. fault_at r BadPart) repeats
+    else map (fault_at e) (filter (λ k. tested digits part lacking address k) all_kinds) ++ map (λ r. fault_at r BadPart) (repeats ++ shims)
 
 -- none is
-pub quiet_where : (e : Elem) (unclear digits part lacking address : Bool) (repeats : List Elem) → unclear ≡ false → digits ≡ false → part ≡ false → lacking ≡ false
-    → address ≡ false → repeats ≡ [] → tested_faults e unclear digits part lacking address repeats ≡ []
-quiet_where e unclear digits part lacking address repeats u d p l a r = app (app (app (app (app (ap (tested_faults e) u) d) p) l) a) r
+pub quiet_where : (e : Elem) (unclear digits part lacking address : Bool) (repeats shims : List Elem) → unclear ≡ false → digits ≡ false → part ≡ false → lacking ≡ false
+    → address ≡ false → repeats ≡ [] → shims ≡ [] → tested_faults e unclear digits part lacking address repeats shims ≡ []
+quiet_where e unclear digits part lacking address repeats shims u d p l a r s = app (app (app (app (app (app (ap (tested_faults e) u) d) p) l) a) r) s
 
 -- an address is read as it is written
 pub never_wrong : (o : Option (List ℕ)) → is_wrong (λ t. is_some (meaning AsWritten t)) o ≡ false

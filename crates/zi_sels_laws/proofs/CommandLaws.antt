@@ -12,7 +12,7 @@ use Rattle.zi_reading.specs.Words.{is_among, listed, first, optional, repeated}
 use Rattle.zi_reading.specs.Reading.{is_part, is_unclear, parts, binding_names, read_in, those, named}
 use Rattle.zi_faults.specs.Said.{Said}
 use Rattle.zi_parts.specs.Values.{binding_of, bindings_of, dep_of, deps_of, word_of, args_of, runner_of, command_of}
-use Rattle.zi_faults.specs.Faults.{faults_with, kinds_at, is_bad_part, repeats_in, share}
+use Rattle.zi_faults.specs.Faults.{faults_with, kinds_at, is_bad_part, repeats_in, shims_in, share}
 use Rattle.zi_parts.specs.declared.types.Binding.{Binding}
 use Rattle.zi_parts.specs.declared.types.Word.{Word}
 use Rattle.zi_parts.specs.declared.types.Dep.{Dep}
@@ -79,14 +79,14 @@ dir_same : (name : List ℕ) (r : Elem) → IsSame (unbuilt_elem name) r → her
 dir_same name r s = made_is name [] _ r s
 
 dir_tested : (s : Said) (f : Forest) (p : ℕ)
-    → faults_with AsWritten s (here_is (codes "working-dir") [] f p) ≡ tested_faults (here_is (codes "working-dir") [] f p) false false false false false (repeats_in AsWritten (here_is (codes "working-dir") [] f p))
-unfolding faults_with kinds_at same is_among is_unclear injector
+    → faults_with AsWritten s (here_is (codes "working-dir") [] f p) ≡ tested_faults (here_is (codes "working-dir") [] f p) false false false false false (repeats_in AsWritten (here_is (codes "working-dir") [] f p)) []
+unfolding faults_with kinds_at shims_in same is_among is_unclear injector
 dir_tested s f p = refl
 
 dir_here_clean : (f : Forest) (p : ℕ) → elements f ≡ [] → IsClean (here_is (codes "working-dir") [] f p)
 dir_here_clean f p inside =
     let e = here_is (codes "working-dir") [] f p in (
-      λ v. dir_tested v f p ∙ quiet_where e false false false false false (repeats_in AsWritten e) refl refl refl refl refl (empty_repeats e inside),
+      λ v. dir_tested v f p ∙ quiet_where e false false false false false (repeats_in AsWritten e) [] refl refl refl refl refl (empty_repeats e inside) refl,
       clean_inside (codes "working-dir") f (subst (Each IsClean) (sym inside) tt),
     )
 
@@ -303,8 +303,8 @@ command_here_back c f p h s =
 
 command_tested : (s : Said) (name : List ℕ) (path : Option (List ℕ)) (f : Forest) (p : ℕ)
     → faults_with AsWritten s (command_here name path f p) ≡ tested_faults (command_here name path f p) (is_unclear (command_here name path f p)) false (is_bad_part (command_here name path f p))
-    false false (repeats_in AsWritten (command_here name path f p))
-unfolding faults_with kinds_at same is_among injector
+    false false (repeats_in AsWritten (command_here name path f p)) []
+unfolding faults_with kinds_at shims_in same is_among injector
 command_tested s name path f p = refl
 
 command_good : (name : List ℕ) (path : Option (List ℕ)) (f : Forest) (p : ℕ) → is_bad_part (command_here name path f p) ≡ false
@@ -316,11 +316,12 @@ command_here_clean c f p h s =
     let n = names_of c (elements f) h s in
     let e = command_at c f p in
     let all = s.bindings ++ s.dirs ++ s.deps ++ s.words ++ s.runners in (
-      λ v. command_tested v c.name c.path f p ∙ quiet_where e (is_unclear e) false (is_bad_part e) false false (repeats_in AsWritten e)
+      λ v. command_tested v c.name c.path f p ∙ quiet_where e (is_unclear e) false (is_bad_part e) false false (repeats_in AsWritten e) []
           (free_clear e (looked condition (command_fields c.name c.path) refl)) refl (command_good c.name c.path f p) refl refl
           (no_repeats e all (command_parts c.name c.path f p s.bindings s.dirs s.deps s.words s.runners s.whole n)
           (ap (repeated (λ a b. true)) (the_runners s.bindings s.dirs s.deps s.words s.runners n) ∙ single runner_elem (λ a b. true) c.runner s.runners s.runners_same)
-          (ap (repeated (share (codes "name"))) (no_commands s.bindings s.dirs s.deps s.words s.runners n))),
+          (ap (repeated (share (codes "name"))) (no_commands s.bindings s.dirs s.deps s.words s.runners n)))
+          refl,
       clean_inside (codes "command") f (subst (Each IsClean) (sym s.whole)
           (each_append IsClean (s.bindings ++ s.dirs ++ s.deps ++ s.words) s.runners
           (each_append IsClean (s.bindings ++ s.dirs ++ s.deps) s.words

@@ -10,10 +10,10 @@ use Rattle.zi_docout.specs.Same.{IsSame}
 use Rattle.zi_address.specs.Texts.{same}
 use Rattle.zi_reading.specs.Ways.{AsWritten}
 use Rattle.zi_reading.specs.Words.{is_among, listed, is_wrong, repeated}
-use Rattle.zi_parts.specs.Values.{importance_of, binding_of, bindings_of, dep_of, ranges_of}
+use Rattle.zi_parts.specs.Values.{importance_of, dep_binding_of, dep_bindings_of, commands_by, dep_of, ranges_of}
 use Rattle.zi_reading.specs.Reading.{is_unclear, parts, binding_names, meaning, read_in, those}
 use Rattle.zi_faults.specs.Said.{Said}
-use Rattle.zi_faults.specs.Faults.{faults_with, kinds_at, is_bad_part, has_no_interface, has_fault, repeats_in, share}
+use Rattle.zi_faults.specs.Faults.{faults_with, kinds_at, is_bad_part, has_no_interface, has_fault, repeats_in, shims_in, share}
 use Rattle.zi_faults.specs.declared.fault.FeedKind.TheVariants.{BadAddress}
 use Rattle.zi_parts.specs.declared.types.Binding.{Binding}
 use Rattle.zi_parts.specs.declared.types.Dep.{Dep}
@@ -24,7 +24,8 @@ use Rattle.zi_sels_laws.proofs.LikeLaws.{AreSame, same_inside, Each}
 use Rattle.zi_sels_laws.proofs.FieldLaws.{Field, field, fields, looked, app}
 use Rattle.zi_sels_laws.proofs.PlainLaws.{here_is, made_is, condition, IsPlain, free_clear, stood, plain_open, all_parts, of_parts, of_those}
 use Rattle.zi_sels_laws.proofs.CleanLaws.{IsClean, clean_inside, tested_faults, quiet_where, never_wrong}
-use Rattle.zi_sels_laws.proofs.BindingLaws.{IsProperBinding, IsBinding, bindings_are, bindings_back, bindings_clean, bindings_among, no_runner, no_command, no_repeats, good_part}
+use Rattle.zi_sels_laws.proofs.BindingLaws.{IsBinding, bindings_among, no_runner, no_command, no_repeats, good_part}
+use Rattle.zi_sels_laws.proofs.ShimLaws.{IsProperDepBinding, dep_bindings_are, dep_bindings_back, dep_bindings_clean, dep_bindings_harmless, no_shims}
 
 -- it is written with these words
 abbrev pub IsAsked : DepKind → Type 0
@@ -38,8 +39,8 @@ pub record IsProperDep (dep : Dep) : Type 0 where
   pub ranges : dep.ranges ≡ []
   pub os : dep.condition.os ≡ None
   pub wanted : dep.condition.wanted ≡ None
-  pub commands : dep.commands ≡ []
-  pub bindings : Each IsProperBinding dep.bindings
+  pub commands : dep.commands ≡ commands_by [] dep.bindings
+  pub bindings : Each IsProperDepBinding dep.bindings
 
 -- Dependencies.
 
@@ -68,12 +69,12 @@ dep_by i k bs = record {
   kind = unwrap_or (option_and_then importance_of k) Essential;
   ranges = [];
   condition = record { os = None; wanted = None };
-  commands = [];
+  commands = commands_by [] bs;
   bindings = bs;
 }
 
 dep_means : (fs : List Field) (f : Forest) (p : ℕ)
-    → dep_of AsWritten (dep_here fs f p) ≡ dep_by (attribute (codes "interface") (dep_here fs f p)) (attribute (codes "importance") (dep_here fs f p)) (bindings_of AsWritten (dep_here fs f p))
+    → dep_of AsWritten (dep_here fs f p) ≡ dep_by (attribute (codes "interface") (dep_here fs f p)) (attribute (codes "importance") (dep_here fs f p)) (dep_bindings_of AsWritten (dep_here fs f p))
 unfolding dep_of same ranges_of injector
 dep_means fs f p = refl
 
@@ -91,7 +92,7 @@ kind_right Restricts = refl
 
 dep_tested : (s : Said) (fs : List Field) (f : Forest) (p : ℕ)
     → faults_with AsWritten s (dep_here fs f p) ≡ tested_faults (dep_here fs f p) (is_unclear (dep_here fs f p)) false (is_bad_part (dep_here fs f p))
-    (has_no_interface (dep_here fs f p)) (has_fault AsWritten s BadAddress (dep_here fs f p)) (repeats_in AsWritten (dep_here fs f p))
+    (has_no_interface (dep_here fs f p)) (has_fault AsWritten s BadAddress (dep_here fs f p)) (repeats_in AsWritten (dep_here fs f p)) (shims_in AsWritten (dep_here fs f p))
 unfolding faults_with kinds_at same is_among injector
 dep_tested s fs f p = refl
 
@@ -131,9 +132,9 @@ dep_here_back : (dep : Dep) (f : Forest) (p : ℕ) → IsProperDep dep → AreSa
 dep_here_back dep f p h s =
     let fs = dep_fields dep.interface dep.kind in
     let e = dep_here fs f p in
-    let are = bindings_are dep.bindings (elements f) h.bindings s in
-    let found : bindings_of AsWritten e ≡ dep.bindings = ap (λ v. map binding_of (those binding_names v)) (dep_parts dep.interface dep.kind f p are)
-    ∙ (ap (map binding_of) (of_those binding_names binding_names true bindings_among (elements f) are) ∙ bindings_back dep.bindings (elements f) h.bindings s) in
+    let are = dep_bindings_are dep.bindings (elements f) h.bindings s in
+    let found : dep_bindings_of AsWritten e ≡ dep.bindings = ap (λ v. map dep_binding_of (those binding_names v)) (dep_parts dep.interface dep.kind f p are)
+    ∙ (ap (map dep_binding_of) (of_those binding_names binding_names true bindings_among (elements f) are) ∙ dep_bindings_back dep.bindings (elements f) h.bindings s) in
     dep_means fs f p
     ∙ (app (app (ap dep_by (looked (codes "interface") fs refl)) (looked (codes "importance") fs refl)) found
     ∙ whole dep h)
@@ -148,13 +149,14 @@ dep_here_clean : (dep : Dep) (f : Forest) (p : ℕ) → IsProperDep dep → AreS
 dep_here_clean dep f p h s =
     let fs = dep_fields dep.interface dep.kind in
     let e = dep_here fs f p in
-    let are = bindings_are dep.bindings (elements f) h.bindings s in (
-      λ v. dep_tested v fs f p ∙ quiet_where e (is_unclear e) false (is_bad_part e) (has_no_interface e) (has_fault AsWritten v BadAddress e) (repeats_in AsWritten e)
+    let are = dep_bindings_are dep.bindings (elements f) h.bindings s in (
+      λ v. dep_tested v fs f p ∙ quiet_where e (is_unclear e) false (is_bad_part e) (has_no_interface e) (has_fault AsWritten v BadAddress e) (repeats_in AsWritten e) (shims_in AsWritten e)
           (free_clear e (looked condition fs refl)) refl (dep_good dep.interface dep.kind f p)
           (dep_named dep.interface dep.kind f p) (dep_addressed v fs f p)
           (no_repeats e (elements f) (dep_parts dep.interface dep.kind f p are) (ap (repeated (λ a b. true)) (of_those binding_names (listed (codes "runner")) false no_runner (elements f) are))
-          (ap (repeated (share (codes "name"))) (of_those binding_names (listed (codes "command")) false no_command (elements f) are))),
-      clean_inside (codes "requires") f (bindings_clean dep.bindings (elements f) h.bindings s),
+          (ap (repeated (share (codes "name"))) (of_those binding_names (listed (codes "command")) false no_command (elements f) are)))
+          (no_shims e (elements f) (dep_parts dep.interface dep.kind f p are) (dep_bindings_harmless dep.bindings (elements f) h.bindings s)),
+      clean_inside (codes "requires") f (dep_bindings_clean dep.bindings (elements f) h.bindings s),
     )
 
 dep_same : (dep : Dep) (r : Elem) → IsSame (dep_elem dep) r → dep_here (dep_fields dep.interface dep.kind) r.inside r.place ≡ r

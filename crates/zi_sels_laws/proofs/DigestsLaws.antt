@@ -18,7 +18,7 @@ use Rattle.zi_reading.specs.Words.{is_among, is_wrong, optional}
 use Rattle.zi_parts.specs.Digests.{digest_of, digest_by, attribute_by, algorithms, said_digest, said_digests}
 use Rattle.zi_reading.specs.Reading.{is_unclear}
 use Rattle.zi_faults.specs.Said.{Said}
-use Rattle.zi_faults.specs.Faults.{faults_with, kinds_at, has_bad_digits, repeats_in}
+use Rattle.zi_faults.specs.Faults.{faults_with, kinds_at, has_bad_digits, repeats_in, shims_in}
 use Rattle.zi_parts.proofs.DigestLaws.{digest_spelled}
 use Rattle.zi_sels.specs.Written.{is_by, digest_attrs, digests_elems}
 use Rattle.zi_sels.specs.Read.{in_order_of_use}
@@ -148,15 +148,15 @@ digest_good n s o f p h =
 
 digest_tested : (v : Said) (n s o : Option (List ℕ)) (f : Forest) (p : ℕ)
     → faults_with AsWritten v (digest_here n s o f p) ≡ tested_faults (digest_here n s o f p) (is_unclear (digest_here n s o f p)) (has_bad_digits (digest_here n s o f p)) false false false
-    (repeats_in AsWritten (digest_here n s o f p))
-unfolding faults_with kinds_at same is_among injector
+    (repeats_in AsWritten (digest_here n s o f p)) []
+unfolding faults_with kinds_at shims_in same is_among injector
 digest_tested v n s o f p = refl
 
 digest_here_clean : (n s o : Option (List ℕ)) (f : Forest) (p : ℕ) → AreWhole n s o → elements f ≡ [] → IsClean (digest_here n s o f p)
 digest_here_clean n s o f p h inside =
     let e = digest_here n s o f p in (
-      λ v. digest_tested v n s o f p ∙ quiet_where e (is_unclear e) (has_bad_digits e) false false false (repeats_in AsWritten e)
-          (free_clear e (looked condition (digest_fields n s o) refl)) (digest_good n s o f p h) refl refl refl (empty_repeats e inside),
+      λ v. digest_tested v n s o f p ∙ quiet_where e (is_unclear e) (has_bad_digits e) false false false (repeats_in AsWritten e) []
+          (free_clear e (looked condition (digest_fields n s o) refl)) (digest_good n s o f p h) refl refl refl (empty_repeats e inside) refl,
       clean_inside (codes "manifest-digest") f (subst (Each IsClean) (sym inside) tt),
     )
 

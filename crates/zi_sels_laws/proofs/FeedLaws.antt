@@ -1,5 +1,5 @@
 -- What the implementations of a feed without a fault are.
-use Rattle.std.proofs.Common.{◌≡◌, ℕ, Bool, true, false, ◌&&◌, List, [], ◌∷◌, ◌++◌, map, Option, Some, None, codes, refl, ap, subst}
+use Rattle.std.proofs.Common.{◌≡◌, ℕ, Bool, true, false, ◌&&◌, List, [], ◌∷◌, ◌++◌, map, Option, Some, None, codes, refl, sym, ap, subst, ◌∙◌}
 use Rattle.std.specs.Prelude.{not, option_map, option_and_then, is_some, if◌then◌else◌}
 use Rattle.std.specs.List.{filter_map, cons_option, flat_map, list_any}
 use Rattle.std.proofs.lemmas.Bool.{and_parts}
@@ -24,7 +24,7 @@ use Rattle.zi_parts.specs.declared.types.Command.{Command}
 use Rattle.zi_parts.specs.declared.types.Impl.{Impl}
 use Rattle.zi_sels_laws.proofs.LikeLaws.{Each, each_append, each_both}
 use Rattle.zi_sels_laws.proofs.BindingLaws.{IsProperBinding}
-use Rattle.zi_sels_laws.proofs.DigestsLaws.{AreProper}
+use Rattle.zi_sels_laws.proofs.ItemLaws.{IsPackage, HasPath, HasDigests}
 use Rattle.zi_sels_laws.proofs.FreeLaws.{each_filter, each_weak, each_flat, IsRight, sound, free_all}
 use Rattle.zi_sels_laws.proofs.SoundLaws.{bindings_sound}
 use Rattle.zi_sels_laws.proofs.GivenLaws.{IsGivenDep, IsGivenCommand, deps_given, commands_given}
@@ -32,18 +32,25 @@ use Rattle.zi_sels_laws.proofs.AlongLaws.{IsRightAlong, along}
 use Rattle.zi_sels_laws.proofs.ApartLaws.{AreApart, commands_apart}
 use Rattle.zi_sels_laws.proofs.SpelledLaws.{digests_given}
 use Rattle.zi_feed.specs.IdLaws.{least_none, both_empty}
-use Rattle.zi_feed.proofs.ImplLaws.{not_named}
+
+-- the name of the package that an implementation is, where it is one
+abbrev pub package_of : Impl → Option (List ℕ)
+package_of i = option_map (λ p. p.name) i.«package»
 
 -- an implementation of a feed
 pub record IsGiven (i : Impl) : Type 0 where
   pub id : is_none i.id ≡ false
-  pub version : is_version i.version ≡ true
-  pub local : is_wrong is_local i.local ≡ false
-  pub digests : AreProper i.id i.digests
+  pub local : HasPath (package_of i) i.local
+  pub digests : HasDigests (package_of i) i.id i.digests
   pub deps : Each IsGivenDep i.deps
   pub commands : Each IsGivenCommand i.commands
   pub apart : AreApart i.commands
   pub bindings : Each IsProperBinding i.bindings
+
+-- one whose version and package are read again
+pub record IsReadable (i : Impl) : Type 0 where
+  pub version : is_version i.version ≡ true
+  pub named : IsPackage (package_of i)
 
 -- Local paths.
 
@@ -73,7 +80,7 @@ local_given uri s e = either (is_local uri) (local_text s e)
 
 -- What the elements along a path give.
 
-each_latest : (P : Command → Type 0) (cs : List Command) → Each P cs → Each P (latest are_alike cs)
+pub each_latest : (P : Command → Type 0) (cs : List Command) → Each P cs → Each P (latest are_alike cs)
 each_latest P [] h = tt
 each_latest P (c ∷ cs) h = either (list_any (are_alike c) cs) (each_latest P cs h.1)
   where
@@ -81,7 +88,7 @@ each_latest P (c ∷ cs) h = either (list_any (are_alike c) cs) (each_latest P c
     either true more = more
     either false more = (h.0, more)
 
-main_given : (main : Option (List ℕ)) (cs : List Command) → Each IsGivenCommand cs → Each IsGivenCommand (with_main main cs)
+pub main_given : (main : Option (List ℕ)) (cs : List Command) → Each IsGivenCommand cs → Each IsGivenCommand (with_main main cs)
 main_given None cs h = h
 main_given (Some p) cs h = either (list_any is_run cs)
   where
@@ -91,6 +98,10 @@ main_given (Some p) cs h = either (list_any is_run cs)
 
 -- One implementation.
 
+-- where two things aren't both so and the first is, the second isn't
+not_second : (a b : Bool) → a ≡ true → (a && b) ≡ false → b ≡ false
+not_second a b h k = sym (ap (λ x. x && b) h) ∙ k
+
 -- what the element of a site is, with this text for a version
 abbrev read_as : List ℕ → Site → List ℕ → Impl
 read_as uri t version =
@@ -98,12 +109,11 @@ read_as uri t version =
     let ways : Ways = InFeed uri in
     impl_with ways (said es) (flat_map (deps_of ways) es) (flat_map (commands_of ways) es) (flat_map (bindings_of ways) es) t.element version
 
-given_with : (uri : List ℕ) (t : Site) → IsRightAlong (InFeed uri) t → is_none (value (codes "id") t.element) ≡ false → (v : List ℕ) → is_version v ≡ true → IsGiven (read_as uri t v)
-given_with uri t right id v version =
+given_with : (uri : List ℕ) (t : Site) → IsRightAlong (InFeed uri) t → is_none (value (codes "id") t.element) ≡ false → (v : List ℕ) → IsGiven (read_as uri t v)
+given_with uri t right id v =
     let ways : Ways = InFeed uri in
     let cs = flat_map (commands_of ways) (path t) in record {
       id = id;
-      version = version;
       local = local_given uri (said (path t)) t.element;
       digests = digests_given ways t.element;
       deps = each_flat IsGivenDep (deps_of ways) (IsRight ways) (deps_given ways) (path t) right;
@@ -112,19 +122,19 @@ given_with uri t right id v version =
       bindings = each_flat IsProperBinding (bindings_of ways) (IsRight ways) (bindings_sound ways) (path t) right;
     }
 
-given_at : (uri : List ℕ) (t : Site) → faults_at (InFeed uri) t ≡ [] → IsRightAlong (InFeed uri) t → counts t.element ≡ true → (i : Impl) → impl_of (InFeed uri) t ≡ Some i → IsGiven i
+given_at : (uri : List ℕ) (t : Site) → faults_at (InFeed uri) t ≡ [] → IsRightAlong (InFeed uri) t → counts t.element ≡ true → (i : Impl) → impl_of (InFeed uri) t ≡ Some i → IsGiven i × IsReadable i
 unfolding impl_of impl_from
 given_at uri t free right counted i h =
     let s = sound (InFeed uri) (said (path t)) t.element free in
     let is_one = (and_parts (is_impl t.element) (not (is_unclear t.element)) counted).0 in
-    let id = not_named (is_impl t.element) (is_none (value (codes "id") t.element)) is_one s.kinds.1.0 in
+    let id = not_second (is_impl t.element) (is_none (value (codes "id") t.element)) is_one s.kinds.1.0 in
     by_text (version_text (said (path t))) id h
   where
-    by_version : (v : List ℕ) (b : Bool) → is_version v ≡ b → is_none (value (codes "id") t.element) ≡ false → option_map (read_as uri t) (if b then Some v else None) ≡ Some i → IsGiven i
-    by_version v true k id e = subst IsGiven (cc e) (given_with uri t right id v k)
+    by_version : (v : List ℕ) (b : Bool) → is_version v ≡ b → is_none (value (codes "id") t.element) ≡ false → option_map (read_as uri t) (if b then Some v else None) ≡ Some i → IsGiven i × IsReadable i
+    by_version v true k id e = subst (λ x. IsGiven x × IsReadable x) (cc e) (given_with uri t right id v, record { version = k; named = tt })
     by_version v false k id e = absurd (cc e)
 
-    by_text : (o : Option (List ℕ)) → is_none (value (codes "id") t.element) ≡ false → option_map (read_as uri t) (option_and_then a_version o) ≡ Some i → IsGiven i
+    by_text : (o : Option (List ℕ)) → is_none (value (codes "id") t.element) ≡ false → option_map (read_as uri t) (option_and_then a_version o) ≡ Some i → IsGiven i × IsReadable i
     by_text None id e = absurd (cc e)
     by_text (Some v) id e = by_version v (is_some (version_value v)) refl id e
 
@@ -138,15 +148,15 @@ no_faults : (ways : Ways) (ss : List Site) → flat_map (faults_at ways) ss ≡ 
 no_faults ways [] h = tt
 no_faults ways (s ∷ ss) h = let b = both_empty (faults_at ways s) (flat_map (faults_at ways) ss) h in (b.0, no_faults ways ss b.1)
 
-each_given : (uri : List ℕ) (ts : List Site) → Each (λ t. IsSeen uri t × (counts t.element ≡ true)) ts → Each IsGiven (filter_map (impl_of (InFeed uri)) ts)
+each_given : (uri : List ℕ) (ts : List Site) → Each (λ t. IsSeen uri t × (counts t.element ≡ true)) ts → Each (λ i. IsGiven i × IsReadable i) (filter_map (impl_of (InFeed uri)) ts)
 each_given uri [] h = tt
 each_given uri (t ∷ ts) h = either (impl_of (InFeed uri) t) refl (each_given uri ts h.1)
   where
-    either : (o : Option Impl) → impl_of (InFeed uri) t ≡ o → Each IsGiven (filter_map (impl_of (InFeed uri)) ts) → Each IsGiven (cons_option o (filter_map (impl_of (InFeed uri)) ts))
+    either : (o : Option Impl) → impl_of (InFeed uri) t ≡ o → Each (λ i. IsGiven i × IsReadable i) (filter_map (impl_of (InFeed uri)) ts) → Each (λ i. IsGiven i × IsReadable i) (cons_option o (filter_map (impl_of (InFeed uri)) ts))
     either None e more = more
     either (Some i) e more = (given_at uri t h.0.0.free h.0.0.right h.0.1 i e, more)
 
-all_free : (root : Elem) (uri : List ℕ) → feed_fault root uri ≡ None → flat_map (faults_at (InFeed uri)) (feed_sites uri root) ≡ []
+pub all_free : (root : Elem) (uri : List ℕ) → feed_fault root uri ≡ None → flat_map (faults_at (InFeed uri)) (feed_sites uri root) ≡ []
 unfolding feed_fault
 all_free root uri h =
     let faults = flat_map (faults_at (InFeed uri)) (feed_sites uri root) in
@@ -159,7 +169,7 @@ all_free root uri h =
     is_one false o k = absurd (cc k)
 
 -- the implementations that a tree without a fault says
-pub feed_given : (root : Elem) (uri : List ℕ) → feed_fault root uri ≡ None → Each IsGiven (feed_of root uri).impls
+pub feed_given : (root : Elem) (uri : List ℕ) → feed_fault root uri ≡ None → Each (λ i. IsGiven i × IsReadable i) (feed_of root uri).impls
 unfolding feed_of
 feed_given root uri h =
     let ss = feed_sites uri root in

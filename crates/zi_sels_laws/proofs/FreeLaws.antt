@@ -9,7 +9,7 @@ use Rattle.zi_reading.specs.Ways.{Ways, AsWritten}
 use Rattle.zi_reading.specs.Reading.{stands, is, is_ours, is_closed, is_unclear, is_part, parts}
 use Rattle.zi_faults.specs.Sites.{Site, here, under, path, sites}
 use Rattle.zi_faults.specs.Said.{Said, said}
-use Rattle.zi_faults.specs.Faults.{fault_at, faults_at, faults_with, kinds_at, all_kinds, has_fault, is_bad_part, repeats_in, lesser, is_first}
+use Rattle.zi_faults.specs.Faults.{fault_at, faults_at, faults_with, kinds_at, all_kinds, has_fault, is_bad_part, repeats_in, shims_in}
 use Rattle.zi_feed.specs.Feeds.{part_fault}
 use Rattle.zi_faults.specs.declared.fault.Fault.{Fault}
 use Rattle.zi_faults.specs.declared.fault.FeedKind.{FeedKind}
@@ -90,7 +90,7 @@ pub record IsRight (ways : Ways) (e : Elem) : Type 0 where
 
 pub free_clear : (ways : Ways) (s : Said) (e : Elem) → faults_with ways s e ≡ [] → is_unclear e ≡ false
 unfolding faults_with
-free_clear ways s e h = either (is_unclear e) (map (fault_at e) (kinds_at ways s e) ++ map (λ r. fault_at r BadPart) (repeats_in ways e)) h
+free_clear ways s e h = either (is_unclear e) (map (fault_at e) (kinds_at ways s e) ++ map (λ r. fault_at r BadPart) (repeats_in ways e ++ shims_in ways e)) h
   where
     either : (b : Bool) (fs : List Fault) → (if b then fault_at e BadRange ∷ [] else fs) ≡ [] → b ≡ false
     either true fs k = absurd (cc k)
@@ -154,6 +154,7 @@ pub record IsSound (ways : Ways) (s : Said) (e : Elem) : Type 0 where
   pub clear : is_unclear e ≡ false
   pub kinds : Each (λ k. has_fault ways s k e ≡ false) all_kinds
   pub repeats : repeats_in ways e ≡ []
+  pub shims : shims_in ways e ≡ []
 
 none_kept : (test : FeedKind → Bool) (ks : List FeedKind) → filter test ks ≡ [] → Each (λ k. test k ≡ false) ks
 none_kept test [] h = tt
@@ -167,11 +168,13 @@ pub sound : (ways : Ways) (s : Said) (e : Elem) → faults_with ways s e ≡ [] 
 unfolding faults_with kinds_at
 sound ways s e h =
     let clear = free_clear ways s e h in
-    let rest = sym (ap (λ b. if b then fault_at e BadRange ∷ [] else map (fault_at e) (kinds_at ways s e) ++ map (λ r. fault_at r BadPart) (repeats_in ways e)) clear) ∙ h in
-    let b = both_empty (map (fault_at e) (kinds_at ways s e)) (map (λ r. fault_at r BadPart) (repeats_in ways e)) rest in record {
+    let rest = sym (ap (λ b. if b then fault_at e BadRange ∷ [] else map (fault_at e) (kinds_at ways s e) ++ map (λ r. fault_at r BadPart) (repeats_in ways e ++ shims_in ways e)) clear) ∙ h in
+    let b = both_empty (map (fault_at e) (kinds_at ways s e)) (map (λ r. fault_at r BadPart) (repeats_in ways e ++ shims_in ways e)) rest in
+    let parts_ = both_empty (repeats_in ways e) (shims_in ways e) (map_nil (λ r. fault_at r BadPart) (repeats_in ways e ++ shims_in ways e) b.1) in record {
       clear = clear;
       kinds = none_kept (λ k. has_fault ways s k e) all_kinds (map_nil (fault_at e) (kinds_at ways s e) b.0);
-      repeats = map_nil (λ r. fault_at r BadPart) (repeats_in ways e) b.1;
+      repeats = parts_.0;
+      shims = parts_.1;
     }
 
 pub right_sound : (ways : Ways) (e : Elem) (h : IsRight ways e) → IsSound ways h.said e

@@ -27,24 +27,40 @@ use Rattle.zi_parts.specs.declared.types.Dep.{Dep}
 use Rattle.zi_parts.specs.declared.types.Command.{Command}
 use Rattle.zi_sels.specs.declared.types.Selection.{Selection}
 use Rattle.zi_sels.specs.Written.{attr_of, binding_elem, dep_elem, command_elem, digests_elems, selection_attrs, selection_elem}
-use Rattle.zi_sels.specs.Read.{counting, bindings_in, said_in, in_order_of_use, selection_of}
+use Rattle.zi_sels.specs.Read.{counting, bindings_in, is_package, digests_in, said_in, in_order_of_use, selection_of}
 use Rattle.zi_sels.specs.Notes.{faults_of}
 use Rattle.zi_sels.specs.Refused.{own_kind, parts_in, second_commands, selection_fault}
 use Rattle.zi_sels_laws.proofs.LikeLaws.{AreSame, same_inside, Each, each_append, each_read, values_back, parted, if_all, sifted, filter_joined}
 use Rattle.zi_sels_laws.proofs.FieldLaws.{Field, field, fields, looked, unless, unless_field, unless_back, app}
 use Rattle.zi_sels_laws.proofs.PlainLaws.{here_is, made_is, condition, IsPlain, IsOf, of_test, free_clear, plain_counts, plain_binding}
 use Rattle.zi_sels_laws.proofs.CleanLaws.{IsClean, clean_faults}
-use Rattle.zi_sels_laws.proofs.BindingLaws.{IsProperBinding, IsBinding, bindings_are, bindings_back, bindings_clean}
+use Rattle.zi_sels_laws.proofs.BindingLaws.{IsProperBinding, IsBinding, none_same, bindings_are, bindings_back, bindings_clean}
 use Rattle.zi_sels_laws.proofs.DepLaws.{IsProperDep}
 use Rattle.zi_sels_laws.proofs.CommandLaws.{IsProperCommand, dep_names, deps_are, deps_back, deps_clean, command_is, command_back, command_clean, command_name}
 use Rattle.zi_sels_laws.proofs.DigestsLaws.{AreProper, IsDigestElem, digests_read}
+
+-- a package has a name
+abbrev pub IsPackage : Option (List ℕ) → Type 0
+IsPackage None = Unit {0}
+IsPackage (Some name) = is_none name ≡ false
+
+-- a selection of a package has no folder; that of any other is a path from the top folder, where it has one
+abbrev pub HasPath : Option (List ℕ) → Option (List ℕ) → Type 0
+HasPath None local = is_wrong is_local local ≡ false
+HasPath (Some name) local = local ≡ None
+
+-- nor has it digests
+abbrev pub HasDigests : Option (List ℕ) → List ℕ → List DigestName → Type 0
+HasDigests None id digests = AreProper id digests
+HasDigests (Some name) id digests = digests ≡ []
 
 -- a selection as it may be read
 pub record IsProperItem (item : Selection) : Type 0 where
   pub id : is_none item.id ≡ false
   pub version : is_version item.version ≡ true
-  pub local : is_wrong is_local item.local ≡ false
-  pub digests : AreProper item.id item.digests
+  pub named : IsPackage item.«package»
+  pub local : HasPath item.«package» item.local
+  pub digests : HasDigests item.«package» item.id item.digests
   pub deps : Each IsProperDep item.deps
   pub commands : Each IsProperCommand item.commands
   pub apart : repeated same (map (λ (c : Command). c.name) item.commands) ≡ []
@@ -152,9 +168,14 @@ digests_clean (r ∷ rs) h = (h.0.1, digests_clean rs h.1)
 command_of_name : (c : Command) (r : Elem) → IsProperCommand c → IsSame (command_elem c) r → IsOf command_names r
 command_of_name c r h s = record { name = codes "command"; plain = command_is c r h s; known = command_known }
 
+digest_elements : (o : Option (List ℕ)) (id : List ℕ) (ds : List DigestName) (rs : List Elem) → HasDigests o id ds → AreSame (digests_elems ds) rs → Each IsDigestElem rs
+unfolding digests_elems
+digest_elements None id ds rs h s = (digests_read id ds rs h s).0
+digest_elements (Some name) id ds rs h s = subst (Each IsDigestElem) (sym (none_same rs (subst (λ v. AreSame (digests_elems v) rs) h s))) tt
+
 pub named_inside : (item : Selection) (rs : List Elem) → IsProperItem item → (p : InsideOf item rs) → NamedInside p.digests p.bindings p.deps p.commands
 named_inside item rs h p = record {
-  digests = digests_are p.digests (digests_read item.id item.digests p.digests h.digests p.digests_same).0;
+  digests = digests_are p.digests (digest_elements item.«package» item.id item.digests p.digests h.digests p.digests_same);
   bindings = bindings_are item.bindings p.bindings h.bindings p.bindings_same;
   deps = deps_are item.deps p.deps h.deps p.deps_same;
   commands = each_read command_elem IsProperCommand (IsOf command_names) command_of_name item.commands p.commands h.commands p.commands_same;
@@ -211,23 +232,26 @@ count_commands gs bs ds cs n =
 abbrev item_fields : Selection → List Field
 item_fields item =
     field (codes "interface") (Some item.interface) ∷ field (codes "id") (Some item.id) ∷ field (codes "version") (Some item.version)
-    ∷ field (codes "from-feed") (unless item.interface item.from_feed) ∷ field (codes "local-path") item.local ∷ field (codes "arch") item.arch
+    ∷ field (codes "from-feed") (unless item.interface item.from_feed) ∷ field (codes "package") item.«package» ∷ field (codes "local-path") item.local ∷ field (codes "arch") item.arch
     ∷ field (codes "released") item.released ∷ field (codes "stability") item.stability ∷ []
 
-five_joined : (a b c d e : List Attr) → a ++ b ++ c ++ d ++ e ≡ a ++ (b ++ (c ++ (d ++ (e ++ []))))
-five_joined a b c d e =
-    append_assoc (a ++ b ++ c) d e ∙ (append_assoc (a ++ b) c (d ++ e) ∙ (append_assoc a b (c ++ (d ++ e)) ∙ ap (λ v. a ++ (b ++ (c ++ (d ++ v)))) (sym (append-nil e))))
+six_joined : (a b c d e f : List Attr) → a ++ b ++ c ++ d ++ e ++ f ≡ a ++ (b ++ (c ++ (d ++ (e ++ (f ++ [])))))
+six_joined a b c d e f =
+    append_assoc (a ++ b ++ c ++ d) e f
+    ∙ (append_assoc (a ++ b ++ c) d (e ++ f)
+    ∙ (append_assoc (a ++ b) c (d ++ (e ++ f)) ∙ (append_assoc a b (c ++ (d ++ (e ++ f))) ∙ ap (λ v. a ++ (b ++ (c ++ (d ++ (e ++ v))))) (sym (append-nil f)))))
 
 item_as_fields : (item : Selection) → selection_attrs item ≡ fields (item_fields item)
 unfolding selection_attrs
 item_as_fields item =
+    let p = attr_of (codes "package") item.«package» in
     let l = attr_of (codes "local-path") item.local in
     let a = attr_of (codes "arch") item.arch in
     let r = attr_of (codes "released") item.released in
     let s = attr_of (codes "stability") item.stability in
     let front : List Attr → List Attr = λ v. attr (codes "interface") item.interface ∷ attr (codes "id") item.id ∷ attr (codes "version") item.version ∷ v in
-    ap (λ v. front (v ++ l ++ a ++ r ++ s)) (unless_field item.interface (codes "from-feed") item.from_feed)
-    ∙ ap front (five_joined (attr_of (codes "from-feed") (unless item.interface item.from_feed)) l a r s)
+    ap (λ v. front (v ++ p ++ l ++ a ++ r ++ s)) (unless_field item.interface (codes "from-feed") item.from_feed)
+    ∙ ap front (six_joined (attr_of (codes "from-feed") (unless item.interface item.from_feed)) p l a r s)
 
 abbrev item_here : Selection → Forest → ℕ → Elem
 item_here item f p = here_is (codes "selection") (fields (item_fields item)) f p
@@ -242,14 +266,36 @@ item_inside item r s =
     inside_of item (elements r.inside)
     (same_inside (codes "selection") (selection_attrs item) (digests_elems item.digests ++ map binding_elem item.bindings ++ map dep_elem item.deps ++ map command_elem item.commands) r s)
 
-abbrev item_by : Option (List ℕ) → Option (List ℕ) → Option (List ℕ) → Option (List ℕ) → Option (List ℕ) → Option (List ℕ) → Option (List ℕ) → Option (List ℕ) → List DigestName → List Dep
-    → List Command → List Binding → Selection
-item_by i d v ff l a r s gs ds cs bs = record {
+abbrev names_package : Option (List ℕ) → Bool
+names_package o = not (is_none (unwrap_or o []))
+
+abbrev package_by : Option (List ℕ) → Option (List ℕ)
+package_by o = if names_package o then o else None
+
+abbrev local_by : Option (List ℕ) → Option (List ℕ) → Option (List ℕ)
+local_by o l = if names_package o then None else l
+
+named_so : (o : Option (List ℕ)) → IsPackage o → names_package o ≡ is_some o
+named_so None h = refl
+named_so (Some name) h = ap not h
+
+package_back : (o : Option (List ℕ)) → IsPackage o → package_by o ≡ o
+package_back None h = refl
+package_back (Some name) h = ap (λ b. if not b then Some name else None) h
+
+local_back : (o l : Option (List ℕ)) → IsPackage o → HasPath o l → local_by o l ≡ l
+local_back None l h k = refl
+local_back (Some name) l h k = ap (λ b. if not b then None else l) h ∙ sym k
+
+abbrev item_by : Option (List ℕ) → Option (List ℕ) → Option (List ℕ) → Option (List ℕ) → Option (List ℕ) → Option (List ℕ) → Option (List ℕ) → Option (List ℕ) → Option (List ℕ) → List DigestName
+    → List Dep → List Command → List Binding → Selection
+item_by i d v ff pk l a r s gs ds cs bs = record {
   interface = unwrap_or i [];
   id = unwrap_or d [];
   version = unwrap_or v [];
   from_feed = unwrap_or ff (unwrap_or i []);
-  local = l;
+  «package» = package_by pk;
+  local = local_by pk l;
   arch = a;
   released = r;
   stability = s;
@@ -261,7 +307,7 @@ item_by i d v ff l a r s gs ds cs bs = record {
 
 item_means : (item : Selection) (f : Forest) (p : ℕ)
     → selection_of (item_here item f p) ≡ item_by (attribute (codes "interface") (item_here item f p)) (attribute (codes "id") (item_here item f p)) (attribute (codes "version") (item_here item f p))
-    (attribute (codes "from-feed") (item_here item f p)) (attribute (codes "local-path") (item_here item f p)) (attribute (codes "arch") (item_here item f p))
+    (attribute (codes "from-feed") (item_here item f p)) (attribute (codes "package") (item_here item f p)) (attribute (codes "local-path") (item_here item f p)) (attribute (codes "arch") (item_here item f p))
     (attribute (codes "released") (item_here item f p)) (attribute (codes "stability") (item_here item f p)) (in_order_of_use (said_in (item_here item f p)))
     (map (dep_of AsWritten) (counting (codes "requires") (item_here item f p))) (map (command_of AsWritten) (counting (codes "command") (item_here item f p))) (map binding_of (bindings_in (item_here item f p)))
 unfolding selection_of
@@ -273,15 +319,39 @@ item_id item f p = looked (codes "id") (item_fields item) refl
 commands_back : (cs : List Command) (rs : List Elem) → Each IsProperCommand cs → AreSame (map command_elem cs) rs → map (command_of AsWritten) rs ≡ cs
 commands_back cs rs h s = values_back command_elem (command_of AsWritten) IsProperCommand command_back cs rs h s
 
+item_packaged : (item : Selection) (f : Forest) (p : ℕ) → IsPackage item.«package» → is_package (item_here item f p) ≡ is_some item.«package»
+item_packaged item f p h = ap names_package (looked (codes "package") (item_fields item) refl) ∙ named_so item.«package» h
+
+-- the elements with digests that are read are those that stand in it
+item_digests : (item : Selection) (f : Forest) (p : ℕ) → IsProperItem item → (s : InsideOf item (elements f)) → digests_in (item_here item f p) ≡ s.digests
+unfolding digests_elems
+item_digests item f p h s =
+    let n = named_inside item (elements f) h s in
+    ap (λ (b : Bool). if b then [] else counting (codes "manifest-digest") (item_here item f p)) (item_packaged item f p h.named)
+    ∙ by item.«package» h.digests (ap (filter (counts_as (codes "manifest-digest"))) s.whole ∙ count_digests s.digests s.bindings s.deps s.commands n)
+  where
+    by : (o : Option (List ℕ)) → HasDigests o item.id item.digests → counting (codes "manifest-digest") (item_here item f p) ≡ s.digests
+        → (if is_some o then [] else counting (codes "manifest-digest") (item_here item f p)) ≡ s.digests
+    by None k found = found
+    by (Some name) k found = sym (none_same s.digests (subst (λ v. AreSame (digests_elems v) s.digests) k s.digests_same))
+
+-- and what they say with the id are the digests
+item_used : (item : Selection) (f : Forest) (p : ℕ) → IsProperItem item → InsideOf item (elements f) → in_order_of_use (said_in (item_here item f p)) ≡ item.digests
+unfolding digests_elems
+item_used item f p h s =
+    app (app (ap {B = Bool → Option (List ℕ) → List DigestName} (λ gs b d. in_order_of_use (flat_map said_digests gs ++ (if b then [] else optional (digest_of (unwrap_or d [])))))
+    (item_digests item f p h s)) (item_packaged item f p h.named)) (item_id item f p)
+    ∙ by item.«package» h.digests
+  where
+    by : (o : Option (List ℕ)) → HasDigests o item.id item.digests → in_order_of_use (flat_map said_digests s.digests ++ (if is_some o then [] else optional (digest_of item.id))) ≡ item.digests
+    by None k = ap (λ v. in_order_of_use (v ++ optional (digest_of item.id))) (digests_read item.id item.digests s.digests k s.digests_same).1 ∙ k.with_id
+    by (Some name) k =
+        ap (λ gs. in_order_of_use (flat_map said_digests gs ++ [])) (none_same s.digests (subst (λ v. AreSame (digests_elems v) s.digests) k s.digests_same)) ∙ sym k
+
 item_here_back : (item : Selection) (f : Forest) (p : ℕ) → IsProperItem item → InsideOf item (elements f) → selection_of (item_here item f p) ≡ item
 item_here_back item f p h s =
     let fs = item_fields item in
     let n = named_inside item (elements f) h s in
-    let read = digests_read item.id item.digests s.digests h.digests s.digests_same in
-    let digests : in_order_of_use (said_in (item_here item f p)) ≡ item.digests =
-    app (ap {B = Option (List ℕ) → List DigestName} (λ gs d. in_order_of_use (flat_map said_digests gs ++ optional (digest_of (unwrap_or d []))))
-    (ap (filter (counts_as (codes "manifest-digest"))) s.whole ∙ count_digests s.digests s.bindings s.deps s.commands n)) (item_id item f p)
-    ∙ (ap (λ v. in_order_of_use (v ++ optional (digest_of item.id))) read.1 ∙ h.digests.with_id) in
     let deps : map (dep_of AsWritten) (counting (codes "requires") (item_here item f p)) ≡ item.deps =
     ap (λ v. map (dep_of AsWritten) (filter (counts_as (codes "requires")) v)) s.whole ∙ (ap (map (dep_of AsWritten)) (count_deps s.digests s.bindings s.deps s.commands n) ∙ deps_back item.deps s.deps h.deps s.deps_same) in
     let commands : map (command_of AsWritten) (counting (codes "command") (item_here item f p)) ≡ item.commands =
@@ -290,9 +360,11 @@ item_here_back item f p h s =
     let bindings : map binding_of (bindings_in (item_here item f p)) ≡ item.bindings =
     ap (λ v. map binding_of (filter counts_as_binding v)) s.whole ∙ (ap (map binding_of) (count_bindings s.digests s.bindings s.deps s.commands n) ∙ bindings_back item.bindings s.bindings h.bindings s.bindings_same) in
     item_means item f p
-    ∙ (app (app (app (app (app (app (app (app (app (app (app (ap item_by (looked (codes "interface") fs refl)) (looked (codes "id") fs refl)) (looked (codes "version") fs refl)) (looked (codes "from-feed") fs refl))
-    (looked (codes "local-path") fs refl)) (looked (codes "arch") fs refl)) (looked (codes "released") fs refl)) (looked (codes "stability") fs refl)) digests) deps) commands) bindings
-    ∙ ap (λ v. record item { from_feed = v }) (unless_back item.interface item.from_feed))
+    ∙ (app (app (app (app (app (app (app (app (app (app (app (app (ap item_by (looked (codes "interface") fs refl)) (looked (codes "id") fs refl)) (looked (codes "version") fs refl)) (looked (codes "from-feed") fs refl))
+    (looked (codes "package") fs refl)) (looked (codes "local-path") fs refl)) (looked (codes "arch") fs refl)) (looked (codes "released") fs refl)) (looked (codes "stability") fs refl))
+    (item_used item f p h s)) deps) commands) bindings
+    ∙ app (app (ap {B = Option (List ℕ) → Option (List ℕ) → Selection} (λ v o l. record item { from_feed = v; «package» = o; local = l }) (unless_back item.interface item.from_feed))
+    (package_back item.«package» h.named)) (local_back item.«package» item.local h.named h.local))
 
 pub item_back : (item : Selection) (r : Elem) → IsProperItem item → IsSame (selection_elem item) r → selection_of r ≡ item
 item_back item r h s = ap selection_of (sym (item_same item r s)) ∙ item_here_back item r.inside r.place h (item_inside item r s)
@@ -314,7 +386,11 @@ item_kind item f p h =
     let fs = item_fields item in
     app (app (app (ap kind_by (ap (λ o. is_none (unwrap_or o [])) (looked (codes "id") fs refl) ∙ h.id))
     (ap (is_amiss is_version) (looked (codes "version") fs refl) ∙ ap not h.version)) (ap (λ o. not (is_some o)) (looked (codes "interface") fs refl)))
-    (ap (is_wrong is_local) (looked (codes "local-path") fs refl) ∙ h.local)
+    (app (ap {B = Option (List ℕ) → Bool} (λ b o. not b && is_wrong is_local o) (item_packaged item f p h.named)) (looked (codes "local-path") fs refl) ∙ by item.«package» item.local h.local)
+  where
+    by : (o l : Option (List ℕ)) → HasPath o l → (not (is_some o) && is_wrong is_local l) ≡ false
+    by None l k = k
+    by (Some name) l k = refl
 
 all_clear : (rs : List Elem) → Each (IsOf command_names) rs → filter (λ c. not (is_unclear c)) rs ≡ rs
 all_clear [] h = refl
@@ -340,12 +416,12 @@ item_parts item f p h s =
     let cs = s.commands in
     ap (faults_of part_fault)
     (app (app (app (ap all_four (ap (filter counts_as_binding) s.whole ∙ count_bindings gs bs ds cs n)) (ap (filter (counts_as (codes "requires"))) s.whole ∙ count_deps gs bs ds cs n))
-    (ap (filter (counts_as (codes "command"))) s.whole ∙ count_commands gs bs ds cs n)) (ap (filter (counts_as (codes "manifest-digest"))) s.whole ∙ count_digests gs bs ds cs n))
+    (ap (filter (counts_as (codes "command"))) s.whole ∙ count_commands gs bs ds cs n)) (item_digests item f p h s))
     ∙ clean_faults (bs ++ ds ++ cs ++ gs)
     (each_append IsClean (bs ++ ds ++ cs) gs
     (each_append IsClean (bs ++ ds) cs (each_append IsClean bs ds (bindings_clean item.bindings bs h.bindings s.bindings_same) (deps_clean item.deps ds h.deps s.deps_same))
     (each_read command_elem IsProperCommand IsClean command_clean item.commands cs h.commands s.commands_same))
-    (digests_clean gs (digests_read item.id item.digests gs h.digests s.digests_same).0))
+    (digests_clean gs (digest_elements item.«package» item.id item.digests gs h.digests s.digests_same)))
 
 abbrev fault_by : Elem → Bool → Option FeedKind → List Elem → List Fault → Option Fault
 fault_by e unclear kind seconds faults =

@@ -3,6 +3,7 @@ pub mod FieldLaws
 pub mod PlainLaws
 pub mod CleanLaws
 pub mod BindingLaws
+pub mod ShimLaws
 pub mod DepLaws
 pub mod WordLaws
 pub mod RunnerLaws
@@ -20,6 +21,7 @@ pub mod AlongLaws
 pub mod ApartLaws
 pub mod SpelledLaws
 pub mod FeedLaws
+pub mod NativeLaws
 pub mod EachLaws
 pub mod LoadedLaws
 pub mod SelectedLaws
@@ -27,3 +29,5 @@ pub mod MadeLaws
 pub mod UsedLaws
 pub mod ChosenLaws
 pub mod WholeLaws
+pub mod TreeLaws
+pub mod ReadRowLaws

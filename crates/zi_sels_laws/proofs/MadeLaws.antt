@@ -24,7 +24,7 @@ use Rattle.zi_sels_laws.proofs.AskedLaws.{IsMet}
 use Rattle.zi_sels_laws.proofs.FreeLaws.{each_filter, each_weak, each_map, each_true, sub_filter}
 use Rattle.zi_sels_laws.proofs.GivenLaws.{IsGivenDep, IsGivenRunner, IsGivenCommand}
 use Rattle.zi_sels_laws.proofs.ApartLaws.{filter_apart, map_apart, apart_names}
-use Rattle.zi_sels_laws.proofs.FeedLaws.{IsGiven}
+use Rattle.zi_sels_laws.proofs.FeedLaws.{IsGiven, IsReadable}
 
 -- Dependencies that are met.
 
@@ -40,7 +40,7 @@ plain_proper u s d h k = record {
   os = refl;
   wanted = refl;
   commands = h.commands;
-  bindings = h.bindings;
+  bindings = h.bindings (and_parts (asks d) (is_some (target u s d)) k).0;
 }
 
 met_proper : (u : List Interface) (s : Choice) (ds : List Dep) → Each IsGivenDep ds → Each IsProperDep (met u s ds)
@@ -77,11 +77,12 @@ all_used u s w i cs h =
 
 -- The whole of it.
 
-pub made_proper : (u : List Interface) (s : Choice) (w : Walk) (i : ℕ) (uri : List ℕ) (k : Candidate) → IsGiven k.imp → IsProperItem (selection_by u s w i uri k)
+pub made_proper : (u : List Interface) (s : Choice) (w : Walk) (i : ℕ) (uri : List ℕ) (k : Candidate) → IsGiven k.imp → IsReadable k.imp → IsProperItem (selection_by u s w i uri k)
 unfolding selection_by
-made_proper u s w i uri k h = record {
+made_proper u s w i uri k h readable = record {
   id = h.id;
-  version = h.version;
+  version = readable.version;
+  named = readable.named;
   local = h.local;
   digests = h.digests;
   deps = met_proper u s k.imp.deps h.deps;

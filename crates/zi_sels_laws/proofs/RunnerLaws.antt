@@ -10,8 +10,8 @@ use Rattle.zi_reading.specs.Ways.{AsWritten}
 use Rattle.zi_reading.specs.Words.{is_among, listed, repeated}
 use Rattle.zi_reading.specs.Reading.{is_part, is_unclear, parts, binding_names, meaning, read_in, those}
 use Rattle.zi_faults.specs.Said.{Said}
-use Rattle.zi_parts.specs.Values.{binding_of, bindings_of, word_of, args_of, runner_of, ranges_of}
-use Rattle.zi_faults.specs.Faults.{faults_with, kinds_at, is_bad_part, has_no_interface, has_fault, repeats_in, share}
+use Rattle.zi_parts.specs.Values.{dep_binding_of, dep_bindings_of, commands_by, word_of, args_of, runner_of, ranges_of}
+use Rattle.zi_faults.specs.Faults.{faults_with, kinds_at, is_bad_part, has_no_interface, has_fault, repeats_in, shims_in, share}
 use Rattle.zi_faults.specs.declared.fault.FeedKind.TheVariants.{BadAddress}
 use Rattle.zi_parts.specs.declared.types.Binding.{Binding}
 use Rattle.zi_parts.specs.declared.types.Word.{Word}
@@ -23,7 +23,8 @@ use Rattle.zi_sels_laws.proofs.LikeLaws.{same_inside, Each, each_append, Parted,
 use Rattle.zi_sels_laws.proofs.FieldLaws.{Field, field, fields, looked, app}
 use Rattle.zi_sels_laws.proofs.PlainLaws.{here_is, made_is, condition, IsPlain, IsOf, of_parts, of_those, free_clear, stood, plain_open, all_parts}
 use Rattle.zi_sels_laws.proofs.CleanLaws.{IsClean, clean_inside, tested_faults, quiet_where, never_wrong}
-use Rattle.zi_sels_laws.proofs.BindingLaws.{IsProperBinding, IsBinding, bindings_are, bindings_back, bindings_clean, bindings_among, no_runner, no_command, no_repeats, good_part}
+use Rattle.zi_sels_laws.proofs.BindingLaws.{IsBinding, bindings_among, no_runner, no_command, no_repeats, good_part}
+use Rattle.zi_sels_laws.proofs.ShimLaws.{shim_names, IsProperDepBinding, IsHarmless, dep_bindings_are, dep_bindings_back, dep_bindings_clean, dep_bindings_harmless, others_harmless, no_shims}
 use Rattle.zi_sels_laws.proofs.WordLaws.{IsProperWord, word_names, words_are, words_back, words_clean}
 
 -- a runner as it may be read of a selections document
@@ -32,8 +33,8 @@ pub record IsProperRunner (runner : Runner) : Type 0 where
   pub ranges : runner.dep.ranges ≡ []
   pub os : runner.dep.condition.os ≡ None
   pub wanted : runner.dep.condition.wanted ≡ None
-  pub commands : runner.dep.commands ≡ command_wanted runner ∷ []
-  pub bindings : Each IsProperBinding runner.dep.bindings
+  pub commands : runner.dep.commands ≡ commands_by (command_wanted runner ∷ []) runner.dep.bindings
+  pub bindings : Each IsProperDepBinding runner.dep.bindings
   pub words : Each IsProperWord runner.words
 
 -- Bindings and words, one behind the other.
@@ -57,6 +58,10 @@ words_no_runner = (refl, (refl, tt))
 pub words_no_command : Each (λ n. is_among (listed (codes "command")) n ≡ false) word_names
 unfolding is_among same injector
 words_no_command = (refl, (refl, tt))
+
+words_no_shim : Each (λ n. is_among shim_names n ≡ false) word_names
+unfolding is_among same injector
+words_no_shim = (refl, (refl, tt))
 
 bindings_stand : Each (λ n. stood (codes "runner") n ≡ true) binding_names
 unfolding is_among same read_in injector
@@ -85,7 +90,7 @@ runner_by i c bs ws = record {
     kind = Essential;
     ranges = [];
     condition = record { os = None; wanted = None };
-    commands = unwrap_or c (codes "run") ∷ [];
+    commands = commands_by (unwrap_or c (codes "run") ∷ []) bs;
     bindings = bs;
   };
   words = ws;
@@ -93,7 +98,7 @@ runner_by i c bs ws = record {
 
 runner_means : (i c : List ℕ) (f : Forest) (p : ℕ)
     → runner_of AsWritten (runner_here i c f p) ≡ runner_by (attribute (codes "interface") (runner_here i c f p)) (attribute (codes "command") (runner_here i c f p))
-    (bindings_of AsWritten (runner_here i c f p)) (args_of AsWritten (runner_here i c f p))
+    (dep_bindings_of AsWritten (runner_here i c f p)) (args_of AsWritten (runner_here i c f p))
 unfolding runner_of ranges_of
 runner_means i c f p = refl
 
@@ -125,12 +130,12 @@ runner_here_back : (r : Runner) (f : Forest) (p : ℕ) → IsProperRunner r → 
 runner_here_back r f p h s =
     let i = r.dep.interface in
     let c = command_wanted r in
-    let bs = bindings_are r.dep.bindings s.front h.bindings s.front_same in
+    let bs = dep_bindings_are r.dep.bindings s.front h.bindings s.front_same in
     let ws = words_are r.words s.back h.words s.back_same in
     let found = runner_parts i c f p s.front s.back s.whole bs ws in
-    let bindings : bindings_of AsWritten (runner_here i c f p) ≡ r.dep.bindings = ap (λ v. map binding_of (those binding_names v)) found
-    ∙ (ap (map binding_of) (two_those binding_names s.front s.back s.front [] (of_those binding_names binding_names true bindings_among s.front bs) (of_those word_names binding_names false words_no_bindings s.back ws) ∙ append-nil s.front)
-    ∙ bindings_back r.dep.bindings s.front h.bindings s.front_same) in
+    let bindings : dep_bindings_of AsWritten (runner_here i c f p) ≡ r.dep.bindings = ap (λ v. map dep_binding_of (those binding_names v)) found
+    ∙ (ap (map dep_binding_of) (two_those binding_names s.front s.back s.front [] (of_those binding_names binding_names true bindings_among s.front bs) (of_those word_names binding_names false words_no_bindings s.back ws) ∙ append-nil s.front)
+    ∙ dep_bindings_back r.dep.bindings s.front h.bindings s.front_same) in
     let args : args_of AsWritten (runner_here i c f p) ≡ r.words = ap (λ v. map (word_of AsWritten) (those word_names v)) found
     ∙ (ap (map (word_of AsWritten)) (two_those word_names s.front s.back [] s.back (of_those binding_names word_names false bindings_no_words s.front bs) (of_those word_names word_names true words_among s.back ws))
     ∙ words_back r.words s.back h.words s.back_same) in
@@ -140,7 +145,7 @@ runner_here_back r f p h s =
 
 runner_tested : (s : Said) (i c : List ℕ) (f : Forest) (p : ℕ)
     → faults_with AsWritten s (runner_here i c f p) ≡ tested_faults (runner_here i c f p) (is_unclear (runner_here i c f p)) false (is_bad_part (runner_here i c f p))
-    (has_no_interface (runner_here i c f p)) (has_fault AsWritten s BadAddress (runner_here i c f p)) (repeats_in AsWritten (runner_here i c f p))
+    (has_no_interface (runner_here i c f p)) (has_fault AsWritten s BadAddress (runner_here i c f p)) (repeats_in AsWritten (runner_here i c f p)) (shims_in AsWritten (runner_here i c f p))
 unfolding faults_with kinds_at same is_among injector
 runner_tested s i c f p = refl
 
@@ -161,15 +166,17 @@ runner_here_clean r f p h s =
     let i = r.dep.interface in
     let c = command_wanted r in
     let e = runner_here i c f p in
-    let bs = bindings_are r.dep.bindings s.front h.bindings s.front_same in
+    let bs = dep_bindings_are r.dep.bindings s.front h.bindings s.front_same in
     let ws = words_are r.words s.back h.words s.back_same in (
-      λ v. runner_tested v i c f p ∙ quiet_where e (is_unclear e) false (is_bad_part e) (has_no_interface e) (has_fault AsWritten v BadAddress e) (repeats_in AsWritten e)
+      λ v. runner_tested v i c f p ∙ quiet_where e (is_unclear e) false (is_bad_part e) (has_no_interface e) (has_fault AsWritten v BadAddress e) (repeats_in AsWritten e) (shims_in AsWritten e)
           (free_clear e (looked condition (runner_fields i c) refl)) refl (runner_good i c f p) (runner_named i c f p) (runner_addressed v i c f p)
           (no_repeats e (s.front ++ s.back) (runner_parts i c f p s.front s.back s.whole bs ws)
           (ap (repeated (λ a b. true)) (two_those (listed (codes "runner")) s.front s.back [] [] (of_those binding_names (listed (codes "runner")) false no_runner s.front bs) (of_those word_names (listed (codes "runner")) false words_no_runner s.back ws)))
-          (ap (repeated (share (codes "name"))) (two_those (listed (codes "command")) s.front s.back [] [] (of_those binding_names (listed (codes "command")) false no_command s.front bs) (of_those word_names (listed (codes "command")) false words_no_command s.back ws)))),
+          (ap (repeated (share (codes "name"))) (two_those (listed (codes "command")) s.front s.back [] [] (of_those binding_names (listed (codes "command")) false no_command s.front bs) (of_those word_names (listed (codes "command")) false words_no_command s.back ws))))
+          (no_shims e (s.front ++ s.back) (runner_parts i c f p s.front s.back s.whole bs ws)
+          (each_append IsHarmless s.front s.back (dep_bindings_harmless r.dep.bindings s.front h.bindings s.front_same) (others_harmless word_names words_no_shim s.back ws))),
       clean_inside (codes "runner") f (subst (Each IsClean) (sym s.whole)
-          (each_append IsClean s.front s.back (bindings_clean r.dep.bindings s.front h.bindings s.front_same) (words_clean r.words s.back h.words s.back_same))),
+          (each_append IsClean s.front s.back (dep_bindings_clean r.dep.bindings s.front h.bindings s.front_same) (words_clean r.words s.back h.words s.back_same))),
     )
 
 runner_same : (x : Runner) (r : Elem) → IsSame (runner_elem x) r → runner_at x r.inside r.place ≡ r

@@ -4,7 +4,7 @@ use Rattle.std.specs.Prelude.{not, filter, is_some, option_map, option_and_then,
 use Rattle.std.specs.Option.{option_or}
 use Rattle.std.specs.List.{find, filter_map, cons_option, flat_map, list_any}
 use Rattle.std.proofs.lemmas.List.Folds.{find-append}
-use Rattle.std.proofs.lemmas.Bool.{and_parts, not-false}
+use Rattle.std.proofs.lemmas.Bool.{and_parts, not-true, not-false}
 use Rattle.zi_elements.specs.Forest.{Elem, elements, attribute, has, lacks, value}
 use Rattle.zi_digest.specs.Name.{IsDigest}
 use Rattle.zi_digest.specs.declared.Algorithm.{Algorithm}
@@ -26,16 +26,16 @@ use Rattle.zi_faults.specs.declared.fault.Fault.{Fault}
 use Rattle.zi_faults.specs.declared.fault.FeedKind.TheVariants.{NoId, BadVersion, BadRange, BadPart, NoInterface, BadAddress}
 use Rattle.zi_parts.proofs.DigestLaws.{digest_is}
 use Rattle.zi_sels.specs.Written.{is_by}
-use Rattle.zi_sels.specs.Read.{counting, bindings_in, in_order_of_use, selection_of}
+use Rattle.zi_sels.specs.Read.{counting, bindings_in, is_package, digests_in, in_order_of_use, selection_of}
 use Rattle.zi_sels.specs.Notes.{faults_of}
-use Rattle.zi_sels.specs.Refused.{own_kind, parts_in, second_commands, selection_fault}
+use Rattle.zi_sels.specs.Refused.{has_bad_local, own_kind, parts_in, second_commands, selection_fault}
 use Rattle.zi_sels_laws.proofs.LikeLaws.{Each, each_append, each_both}
 use Rattle.zi_sels_laws.proofs.FieldLaws.{app}
 use Rattle.zi_sels_laws.proofs.BindingLaws.{IsProperBinding}
 use Rattle.zi_sels_laws.proofs.DepLaws.{IsProperDep}
 use Rattle.zi_sels_laws.proofs.CommandLaws.{IsProperCommand}
 use Rattle.zi_sels_laws.proofs.DigestsLaws.{AreProper, three, used_are, first_said}
-use Rattle.zi_sels_laws.proofs.ItemLaws.{IsProperItem, AreNamed, any_shares}
+use Rattle.zi_sels_laws.proofs.ItemLaws.{IsPackage, HasPath, HasDigests, IsProperItem, AreNamed, any_shares}
 use Rattle.zi_sels_laws.proofs.FreeLaws.{empty_optional, empty_option, each_filter, each_weak, each_map, each_front, each_true, IsRight, part_right, right_part, right_clear}
 use Rattle.zi_sels_laws.proofs.SoundLaws.{is_name, is_of_name, second_cause, binding_sound, dep_sound, command_sound}
 use Rattle.zi_feed.specs.IdLaws.{least_none, both_empty, map_nil}
@@ -273,11 +273,11 @@ pub record HasOwn (e : Elem) : Type 0 where
   pub id : is_none (value (codes "id") e) ≡ false
   pub version : is_version (value (codes "version") e) ≡ true
   pub interface : has (codes "interface") e ≡ true
-  pub local : is_wrong is_local (attribute (codes "local-path") e) ≡ false
+  pub local : has_bad_local e ≡ false
 
 own_right : (e : Elem) → own_kind e ≡ None → HasOwn e
 unfolding own_kind
-own_right e h = by (is_none (value (codes "id") e)) (is_amiss is_version (attribute (codes "version") e)) (lacks (codes "interface") e) (is_wrong is_local (attribute (codes "local-path") e)) refl refl refl refl h
+own_right e h = by (is_none (value (codes "id") e)) (is_amiss is_version (attribute (codes "version") e)) (lacks (codes "interface") e) (has_bad_local e) refl refl refl refl h
   where
     there : (o : Option (List ℕ)) → is_amiss is_version o ≡ false → is_version (unwrap_or o []) ≡ true
     there None k = absurd (cc k)
@@ -287,7 +287,7 @@ own_right e h = by (is_none (value (codes "id") e)) (is_amiss is_version (attrib
     has_it true q = refl
     has_it false q = absurd (cc q)
 
-    by : (a b c d : Bool) → is_none (value (codes "id") e) ≡ a → is_amiss is_version (attribute (codes "version") e) ≡ b → lacks (codes "interface") e ≡ c → is_wrong is_local (attribute (codes "local-path") e) ≡ d
+    by : (a b c d : Bool) → is_none (value (codes "id") e) ≡ a → is_amiss is_version (attribute (codes "version") e) ≡ b → lacks (codes "interface") e ≡ c → has_bad_local e ≡ d
         → (if a then Some NoId else if b then Some BadVersion else if c then Some NoInterface else if d then Some BadAddress else None) ≡ None → HasOwn e
     by false false false false p q r s k = record { id = p; version = there (attribute (codes "version") e) q; interface = has_it (has (codes "interface") e) r; local = s }
     by true b c d p q r s k = absurd (cc k)
@@ -313,7 +313,7 @@ selection_sound e h =
     let b = both_empty (kinds ++ seconds) faults all in
     let c = both_empty kinds seconds b.0 in
     let right = each_right (parts_in e) b.1 in
-    let p3 = each_front (IsRight AsWritten) (bindings_in e ++ counting (codes "requires") e ++ counting (codes "command") e) (counting (codes "manifest-digest") e) right in
+    let p3 = each_front (IsRight AsWritten) (bindings_in e ++ counting (codes "requires") e ++ counting (codes "command") e) (digests_in e) right in
     let p2 = each_front (IsRight AsWritten) (bindings_in e ++ counting (codes "requires") e) (counting (codes "command") e) p3.0 in
     let p1 = each_front (IsRight AsWritten) (bindings_in e) (counting (codes "requires") e) p2.0 in record {
       own = own_right e (empty_optional (fault_at e) (own_kind e) c.0);
@@ -327,15 +327,33 @@ selection_sound e h =
     clear true o k = absurd (cc k)
     clear false o k = k
 
+-- the package that is read, with the folder and the digests, of which it has none
+said_package : (b : Bool) (o : Option (List ℕ)) → not (is_none (unwrap_or o [])) ≡ b → IsPackage (if b then o else None)
+said_package false o h = tt
+said_package true None h = absurd (cc h)
+said_package true (Some name) h = not-true (is_none name) h
+
+said_path : (b : Bool) (o l : Option (List ℕ)) → not (is_none (unwrap_or o [])) ≡ b → (not b && is_wrong is_local l) ≡ false → HasPath (if b then o else None) (if b then None else l)
+said_path false o l h k = k
+said_path true None l h k = absurd (cc h)
+said_path true (Some name) l h k = refl
+
+said_used : (b : Bool) (o : Option (List ℕ)) (id : List ℕ) (es : List Elem) → not (is_none (unwrap_or o [])) ≡ b
+    → HasDigests (if b then o else None) id (in_order_of_use (flat_map said_digests (if b then [] else es) ++ (if b then [] else optional (digest_of id))))
+said_used false o id es h = proper_digests id (flat_map said_digests es) (all_digests es)
+said_used true None id es h = absurd (cc h)
+said_used true (Some name) id es h = refl
+
 pub item_proper : (e : Elem) → IsSound e → IsProperItem (selection_of e)
 unfolding selection_of
 item_proper e h = record {
   id = h.own.id;
   version = h.own.version;
-  local = h.own.local;
-  digests = proper_digests (value (codes "id") e) (flat_map said_digests (counting (codes "manifest-digest") e)) (all_digests (counting (codes "manifest-digest") e));
+  named = said_package (is_package e) (attribute (codes "package") e) refl;
+  local = said_path (is_package e) (attribute (codes "package") e) (attribute (codes "local-path") e) refl h.own.local;
+  digests = said_used (is_package e) (attribute (codes "package") e) (value (codes "id") e) (counting (codes "manifest-digest") e) refl;
   deps = each_map IsProperDep (dep_of AsWritten) (counting (codes "requires") e)
-      (each_weak (IsCounted (codes "requires")) (λ c. IsProperDep (dep_of AsWritten c)) (λ c k. dep_sound c k.right k.named) (counting (codes "requires") e) h.deps);
+      (each_weak (IsCounted (codes "requires")) (λ c. IsProperDep (dep_of AsWritten c)) (λ c k. dep_sound c k.right k.ours k.named) (counting (codes "requires") e) h.deps);
   commands = each_map IsProperCommand (command_of AsWritten) (counting (codes "command") e)
       (each_weak (IsCounted (codes "command")) (λ c. IsProperCommand (command_of AsWritten c)) (λ c k. command_sound c k.right k.named) (counting (codes "command") e) h.commands);
   apart = names_apart [] [] (map (λ c. c.name) (map (command_of AsWritten) (counting (codes "command") e))) (counting (codes "command") e) tt (read_named (counting (codes "command") e) h.commands)

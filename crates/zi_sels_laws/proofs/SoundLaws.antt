@@ -2,28 +2,30 @@
 use Rattle.std.proofs.Common.{◌≡◌, ℕ, Bool, true, false, ◌&&◌, ◌||◌, ◌==◌, List, [], ◌∷◌, map, Option, Some, None, codes, refl, sym, ap, subst, ◌∙◌}
 use Rattle.std.specs.Prelude.{not, is_some, option_and_then, unwrap_or, if◌then◌else◌}
 use Rattle.std.specs.List.{list_any}
-use Rattle.std.proofs.lemmas.Bool.{and_parts, or_parts}
+use Rattle.std.proofs.lemmas.Bool.{and_parts, or_parts, or_right}
 use Rattle.zi_elements.specs.Forest.{Elem, attribute, lacks, value, text_in}
 use Rattle.zi_elements.specs.Namespace.{injector}
 use Rattle.zi_address.specs.Texts.{same, is_none}
 use Rattle.zi_reading.specs.Words.{is_among, listed, is_wrong}
-use Rattle.zi_parts.specs.Values.{mode_of, importance_of, binding_of, bindings_of, dep_of, deps_of, ranges_of, extra_of, word_of, args_of, runner_of, command_of}
+use Rattle.zi_parts.specs.Values.{mode_of, importance_of, binding_of, bindings_of, command_named, dep_binding_of, dep_bindings_of, commands_by, dep_of, deps_of, ranges_of, extra_of, word_of, args_of, runner_of, command_of}
 use Rattle.zi_reading.specs.Ways.{Ways, AsWritten}
 use Rattle.zi_reading.specs.Reading.{is, is_ours, parts, binding_names, those}
-use Rattle.zi_faults.specs.Faults.{is_bad_part, is_bad_environment, is_bad_for_each}
-use Rattle.zi_parts.specs.declared.types.Binding.TheVariants.{Env, Unbuilt}
+use Rattle.zi_faults.specs.Faults.{is_bad_part, is_bad_environment, is_bad_for_each, is_no_program, is_bad_shim, takes_shims}
+use Rattle.zi_parts.specs.declared.types.Binding.TheVariants.{Env, ExecVar, ExecPath, Unbuilt}
 use Rattle.zi_parts.specs.declared.types.Mode.TheVariants.{Prepend}
 use Rattle.zi_parts.specs.declared.types.Word.TheVariants.{Arg, ForEach}
 use Rattle.zi_parts.specs.declared.types.DepKind.TheVariants.{Essential, Recommended, Restricts}
 use Rattle.zi_reading.proofs.TextLaws.{same_text, same_refl}
-use Rattle.zi_sels_laws.proofs.LikeLaws.{Each}
+use Rattle.zi_sels.specs.Written.{command_wanted}
+use Rattle.zi_sels_laws.proofs.LikeLaws.{Each, each_both}
 use Rattle.zi_sels_laws.proofs.FieldLaws.{app}
 use Rattle.zi_sels_laws.proofs.BindingLaws.{IsProperBinding, other_names}
+use Rattle.zi_sels_laws.proofs.ShimLaws.{shim_names, unbuilt_names, IsProperDepBinding, IsHarmless, shims_harmless, first_asked}
 use Rattle.zi_sels_laws.proofs.DepLaws.{IsProperDep, IsAsked}
 use Rattle.zi_sels_laws.proofs.WordLaws.{IsProperWord, word_names}
 use Rattle.zi_sels_laws.proofs.RunnerLaws.{IsProperRunner}
 use Rattle.zi_sels_laws.proofs.CommandLaws.{IsProperCommand, IsDir, dir_names, runner_names}
-use Rattle.zi_sels_laws.proofs.FreeLaws.{each_filter, each_weak, each_map, each_first, IsRight, IsChild, right_part, right_parts, child_ours, child_own}
+use Rattle.zi_sels_laws.proofs.FreeLaws.{each_filter, each_weak, each_map, each_first, IsRight, IsChild, right_sound, right_part, right_parts, child_ours, child_own}
 
 -- Names.
 
@@ -103,6 +105,56 @@ bindings_sound ways e h =
     (λ c k. binding_sound c (child_ours ways e.name c k.0) (right_part ways c k.0.right) k.1) (those binding_names (parts ways e))
     (each_filter (IsChild ways e.name) (λ c. is_among binding_names c.name) (parts ways e) (right_parts ways e h)))
 
+-- Those of a dependency.
+
+unbuilt_name : (n : List ℕ) → is_among binding_names n ≡ true → same n (codes "environment") ≡ false → same n (codes "executable-in-var") ≡ false → same n (codes "executable-in-path") ≡ false
+    → is_among unbuilt_names n ≡ true
+unfolding is_among
+unbuilt_name n h e v p =
+    sym (ap (λ b. b || is_among unbuilt_names n) p)
+    ∙ (sym (ap (λ b. b || (same n (codes "executable-in-path") || is_among unbuilt_names n)) v)
+    ∙ (sym (ap (λ b. b || (same n (codes "executable-in-var") || (same n (codes "executable-in-path") || is_among unbuilt_names n))) e) ∙ h))
+
+var_named : (c : Elem) → c.name ≡ codes "executable-in-var" → is_among shim_names c.name ≡ true
+unfolding is_among same injector
+var_named c h = ap (is_among shim_names) h
+
+path_named : (c : Elem) → c.name ≡ codes "executable-in-path" → is_among shim_names c.name ≡ true
+unfolding is_among same injector
+path_named c h = ap (is_among shim_names) h
+
+right_name : (c : Elem) → is_among shim_names c.name ≡ true → IsHarmless c → is_no_program (value (codes "name") c) ≡ false
+unfolding is_bad_shim
+right_name c h k = sym (ap (λ b. b && is_bad_shim c) h) ∙ k
+
+dep_binding_sound : (c : Elem) → is_ours c ≡ true → is_bad_part c ≡ false → IsHarmless c → is_among binding_names c.name ≡ true → IsProperDepBinding (dep_binding_of c)
+unfolding dep_binding_of binding_of
+dep_binding_sound c ours good harmless known = either (is (codes "executable-in-var") c) (is (codes "executable-in-path") c) (is (codes "environment") c) refl refl refl
+  where
+    either : (v p b : Bool) → is (codes "executable-in-var") c ≡ v → is (codes "executable-in-path") c ≡ p → is (codes "environment") c ≡ b
+        → IsProperDepBinding (if v then ExecVar (value (codes "name") c) (command_named c) else if p then ExecPath (value (codes "name") c) (command_named c)
+        else if b then Env (value (codes "name") c) (extra_of c) (unwrap_or (option_and_then mode_of (attribute (codes "mode") c)) Prepend)
+        (unwrap_or (attribute (codes "separator") c) (codes ":")) (attribute (codes "default") c) else Unbuilt c.name)
+    either true p b hv hp hb = right_name c (var_named c (is_name (codes "executable-in-var") c hv).1) harmless
+    either false true b hv hp hb = right_name c (path_named c (is_name (codes "executable-in-path") c hp).1) harmless
+    either false false true hv hp hb = named_well c hb good
+    either false false false hv hp hb =
+        unbuilt_name c.name known (is_not_name (codes "environment") c ours hb) (is_not_name (codes "executable-in-var") c ours hv) (is_not_name (codes "executable-in-path") c ours hp)
+
+pub dep_bindings_sound : (ways : Ways) (e : Elem) → IsRight ways e → takes_shims e ≡ true → Each IsProperDepBinding (dep_bindings_of ways e)
+dep_bindings_sound ways e h asked =
+    let both = each_both (IsChild ways e.name) IsHarmless (parts ways e) (right_parts ways e h) (shims_harmless ways e asked (right_sound ways e h).shims) in
+    each_map IsProperDepBinding dep_binding_of (those binding_names (parts ways e))
+    (each_weak (λ c. (IsChild ways e.name c × IsHarmless c) × (is_among binding_names c.name ≡ true)) (λ c. IsProperDepBinding (dep_binding_of c))
+    (λ c k. dep_binding_sound c (child_ours ways e.name c k.0.0) (right_part ways c k.0.0.right) k.0.1 k.1) (those binding_names (parts ways e))
+    (each_filter (λ c. IsChild ways e.name c × IsHarmless c) (λ c. is_among binding_names c.name) (parts ways e) both))
+
+pub is_dependency : (e : Elem) → is (codes "requires") e ≡ true → takes_shims e ≡ true
+is_dependency e h = ap (λ b. b || is (codes "runner") e) h
+
+pub is_run_by : (e : Elem) → is (codes "runner") e ≡ true → takes_shims e ≡ true
+is_run_by e h = or_right (is (codes "requires") e) (is (codes "runner") e) h
+
 -- Dependencies.
 
 asked : (o : Option (List ℕ)) → IsAsked (unwrap_or (option_and_then importance_of o) Essential)
@@ -119,16 +171,16 @@ pub not_restricts : same (codes "requires") (codes "restricts") ≡ false
 unfolding same injector
 not_restricts = refl
 
-pub dep_sound : (c : Elem) → IsRight AsWritten c → c.name ≡ codes "requires" → IsProperDep (dep_of AsWritten c)
+pub dep_sound : (c : Elem) → IsRight AsWritten c → is_ours c ≡ true → c.name ≡ codes "requires" → IsProperDep (dep_of AsWritten c)
 unfolding dep_of ranges_of
-dep_sound c h name = record {
+dep_sound c h ours name = record {
   kind = subst IsAsked (sym (ap (λ b. if b then Restricts else unwrap_or (option_and_then importance_of (attribute (codes "importance") c)) Essential) (ends (is_ours c) (same c.name (codes "restricts")) (ap (λ n. same n (codes "restricts")) name ∙ not_restricts))))
       (asked (attribute (codes "importance") c));
   ranges = refl;
   os = refl;
   wanted = refl;
   commands = refl;
-  bindings = bindings_sound AsWritten c h;
+  bindings = dep_bindings_sound AsWritten c h (is_dependency c (is_of_name (codes "requires") c ours name));
 }
   where
     ends : (a b : Bool) → b ≡ false → (a && b) ≡ false
@@ -177,15 +229,24 @@ words_sound ways e h =
 
 -- Runners.
 
-pub runner_sound : (c : Elem) → IsRight AsWritten c → c.name ≡ codes "runner" → IsProperRunner (runner_of AsWritten c)
+-- the command of its own is the first one that is asked for
+pub own_wanted : (ways : Ways) (c : Elem) → command_wanted (runner_of ways c) ≡ command_named c
+unfolding runner_of
+own_wanted ways c = ap (λ o. unwrap_or o (codes "run")) (first_asked (command_named c) (dep_bindings_of ways c))
+
+pub runner_asks : (ways : Ways) (c : Elem) → (runner_of ways c).dep.commands ≡ commands_by (command_wanted (runner_of ways c) ∷ []) (runner_of ways c).dep.bindings
+unfolding runner_of
+runner_asks ways c = ap (λ (n : List ℕ). commands_by (n ∷ []) (dep_bindings_of ways c)) (sym (own_wanted ways c))
+
+pub runner_sound : (c : Elem) → IsRight AsWritten c → is_ours c ≡ true → c.name ≡ codes "runner" → IsProperRunner (runner_of AsWritten c)
 unfolding runner_of ranges_of
-runner_sound c h name = record {
+runner_sound c h ours name = record {
   kind = refl;
   ranges = refl;
   os = refl;
   wanted = refl;
-  commands = refl;
-  bindings = bindings_sound AsWritten c h;
+  commands = runner_asks AsWritten c;
+  bindings = dep_bindings_sound AsWritten c h (is_run_by c (is_of_name (codes "runner") c ours name));
   words = words_sound AsWritten c h;
 }
 
@@ -211,7 +272,7 @@ pub deps_sound : (e : Elem) → IsRight AsWritten e → Each IsProperDep (deps_o
 deps_sound e h =
     each_map IsProperDep (dep_of AsWritten) (those asked_names (parts AsWritten e))
     (each_weak (λ c. IsChild AsWritten e.name c × (is_among asked_names c.name ≡ true)) (λ c. IsProperDep (dep_of AsWritten c))
-    (λ c k. dep_sound c k.0.right (dep_child e.name c k.0 k.1)) (those asked_names (parts AsWritten e))
+    (λ c k. dep_sound c k.0.right (child_ours AsWritten e.name c k.0) (dep_child e.name c k.0 k.1)) (those asked_names (parts AsWritten e))
     (each_filter (IsChild AsWritten e.name) (λ c. is_among asked_names c.name) (parts AsWritten e) (right_parts AsWritten e h)))
 
 pub command_sound : (c : Elem) → IsRight AsWritten c → c.name ≡ codes "command" → IsProperCommand (command_of AsWritten c)
@@ -220,7 +281,7 @@ command_sound c h name =
     let all = right_parts AsWritten c h in record {
       words = words_sound AsWritten c h;
       runner = each_first IsProperRunner (runner_of AsWritten) (those runner_names (parts AsWritten c))
-          (each_weak (λ r. IsChild AsWritten c.name r × (is_among runner_names r.name ≡ true)) (λ r. IsProperRunner (runner_of AsWritten r)) (λ r k. runner_sound r k.0.right (only_name r.name (codes "runner") k.1))
+          (each_weak (λ r. IsChild AsWritten c.name r × (is_among runner_names r.name ≡ true)) (λ r. IsProperRunner (runner_of AsWritten r)) (λ r k. runner_sound r k.0.right (child_ours AsWritten c.name r k.0) (only_name r.name (codes "runner") k.1))
           (those runner_names (parts AsWritten c)) (each_filter (IsChild AsWritten c.name) (λ r. is_among runner_names r.name) (parts AsWritten c) all));
       deps = deps_sound c h;
       bindings = bindings_sound AsWritten c h;

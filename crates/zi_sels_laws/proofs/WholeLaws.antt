@@ -34,7 +34,7 @@ use Rattle.zi_sels.specs.Written.{command_wanted}
 use Rattle.zi_sels_laws.specs.Whole.{IsNamed, HasCommand, RunnerIsThere, CanBeRun, AreWhole}
 use Rattle.zi_sels_laws.proofs.LikeLaws.{Each, each_both}
 use Rattle.zi_sels_laws.proofs.FreeLaws.{each_filter, each_weak, each_map, each_front}
-use Rattle.zi_sels_laws.proofs.GivenLaws.{IsGivenRunner, IsGivenCommand}
+use Rattle.zi_sels_laws.proofs.GivenLaws.{IsGivenRunner, IsGivenCommand, runner_first}
 use Rattle.zi_sels_laws.proofs.ApartLaws.{AreOther, IsFound, each_found}
 use Rattle.zi_sels_laws.proofs.EachLaws.{all_each, each_all, each_permuted}
 use Rattle.zi_sels_laws.proofs.FeedLaws.{IsGiven}
@@ -95,6 +95,12 @@ leads_number u d j a n = ap (λ b. if b then number u d.interface else None) a �
 leads_last : (u : List Interface) (ds : List Dep) (d : Dep) (z : Item) → LeadsBy u d z → Leads u (ds ++ d ∷ []) z
 leads_last u [] d z h = inl h
 leads_last u (x ∷ ds) d z h = inr (leads_last u ds d z h)
+
+-- what holds of all names holds of one of them
+of_in : (P : List ℕ → Type 0) (name : List ℕ) (names : List (List ℕ)) → Each P names → In name names → P name
+of_in P name [] h k = absurd k
+of_in P name (n ∷ names) h (inl e) = subst P e h.0
+of_in P name (n ∷ names) h (inr k) = of_in P name names h.1 k
 
 -- what is chosen for an essential dependency, and where
 pub record IsChosenFor (u : List Interface) (s : Choice) (d : Dep) : Type 0 where
@@ -166,10 +172,10 @@ module _ (u : List Interface) (req : Requirement) (s : Choice) (sels : Selection
       let t = chosen_for u s r.dep g.kind last in
       let name = command_wanted r in
       let asked = asks_essential r.dep g.kind in
-      let named : All (λ n. Has t.candidate n) (name ∷ []) = subst (λ ns. All (λ n. Has t.candidate n) ns) g.commands (t.suits.commands asked) in
-      let m = some_of (command_of t.candidate name) (all_each (λ n. Has t.candidate n) (name ∷ []) named).0 in
+      let asks_it : In name r.dep.commands = runner_first r g in
+      let m = some_of (command_of t.candidate name) (of_in (λ n. Has t.candidate n) name r.dep.commands (all_each (λ n. Has t.candidate n) r.dep.commands (t.suits.commands asked)) asks_it) in
       let there : command_at u s t.place name ≡ Some m.0 = ap (λ o. option_and_then (λ (y : Candidate). command_of y name) o) t.picked ∙ m.1 in
-      let led : LeadsBy u r.dep (Need t.place name) = (t.place, leads_number u r.dep t.place asked t.at, (refl, subst (λ ns. In name ns) (sym g.commands) (inl refl))) in
+      let led : LeadsBy u r.dep (Need t.place name) = (t.place, leads_number u r.dep t.place asked t.at, (refl, asks_it)) in
       let from_runner : Leads u (needs_of c) (Need t.place name) = subst (λ o. Leads u (with_runner c.deps o) (Need t.place name)) (sym e) (leads_last u c.deps r.dep (Need t.place name) led) in
       let from_command : Leads u (deps_after (command_at u s i c.name)) (Need t.place name) = subst (λ o. Leads u (deps_after o) (Need t.place name)) (sym is_it) from_runner in
       let comes = closed u req s are.walk are.walks (Need i c.name) (Need t.place name) used from_command (m.0, there) in

@@ -12,7 +12,7 @@ use Rattle.zi_reading.specs.Words.{is_among, listed, is_wrong, repeated}
 use Rattle.zi_reading.specs.Reading.{is_unclear, parts, read_in}
 use Rattle.zi_faults.specs.Said.{Said}
 use Rattle.zi_parts.specs.Values.{word_of}
-use Rattle.zi_faults.specs.Faults.{faults_with, kinds_at, is_bad_part, repeats_in, share}
+use Rattle.zi_faults.specs.Faults.{faults_with, kinds_at, is_bad_part, repeats_in, shims_in, share}
 use Rattle.zi_parts.specs.declared.types.Word.{Word}
 use Rattle.zi_parts.specs.declared.types.Word.TheVariants.{Arg, ForEach}
 use Rattle.zi_sels.specs.Written.{attr_of, attr_unless, text_node, arg_elem, word_elem}
@@ -69,15 +69,15 @@ arg_back : (text : List ℕ) (r : Elem) → IsSame (arg_elem text) r → word_of
 arg_back text r s = ap (word_of AsWritten) (sym (arg_same text r s)) ∙ (arg_means r.inside r.place ∙ ap Arg (arg_text text r s))
 
 arg_tested : (s : Said) (f : Forest) (p : ℕ)
-    → faults_with AsWritten s (here_is (codes "arg") [] f p) ≡ tested_faults (here_is (codes "arg") [] f p) false false false false false (repeats_in AsWritten (here_is (codes "arg") [] f p))
-unfolding faults_with kinds_at same is_among is_unclear injector
+    → faults_with AsWritten s (here_is (codes "arg") [] f p) ≡ tested_faults (here_is (codes "arg") [] f p) false false false false false (repeats_in AsWritten (here_is (codes "arg") [] f p)) []
+unfolding faults_with kinds_at shims_in same is_among is_unclear injector
 arg_tested s f p = refl
 
 arg_clean : (text : List ℕ) (r : Elem) → IsSame (arg_elem text) r → IsClean r
 arg_clean text r s =
     let e = here_is (codes "arg") [] r.inside r.place in
     subst IsClean (arg_same text r s) (
-      λ v. arg_tested v r.inside r.place ∙ quiet_where e false false false false false (repeats_in AsWritten e) refl refl refl refl refl (empty_repeats e (arg_empty text r s)),
+      λ v. arg_tested v r.inside r.place ∙ quiet_where e false false false false false (repeats_in AsWritten e) [] refl refl refl refl refl (empty_repeats e (arg_empty text r s)) refl,
       clean_inside (codes "arg") r.inside (subst (Each IsClean) (sym (arg_empty text r s)) tt),
     )
 
@@ -132,8 +132,8 @@ unfolding word_of same injector
 loop_means fs f p = refl
 
 loop_tested : (s : Said) (fs : List Field) (f : Forest) (p : ℕ)
-    → faults_with AsWritten s (loop_here fs f p) ≡ tested_faults (loop_here fs f p) (is_unclear (loop_here fs f p)) false (is_bad_part (loop_here fs f p)) false false (repeats_in AsWritten (loop_here fs f p))
-unfolding faults_with kinds_at same is_among injector
+    → faults_with AsWritten s (loop_here fs f p) ≡ tested_faults (loop_here fs f p) (is_unclear (loop_here fs f p)) false (is_bad_part (loop_here fs f p)) false false (repeats_in AsWritten (loop_here fs f p)) []
+unfolding faults_with kinds_at shims_in same is_among injector
 loop_tested s fs f p = refl
 
 stood_loop : Each (λ n. stood (codes "for-each") n ≡ true) arg_names
@@ -203,10 +203,11 @@ loop_here_clean item_from separator args f p h s =
     let fs = loop_fields item_from separator in
     let e = loop_here fs f p in
     let are = args_are args (elements f) s in (
-      λ v. loop_tested v fs f p ∙ quiet_where e (is_unclear e) false (is_bad_part e) false false (repeats_in AsWritten e)
+      λ v. loop_tested v fs f p ∙ quiet_where e (is_unclear e) false (is_bad_part e) false false (repeats_in AsWritten e) []
           (free_clear e (looked condition fs refl)) refl (loop_good item_from separator f p h) refl refl
           (no_repeats e (elements f) (loop_parts item_from separator f p are) (ap (repeated (λ a b. true)) (of_those arg_names (listed (codes "runner")) false arg_no_runner (elements f) are))
-          (ap (repeated (share (codes "name"))) (of_those arg_names (listed (codes "command")) false arg_no_command (elements f) are))),
+          (ap (repeated (share (codes "name"))) (of_those arg_names (listed (codes "command")) false arg_no_command (elements f) are)))
+          refl,
       clean_inside (codes "for-each") f (args_clean args (elements f) s),
     )
 

@@ -10,9 +10,10 @@ use Rattle.zi_parts.specs.declared.types.Dep.{Dep}
 use Rattle.zi_feed.specs.declared.shares.Shares.{Shares}
 use Rattle.zi_feed.specs.Shares.{Grows, deps_at}
 use Rattle.zi_feed.proofs.ShareLaws.{at_grown, at_new, grows_by}
+use Rattle.zi_rank.specs.declared.rating.VersionNumber.{VersionNumber}
 use Rattle.zi_universe.specs.declared.offers.Offered.{Offered}
 use Rattle.zi_universe.specs.declared.offers.Key.{Key}
-use Rattle.zi_universe.specs.Offering.{IsNumbered, version_at, langs_at, deps_of, HasLevel, found_at, StandsAt, FindsVersions, texts_of, versions_in, ArePlacedIn, AreNumbersOf}
+use Rattle.zi_universe.specs.Offering.{IsNumbered, version_at, langs_at, deps_of, HasLevel, found_at, StandsAt, FindsVersions, texts_of, versions_in, ArePlacedIn, AreNumbersOf, least}
 
 -- Keys that are alike are one.
 
@@ -31,17 +32,17 @@ one_value o x y e f = cc
 under : {X : Type 0} (feeds : List Shares) (n : ℕ) (s : Shares) (f : Shares → Option X) → slice_get feeds n ≡ Some s → option_and_then f (slice_get feeds n) ≡ f s
 under feeds n s f e = ap (option_and_then f) e
 
-pub version_there : (feeds : List Shares) (o : Offered) → IsNumbered feeds o → version_at feeds (record { feed = o.feed; number = o.numbers.version }) ≡ Some (Some o.candidate.standing.version)
-version_there feeds o h = under feeds o.feed h.shares (λ s. slice_get s.versions o.numbers.version) h.there ∙ h.fit.version
+pub version_there : (feeds : List Shares) (o : Offered) (n : ℕ) → IsNumbered feeds o → o.version ≡ Some n → version_at feeds (record { feed = o.feed; number = n }) ≡ Some (Some o.candidate.standing.version)
+version_there feeds o n h e = under feeds o.feed h.shares (λ s. slice_get s.versions n) h.there ∙ h.version n e
 
-pub langs_there : (feeds : List Shares) (o : Offered) → IsNumbered feeds o → langs_at feeds (record { feed = o.feed; number = o.numbers.langs }) ≡ Some o.candidate.standing.langs
-langs_there feeds o h = under feeds o.feed h.shares (λ s. slice_get s.langs o.numbers.langs) h.there ∙ h.fit.langs
+pub langs_there : (feeds : List Shares) (o : Offered) → IsNumbered feeds o → langs_at feeds (record { feed = o.feed; number = o.langs }) ≡ Some o.candidate.standing.langs
+langs_there feeds o h = under feeds o.feed h.shares (λ s. slice_get s.langs o.langs) h.there ∙ h.langs
 
 pub deps_there : (feeds : List Shares) (k : Key) (s : Shares) (ds : List Dep) → slice_get feeds k.feed ≡ Some s → deps_at s.levels k.number ≡ Some ds → deps_of feeds k ≡ Some ds
 deps_there feeds k s ds there at = under feeds k.feed s (λ q. deps_at q.levels k.number) there ∙ at
 
-pub level_there : (feeds : List Shares) (o : Offered) → IsNumbered feeds o → HasLevel feeds (record { feed = o.feed; number = o.numbers.level })
-level_there feeds o h = record { shares = h.shares; there = h.there; levels = h.levels; deps = o.candidate.imp.deps; at = h.fit.level }
+pub level_there : (feeds : List Shares) (o : Offered) → IsNumbered feeds o → HasLevel feeds (record { feed = o.feed; number = o.level })
+level_there feeds o h = record { shares = h.shares; there = h.there; levels = h.levels; deps = o.candidate.imp.deps; at = h.level }
 
 -- what is there is within the lists
 pub feed_within : {X : Type 0} (feeds : List Shares) (n : ℕ) (f : Shares → Option X) (x : X) → option_and_then f (slice_get feeds n) ≡ Some x → n < length feeds
@@ -87,6 +88,10 @@ stands_new feeds k vs ws v n at grown new w other =
 stands_grown : (feeds : List Shares) (k : Key) (vs ws : List (List ℕ)) (n : ℕ) → Grows vs ws → StandsAt feeds k vs n → StandsAt feeds k ws n
 stands_grown feeds k vs ws n g h v e = at_grown vs ws n v g (h v e)
 
+-- what is found stays where it is when more are put behind
+pub finds_grown : (feeds : List Shares) (known : List (Key × ℕ)) (vs ws : List (List ℕ)) → Grows vs ws → FindsVersions feeds known vs → FindsVersions feeds known ws
+finds_grown feeds known vs ws g h k n e = stands_grown feeds k vs ws n g (h k n e)
+
 pub versions_more : (feeds : List Shares) (k : Key) (old new : List (Key × ℕ)) (vs ws : List (List ℕ)) (v : List ℕ) (n : ℕ) → version_at feeds k ≡ Some (Some v) → ws ≡ vs ++ v ∷ [] → n ≡ length vs
     → ((q : Key) → found_at q new ≡ cond (eqb k.feed q.feed && eqb k.number q.number) (Some n) (found_at q old))
     → FindsVersions feeds old vs → FindsVersions feeds new ws × StandsAt feeds k ws n
@@ -109,7 +114,7 @@ places_count vs (o ∷ os) [] h = absurd h
 places_count vs (o ∷ os) (n ∷ ns) h = ap suc (places_count vs os ns h.1)
 
 -- the places of all are within the numbers
-pub all_within : (vs : List (List ℕ)) (ns : List ℕ) (os : List Offered) (places : List ℕ) → length ns ≡ length vs → ArePlacedIn vs os places → All (λ n. n < length ns) places
+pub all_within : (vs : List (List ℕ)) (ns : List VersionNumber) (os : List Offered) (places : List ℕ) → length ns ≡ length vs → ArePlacedIn vs os places → All (λ n. n < length ns) places
 all_within vs ns [] [] same h = All-nil (λ n. n < length ns)
 all_within vs ns [] (n ∷ places) same h = absurd h
 all_within vs ns (o ∷ os) [] same h = absurd h
@@ -117,8 +122,8 @@ all_within vs ns (o ∷ os) (n ∷ places) same h =
     All-cons (λ m. m < length ns) n places (let w : n < length vs = slice_get_within vs n o.candidate.standing.version h.0 in omega (arith, w, same)) (all_within vs ns os places same h.1)
 
 -- the place of a candidate, with the number there
-at_place : (vs : List (List ℕ)) (ns : List ℕ) (os : List Offered) (places : List ℕ) → ArePlacedIn vs os places → (i : ℕ) (v : List ℕ) → slice_get (versions_in os) i ≡ Some v
-    → (n : ℕ) × (slice_get vs n ≡ Some v) × (get_or (map (λ k. get_or ns k 0) places) i 0 ≡ get_or ns n 0)
+at_place : (vs : List (List ℕ)) (ns : List VersionNumber) (os : List Offered) (places : List ℕ) → ArePlacedIn vs os places → (i : ℕ) (v : List ℕ) → slice_get (versions_in os) i ≡ Some v
+    → (n : ℕ) × (slice_get vs n ≡ Some v) × (get_or (map (λ k. get_or ns k least) places) i least ≡ get_or ns n least)
 at_place vs ns [] [] h i v e = cc
 at_place vs ns [] (n ∷ places) h i v e = absurd h
 at_place vs ns (o ∷ os) [] h i v e = absurd h
@@ -126,15 +131,21 @@ at_place vs ns (o ∷ os) (n ∷ places) h zero v e = (n, h.0 ∙ e, refl)
 at_place vs ns (o ∷ os) (n ∷ places) h (suc i) v e = at_place vs ns os places h.1 i v e
 
 -- the numbers at the places of candidates are those of their versions
-pub numbers_placed : (vs : List (List ℕ)) (ns : List ℕ) (os : List Offered) (places ms : List ℕ) → AreNumbersOf vs ns → ArePlacedIn vs os places → ms ≡ map (λ k. get_or ns k 0) places → AreNumbersOf (versions_in os) ms
+pub numbers_placed : (vs : List (List ℕ)) (ns : List VersionNumber) (os : List Offered) (places : List ℕ) (ms : List VersionNumber) → AreNumbersOf vs ns → ArePlacedIn vs os places → ms ≡ map (λ k. get_or ns k least) places → AreNumbersOf (versions_in os) ms
 numbers_placed vs ns os places ms numbers h is =
-    let P : List ℕ → Type 0 = λ q. AreNumbersOf (versions_in os) q in
+    let P : List VersionNumber → Type 0 = λ q. AreNumbersOf (versions_in os) q in
     subst P (sym is) (record {
-      count = length-map places (λ k. get_or ns k 0) ∙ places_count vs os places h ∙ sym (length-map os (λ (o : Offered). o.candidate.standing.version));
-      alike = λ i j v w e f.
+      count = length-map places (λ k. get_or ns k least) ∙ places_count vs os places h ∙ sym (length-map os (λ (o : Offered). o.candidate.standing.version));
+      first = λ i j v w e f.
           let a = at_place vs ns os places h i v e in
           let b = at_place vs ns os places h j w f in
-          ap (λ q. nat_cmp q (get_or (map (λ k. get_or ns k 0) places) j 0)) a.2 ∙ ap (λ q. nat_cmp (get_or ns a.0 0) q) b.2 ∙ numbers.alike a.0 b.0 v w a.1 b.1;
+          ap (λ (q : VersionNumber). nat_cmp q.first (get_or (map (λ k. get_or ns k least) places) j least).first) a.2 ∙ ap (λ (q : VersionNumber). nat_cmp (get_or ns a.0 least).first q.first) b.2
+          ∙ numbers.first a.0 b.0 v w a.1 b.1;
+      whole = λ i j v w e f.
+          let a = at_place vs ns os places h i v e in
+          let b = at_place vs ns os places h j w f in
+          ap (λ (q : VersionNumber). nat_cmp q.whole (get_or (map (λ k. get_or ns k least) places) j least).whole) a.2 ∙ ap (λ (q : VersionNumber). nat_cmp (get_or ns a.0 least).whole q.whole) b.2
+          ∙ numbers.whole a.0 b.0 v w a.1 b.1;
     })
 
 -- one more that is lent

@@ -19,6 +19,7 @@ pub mod ExclusionLemmas
 pub mod PointLemmas
 pub mod RefusedOnceLemmas
 pub mod RankingLemmas
+pub mod RowLemmas
 pub mod SomeLemmas
 pub mod AskedLemmas
 pub mod StopsLemmas

@@ -1,5 +1,5 @@
 -- One interface more: its feeds offer these, and it is finished.
-use Rattle.std.proofs.Common.{Option, ◌≡◌, ◌+◌, ◌<◌, ◌≤◌, true, List, [], ◌∷◌, ◌++◌, length, map, get_or, All, Some, slice_get, refl, sym, ap, subst, ◌∙◌, arith, length-append}
+use Rattle.std.proofs.Common.{inr, Option, ◌≡◌, ◌+◌, ◌<◌, ◌≤◌, true, List, [], ◌∷◌, ◌++◌, length, map, get_or, All, Some, slice_get, refl, sym, ap, subst, ◌∙◌, arith, length-append}
 use Rattle.std.specs.Prelude.{Result, Ok, Err, MatchResult, OnOk, IsPermutation}
 use Rattle.std.proofs.lemmas.List.Sums.{sum_by_push}
 use Rattle.std.proofs.lemmas.Option.{slice_get_within, get_or_from_slice_get}
@@ -12,15 +12,17 @@ use Rattle.zi_universe.specs.declared.types.Candidate.{Candidate}
 use Rattle.zi_universe.specs.declared.types.Interface.{Interface}
 use Rattle.zi_universe.specs.declared.fault.LoadFault.{LoadFault}
 use Rattle.zi_universe.specs.declared.loading.Loading.{Loading}
+use Rattle.zi_universe.specs.declared.offers.Offers.{Offers}
+use Rattle.zi_universe.specs.Offering.{candidates_of}
 use Rattle.zi_universe.specs.Naming.{Uri, Uris, joined, all_of, AreApart}
 use Rattle.zi_universe.specs.Candidates.{Store, imports_of, admitted, AreCandidates, asked_by_all}
 use Rattle.zi_universe.specs.Whole.{candidates_in, most_interfaces, most_candidates}
 use Rattle.zi_outside.specs.Views.{Feeding}
 use Rattle.zi_universe.specs.declared.fault.LoadFault.TheVariants as fault
 use Rattle.zi_universe.specs.Loading.{Reading, Refuses, asked_until, CountsFault}
-use Rattle.zi_universe.specs.Asked.{GetsMore, StopsLoading}
-use Rattle.zi_universe.specs.Tables.{addresses, Agrees}
-use Rattle.zi_universe.specs.Stages.{Gathers, HasLoaded, IsAt, IsBegun, ArePlaced, IsSorting, Finishes, StopsFinishing, LoadsNext}
+use Rattle.zi_universe.specs.Asked.{GetsMore, LeavesGathering, LeavesLooking, StopsLoading}
+use Rattle.zi_universe.specs.Tables.{addresses, feeds_at, held, Agrees}
+use Rattle.zi_universe.specs.Stages.{HasListed, Gathers, StopsGathering, HasLoaded, IsAt, IsBegun, ArePlaced, IsSorting, Finishes, StopsFinishing, LoadsNext}
 use Rattle.zi_universe.proofs.NamingLemmas.{without_repeats_apart}
 use Rattle.zi_universe.proofs.TableLemmas.{addresses_agreed, held_agreed, reading_of, reading_agrees}
 use Rattle.zi_universe.proofs.LoadedLemmas.{loaded_none, here_listed, closed_now, loaded_more}
@@ -121,6 +123,33 @@ module _ (told : Option Holding) (req : Requirement) (p : Policy) (stored : Stor
       → OnOk r (GetsMore (addresses old.table) (addresses new.table) f g)
   next_gets (Ok x) new f g got h = let P : List Feed → Type 0 = λ q. GetsMore (addresses old.table) (addresses q) f g in subst P (sym h.table) got
   next_gets (Err e) new f g got h = tt
+
+-- What the feeds have is refused, before it is finished.
+module _ (told : Option Holding) (req : Requirement) (p : Policy) (stored : Store) (old : Loading) (uri : Uri) (a : IsAt told req p stored old)
+    (next : slice_get old.names.keys (length old.done) ≡ Some uri) where
+  too_many : (offered : List Candidate) (fs : List Feed) (e : LoadFault) → StopsGathering offered e → StopsFinishing p offered (record old { table = fs }) e
+  too_many offered fs (fault.FeedRead u) s = absurd s
+  too_many offered fs fault.NoRootFeed s = absurd s
+  too_many offered fs (fault.BadFeed u w) s = absurd s
+  too_many offered fs (fault.FeedTooLong u limit) s = absurd s
+  too_many offered fs (fault.TooManyInterfaces limit) s = absurd s
+  too_many offered fs (fault.TooManyCandidates limit) s = (s.0, let m = s.1 in omega (arith, m))
+  too_many offered fs (fault.TooManyFeeds limit) s = absurd s
+  too_many offered fs fault.Memory s = tt
+
+  pub stops_gathering : (f g : Feeding) (e : LoadFault) → LeavesGathering told req p stored uri old.table f e g → StopsLoading told req p stored (addresses old.table) f e g
+  stops_gathering f g e w = next_done told req p stored old uri a next w.offered w.fs w.gathers {X = Loading} (Err e) old f g w.got (too_many w.offered w.fs e w.stops)
+
+-- The feeds of an interface were found, and what they have was gathered.
+module _ (told : Option Holding) (req : Requirement) (p : Policy) (stored : Store) (uri : Uri) (start fs : List Feed) (here slice : Uris) (f g : Feeding) (same : slice ≡ here)
+    (listed_here : HasListed told req.interface p uri start here (length here) fs) (got : GetsMore (addresses start) (addresses fs) f g) where
+  gathers : (offered : List Candidate) → offered ≡ held req p stored uri (feeds_at fs slice) → Gathers told req p stored uri start offered fs
+  gathers offered e = record { here = here; feeds = listed_here; are = e ∙ ap (λ q. held req p stored uri (feeds_at fs q)) same }
+
+  pub looks : (r : Result Offers LoadFault) → MatchResult r (λ os. candidates_of os.offered.items ≡ held req p stored uri (feeds_at fs slice)) (StopsGathering (held req p stored uri (feeds_at fs slice)))
+      → MatchResult r (λ os. Gathers told req p stored uri start (candidates_of os.offered.items) fs) (λ e. LeavesLooking told req p stored uri start f e g)
+  looks (Ok os) h = gathers (candidates_of os.offered.items) h
+  looks (Err e) h = inr (record { offered = held req p stored uri (feeds_at fs slice); fs = fs; gathers = gathers (held req p stored uri (feeds_at fs slice)) refl; stops = h; got = got })
 
 -- At the start.
 pub at_begun : (told : Option Holding) (req : Requirement) (p : Policy) (stored : Store) (s : Loading) → IsBegun req.interface s → IsAt told req p stored s

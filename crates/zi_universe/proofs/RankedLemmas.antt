@@ -1,6 +1,6 @@
 -- Sorted candidates that stand at different places each stand before all behind them.
 use Rattle.std.proofs.Common.{◌≡◌, ◌≢◌, ◌⊎◌, inl, inr, ℕ, zero, suc, ◌+◌, ◌<◌, ◌≤◌, Bool, true, false, ◌&&◌, ◌||◌, eqb, cond, List, [], ◌∷◌, ◌++◌, map, filter, length, get_or, take, All, bytes_eq, refl, sym, ap, subst, ◌∙◌, arith}
-use Rattle.std.specs.Prelude.{IsPermutation, IsSortedBy, slice_get, Some}
+use Rattle.std.specs.Prelude.{IsPermutation, IsSortedBy, slice_get, Some, None}
 use Rattle.std.specs.Ordering.{is_lt}
 use Rattle.std.specs.List.{IsDistinct, AllByRecursion}
 use Rattle.std.specs.Option.{option_map}
@@ -16,6 +16,7 @@ use Rattle.zi_policy.specs.Platform.{listed}
 use Rattle.zi_rank.specs.Laws.{RanksAreStrict}
 use Rattle.zi_rank.specs.Rank.{rank_cmp}
 use Rattle.zi_rank.specs.declared.rating.Rating.{Rating}
+use Rattle.zi_rank.specs.declared.rating.VersionNumber.{VersionNumber}
 use Rattle.zi_rank.specs.declared.types.Standing.{Standing}
 use Rattle.zi_rank.specs.Ratings.{rating_of, Numbered, numbered_cmp}
 use Rattle.zi_rank.specs.RankOrder.{rank_total}
@@ -28,10 +29,10 @@ use Rattle.zi_universe.specs.declared.offers.Offered.{Offered}
 use Rattle.zi_universe.specs.declared.ranking.RatedCandidate.{RatedCandidate}
 use Rattle.zi_universe.specs.declared.types.Requirement.{Requirement}
 use Rattle.zi_universe.specs.Naming.{Uri, Uris, AreApart}
-use Rattle.zi_universe.specs.Candidates.{Store, standing_of, candidate_of, offered_from, is_admitted, admitted_by, admitted, AreRanked}
+use Rattle.zi_universe.specs.Candidates.{Store, standing_of, candidate_of, offered_from, all_impls, is_admitted, admitted_by, admitted, AreRanked}
 use Rattle.zi_universe.specs.Tables.{addresses}
 use Rattle.zi_universe.specs.Stages.{place_of, alike, ArePlaced, IsSorting}
-use Rattle.zi_universe.specs.Offering.{candidates_of, IsNumbered, AreNumbered, versions_in, AreNumbersOf, HaveRatings}
+use Rattle.zi_universe.specs.Offering.{candidates_of, IsNumbered, AreNumbered, versions_in, AreNumbersOf, HaveRatings, least}
 use Rattle.zi_universe.proofs.KeyLemmas.{All-into, All-out}
 use Rattle.zi_universe.proofs.NamingLemmas.{bytes_eq-true, bytes_eq-refl, bytes_eq-false, listed-cons, listed-Contains, map-append}
 
@@ -83,31 +84,31 @@ sorting : RanksAreStrict → (p : Policy) (cs ds : List Candidate) → IsPermuta
 sorting strict p cs ds same up = record { same = same; ranked = λ placed. ranked_pairs strict p ds up (placed_sorted cs ds same placed) }
 
 -- Candidates with their ratings, and with the numbers of their versions.
-record IsRated (p : Policy) (vs : List (List ℕ)) (ns : List ℕ) (r : RatedCandidate) : Type 0 where
+record IsRated (p : Policy) (vs : List (List ℕ)) (ns : List VersionNumber) (r : RatedCandidate) : Type 0 where
   rating : r.rating ≡ rating_of p r.one.candidate.standing
   place : ℕ
   version : slice_get vs place ≡ Some r.one.candidate.standing.version
-  number : r.number ≡ get_or ns place 0
+  number : r.number ≡ get_or ns place least
 
 -- rated are so many of them, of which these are the numbers
-pub record AreRated (p : Policy) (os : List Offered) (ns : List ℕ) (rs : List RatedCandidate) : Type 0 where
+pub record AreRated (p : Policy) (os : List Offered) (ns : List VersionNumber) (rs : List RatedCandidate) : Type 0 where
   pub same : map (λ (r : RatedCandidate). r.one) rs ≡ os
   pub numbers : map (λ (r : RatedCandidate). r.number) rs ≡ take (length os) ns
   pub ratings : HaveRatings p rs
 
-pub none_rated : (p : Policy) (ns : List ℕ) (rs : List RatedCandidate) → rs ≡ [] → AreRated p [] ns rs
+pub none_rated : (p : Policy) (ns : List VersionNumber) (rs : List RatedCandidate) → rs ≡ [] → AreRated p [] ns rs
 none_rated p ns rs e =
     let P : List RatedCandidate → Type 0 = λ q. AreRated p [] ns q in
     subst P (sym e) (record { same = refl; numbers = refl; ratings = λ k d lt. absurd (omega (arith, lt)) })
 
-pub one_rated : (p : Policy) (os : List Offered) (ns : List ℕ) (rs ss : List RatedCandidate) (r : RatedCandidate) → ss ≡ rs ++ r ∷ [] → length os < length ns
-    → r.rating ≡ rating_of p r.one.candidate.standing → r.number ≡ get_or ns (length os) 0 → AreRated p os ns rs → AreRated p (os ++ r.one ∷ []) ns ss
+pub one_rated : (p : Policy) (os : List Offered) (ns : List VersionNumber) (rs ss : List RatedCandidate) (r : RatedCandidate) → ss ≡ rs ++ r ∷ [] → length os < length ns
+    → r.rating ≡ rating_of p r.one.candidate.standing → r.number ≡ get_or ns (length os) least → AreRated p os ns rs → AreRated p (os ++ r.one ∷ []) ns ss
 one_rated p os ns rs ss r e within rating number h =
     let P : List RatedCandidate → Type 0 = λ q. AreRated p (os ++ r.one ∷ []) ns q in
     subst P (sym e) (record {
       same = map-append (λ (q : RatedCandidate). q.one) rs (r ∷ []) ∙ ap (λ q. q ++ r.one ∷ []) h.same;
       numbers = map-append (λ (q : RatedCandidate). q.number) rs (r ∷ []) ∙ (ap (λ q. q ++ r.number ∷ []) h.numbers ∙ (ap (λ q. take (length os) ns ++ q ∷ []) number
-          ∙ (sym (take_more ns (length os) 0 within) ∙ ap (λ q. take q ns) (let a = length-append os (r.one ∷ []) in omega (arith, a)))));
+          ∙ (sym (take_more ns (length os) least within) ∙ ap (λ q. take q ns) (let a = length-append os (r.one ∷ []) in omega (arith, a)))));
       ratings = All-push (λ (q : RatedCandidate). q.rating ≡ rating_of p q.one.candidate.standing) rs r h.ratings rating;
     })
 
@@ -115,14 +116,14 @@ versions_back : (rs : List RatedCandidate) → versions_in (map (λ (r : RatedCa
 versions_back [] = refl
 versions_back (r ∷ rs) = ap (λ q. r.one.candidate.standing.version ∷ q) (versions_back rs)
 
-all_rated : (p : Policy) (os : List Offered) (ns : List ℕ) (rs : List RatedCandidate) → map (λ (r : RatedCandidate). r.one) rs ≡ os → map (λ (r : RatedCandidate). r.number) rs ≡ ns → HaveRatings p rs → All (IsRated p (versions_in os) ns) rs
+all_rated : (p : Policy) (os : List Offered) (ns : List VersionNumber) (rs : List RatedCandidate) → map (λ (r : RatedCandidate). r.one) rs ≡ os → map (λ (r : RatedCandidate). r.number) rs ≡ ns → HaveRatings p rs → All (IsRated p (versions_in os) ns) rs
 all_rated p os ns rs ones numbers ratings = λ k d lt.
     let version_of : RatedCandidate → List ℕ = λ r. r.one.candidate.standing.version in
     record {
       rating = ratings k d lt;
       place = k;
       version = ap (λ q. slice_get q k) (ap versions_in (sym ones) ∙ versions_back rs) ∙ (slice_get-map version_of rs k ∙ ap (option_map version_of) (slice_get-get_or rs k d lt));
-      number = sym (ap (λ q. get_or q k 0) (sym numbers) ∙ get_or-map (λ (r : RatedCandidate). r.number) rs k d 0 lt);
+      number = sym (ap (λ q. get_or q k least) (sym numbers) ∙ get_or-map (λ (r : RatedCandidate). r.number) rs k d least lt);
     }
 
 abbrev of_rated : RatedCandidate → Numbered
@@ -132,24 +133,24 @@ abbrev candidate_in : RatedCandidate → Candidate
 candidate_in r = r.one.candidate
 
 -- by ratings and numbers two stand as by their ranks
-rated_pair : (p : Policy) (vs : List (List ℕ)) (ns : List ℕ) → AreNumbersOf vs ns → (r s : RatedCandidate) → IsRated p vs ns r → IsRated p vs ns s
+rated_pair : (p : Policy) (vs : List (List ℕ)) (ns : List VersionNumber) → AreNumbersOf vs ns → (r s : RatedCandidate) → IsRated p vs ns r → IsRated p vs ns s
     → numbered_cmp (of_rated r) (of_rated s) ≡ rank_cmp p r.one.candidate.standing s.one.candidate.standing
 rated_pair p vs ns numbers r s a b =
     let c : Standing = r.one.candidate.standing in
     let d : Standing = s.one.candidate.standing in
-    let m : ℕ = get_or ns a.place 0 in
-    let n : ℕ = get_or ns b.place 0 in
+    let m : VersionNumber = get_or ns a.place least in
+    let n : VersionNumber = get_or ns b.place least in
     ap (λ (q : Rating). numbered_cmp (q, r.number, c) (s.rating, s.number, d)) a.rating
-    ∙ ap (λ (q : ℕ). numbered_cmp (rating_of p c, q, c) (s.rating, s.number, d)) a.number
+    ∙ ap (λ (q : VersionNumber). numbered_cmp (rating_of p c, q, c) (s.rating, s.number, d)) a.number
     ∙ ap (λ (q : Rating). numbered_cmp (rating_of p c, m, c) (q, s.number, d)) b.rating
-    ∙ ap (λ (q : ℕ). numbered_cmp (rating_of p c, m, c) (rating_of p d, q, d)) b.number
-    ∙ numbered_ranks p c d m n (numbers.alike b.place a.place d.version c.version b.version a.version)
+    ∙ ap (λ (q : VersionNumber). numbered_cmp (rating_of p c, m, c) (rating_of p d, q, d)) b.number
+    ∙ numbered_ranks p c d m n (numbers.first b.place a.place d.version c.version b.version a.version) (numbers.whole b.place a.place d.version c.version b.version a.version)
 
-rated_up : (p : Policy) (vs : List (List ℕ)) (ns : List ℕ) → AreNumbersOf vs ns → (rs : List RatedCandidate) → All (IsRated p vs ns) rs
+rated_up : (p : Policy) (vs : List (List ℕ)) (ns : List VersionNumber) → AreNumbersOf vs ns → (rs : List RatedCandidate) → All (IsRated p vs ns) rs
     → IsSortedBy (λ x y. is_lt (numbered_cmp (of_rated x) (of_rated y))) rs → IsSortedBy (λ c d. is_lt (rank_cmp p c.standing d.standing)) (map candidate_in rs)
 rated_up p vs ns numbers rs rated up k d low high =
     let in_list : k + 1 < length rs = omega (arith, high, length-map rs candidate_in) in
-    let e : RatedCandidate = record { rating = rating_of p d.standing; number = 0; one = record { candidate = d; feed = 0; numbers = record { version = 0; langs = 0; level = 0 } } } in
+    let e : RatedCandidate = record { rating = rating_of p d.standing; number = least; one = record { candidate = d; feed = 0; version = None; langs = 0; level = 0 } } in
     let x : RatedCandidate = get_or rs (k + 1) e in
     let y : RatedCandidate = get_or rs k e in
     ap (λ (q : Candidate). is_lt (rank_cmp p q.standing (get_or (map candidate_in rs) k d).standing)) (get_or-map candidate_in rs (k + 1) e d in_list)
@@ -162,7 +163,7 @@ unrated_all [] = refl
 unrated_all (r ∷ rs) = ap (λ q. r.one.candidate ∷ q) (unrated_all rs)
 
 -- candidates that were rated, and sorted by that
-module _ (p : Policy) (os : List Offered) (ns : List ℕ) (rs ss : List RatedCandidate) (ts : List Offered)
+module _ (p : Policy) (os : List Offered) (ns : List VersionNumber) (rs ss : List RatedCandidate) (ts : List Offered)
     (ones : map (λ (r : RatedCandidate). r.one) rs ≡ os) (same : IsPermutation rs ss) (back : ts ≡ map (λ (r : RatedCandidate). r.one) ss) where
   pub rated_sorting : RanksAreStrict → AreNumbersOf (versions_in os) ns → map (λ (r : RatedCandidate). r.number) rs ≡ ns → HaveRatings p rs → IsSortedBy (λ x y. is_lt (numbered_cmp (of_rated x) (of_rated y))) ss
       → IsSorting p (candidates_of os) (candidates_of ts)
@@ -233,7 +234,7 @@ module _ (req : Requirement) (p : Policy) (stored : Store) (interface : Uri) whe
   -- in a feed of one of these addresses
   from_feeds : (feeds : List Feed) → AllByRecursion (λ k. listed k.0 (addresses feeds) ≡ true) (map place_of (admitted req p stored interface feeds))
   from_feeds [] = tt
-  from_feeds (f ∷ fs) = places_of f fs (from_here f.uri 0 f.impls) (from_feeds fs)
+  from_feeds (f ∷ fs) = places_of f fs (from_here f.uri 0 (all_impls stored.packages f)) (from_feeds fs)
     where
       all : (ks ls : List (Uri × ℕ)) (us : Uris) (u : Uri) → AllByRecursion (IsFrom u 0) ks → AllByRecursion (λ k. listed k.0 us ≡ true) ls → AllByRecursion (λ k. listed k.0 (u ∷ us) ≡ true) (ks ++ ls)
       all [] [] us u a b = tt
@@ -254,8 +255,8 @@ module _ (req : Requirement) (p : Policy) (stored : Store) (interface : Uri) whe
       let P : List (Uri × ℕ) → Type 0 = λ q. IsDistinct alike q in
       subst P (sym (map-append place_of (admitted_by req p stored interface f) (admitted req p stored interface fs)))
       (IsDistinct-append (map place_of (admitted_by req p stored interface f)) (map place_of (admitted req p stored interface fs))
-      (apart_here f.uri 0 f.impls) (admitted_placed fs (λ i j d lt within. apart (suc i) (suc j) d (omega (arith, lt)) (omega (arith, within))))
-      (far_all (map place_of (admitted_by req p stored interface f)) (from_here f.uri 0 f.impls)))
+      (apart_here f.uri 0 (all_impls stored.packages f)) (admitted_placed fs (λ i j d lt within. apart (suc i) (suc j) d (omega (arith, lt)) (omega (arith, within))))
+      (far_all (map place_of (admitted_by req p stored interface f)) (from_here f.uri 0 (all_impls stored.packages f))))
     where
       other : (u : Uri) → listed u (addresses fs) ≡ true → f.uri ≢ u
       other u l e =

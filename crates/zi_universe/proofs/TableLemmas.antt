@@ -13,14 +13,14 @@ use Rattle.zi_policy.specs.Platform.{listed}
 use Rattle.zi_parts.specs.declared.types.Impl.{Impl}
 use Rattle.zi_feed.specs.declared.feed.Feed.{Feed}
 use Rattle.zi_feed.specs.declared.shares.ReadFeed.{ReadFeed}
-use Rattle.zi_feed.specs.Shares.{AreShared}
 use Rattle.zi_feed.specs.Active.{active_part, active_feed}
 use Rattle.zi_outside.specs.Views.{Holding}
 use Rattle.zi_universe.specs.Naming.{Uri, Uris, AreApart}
 use Rattle.zi_universe.specs.declared.types.Requirement.{Requirement}
-use Rattle.zi_universe.specs.Candidates.{Store, imports_of, stability_of, is_stored, standing_of, candidate_of, offered_from, is_admitted, admitted_by, admitted}
+use Rattle.zi_universe.specs.Candidates.{Store, imports_of, stability_of, is_stored, standing_of, candidate_of, offered_from, all_impls, is_admitted, admitted_by, admitted}
 use Rattle.zi_universe.specs.Loading.{no_feed, IsRead, Reading, AreRead}
-use Rattle.zi_universe.specs.Tables.{addresses, find_feed, feeds_at, imports_at, as_it_is, held_from, held_by, held, IsActiveOf, Agrees, AllRead}
+use Rattle.zi_universe.specs.Tables.{HasShares, addresses, find_feed, feeds_at, imports_at, as_it_is, held_from, held_by, held, IsActiveOf, Agrees, AllRead}
+use Rattle.zi_universe.proofs.RowLemmas.{active_impls}
 use Rattle.zi_universe.proofs.NamingLemmas.{bytes_eq-true, bytes_eq-refl, Contains-listed, map-append}
 
 -- The front of what agrees agrees.
@@ -143,7 +143,9 @@ held_active p stored interface feed place (i ∷ is) =
     ∙ ap (λ q. candidate_of p stored interface feed place i ∷ q) (held_active p stored interface feed (place + 1) is)
 
 active_held : (req : Requirement) (p : Policy) (stored : Store) (interface : Uri) (f : Feed) → held_by req p stored interface (active_feed p f) ≡ admitted_by req p stored interface f
-active_held req p stored interface f = ap (filter (is_admitted req p interface)) (held_active p stored interface f.uri 0 f.impls)
+active_held req p stored interface f =
+    ap (λ q. filter (is_admitted req p interface) (held_from p stored interface f.uri 0 q)) (active_impls p stored.packages f)
+    ∙ ap (filter (is_admitted req p interface)) (held_active p stored interface f.uri 0 (all_impls stored.packages f))
 
 all_held : (req : Requirement) (p : Policy) (stored : Store) (interface : Uri) (at : Reading) (uris : Uris)
     → held req p stored interface (map (λ u. active_feed p (at u)) uris) ≡ admitted req p stored interface (map at uris)
@@ -235,7 +237,7 @@ module _ (told : Option Holding) (root : Uri) (p : Policy) where
 
 -- The feeds in a map under their addresses, each with what its implementations share.
 abbrev Kept : Uri × ReadFeed → Type 0
-Kept e = (e.0 ≡ e.1.feed.uri) × AreShared e.1.shares e.1.feed.impls
+Kept e = (e.0 ≡ e.1.feed.uri) × HasShares e.1
 
 abbrev feeds_of : List (Uri × ReadFeed) → List Feed
 feeds_of es = map (λ e. e.1.feed) es
@@ -252,20 +254,20 @@ lookup_feed (e ∷ es) uri all =
     by true h = refl
     by false h = h
 
-lookup_shared : (es : List (Uri × ReadFeed)) (uri : Uri) (r : ReadFeed) → All Kept es → lookup (bytes_eq uri) es ≡ Some r → AreShared r.shares r.feed.impls
+lookup_shared : (es : List (Uri × ReadFeed)) (uri : Uri) (r : ReadFeed) → All Kept es → lookup (bytes_eq uri) es ≡ Some r → HasShares r
 lookup_shared [] uri r all e = (cc)
 lookup_shared (x ∷ es) uri r all e = by (bytes_eq uri x.0) refl (lookup_shared es uri r (All-tail Kept x es all))
   where
-    by : (b : Bool) → bytes_eq uri x.0 ≡ b → (lookup (bytes_eq uri) es ≡ Some r → AreShared r.shares r.feed.impls) → AreShared r.shares r.feed.impls
+    by : (b : Bool) → bytes_eq uri x.0 ≡ b → (lookup (bytes_eq uri) es ≡ Some r → HasShares r) → HasShares r
     by true t rest =
         let same : Some x.1 ≡ Some r = sym (ap (λ b. if b then Some x.1 else lookup (bytes_eq uri) es) t) ∙ e in
         let one : x.1 ≡ r = cc in
-        let P : ReadFeed → Type 0 = λ q. AreShared q.shares q.feed.impls in
+        let P : ReadFeed → Type 0 = λ q. HasShares q in
         subst P one (All-head Kept x es all).1
     by false t rest = rest (sym (ap (λ b. if b then Some x.1 else lookup (bytes_eq uri) es) t) ∙ e)
 
 -- what is lent has its shares
-pub lent_shared : (o : Option (Bor ReadFeed)) (es : List (Uri × ReadFeed)) (uri : Uri) → option_copied o ≡ lookup (bytes_eq uri) es → All Kept es → IfSome o (λ r. AreShared r.now.shares r.now.feed.impls)
+pub lent_shared : (o : Option (Bor ReadFeed)) (es : List (Uri × ReadFeed)) (uri : Uri) → option_copied o ≡ lookup (bytes_eq uri) es → All Kept es → IfSome o (λ r. HasShares r.now)
 lent_shared None es uri e all = tt
 lent_shared (Some r) es uri e all = lookup_shared es uri r.now all (sym e)
 
@@ -275,11 +277,11 @@ nothing_mapped (Some r) e = (cc)
 
 -- one feed more in the map
 pub record Grows {S : Type 0} (n : IndexMap Uri ReadFeed S) (fs : List Feed) (f : Feed) : Type 0 where
-  pub placed : All (λ e. (e.0 ≡ e.1.feed.uri) × AreShared e.1.shares e.1.feed.impls) n.entries
+  pub placed : All (λ e. (e.0 ≡ e.1.feed.uri) × HasShares e.1) n.entries
   pub grown : map (λ e. e.1.feed) n.entries ≡ fs ++ f ∷ []
 
-pub grows : {S : Type 0} (m n : IndexMap Uri ReadFeed S) (fs : List Feed) (uri : Uri) (r : ReadFeed) → All (λ e. (e.0 ≡ e.1.feed.uri) × AreShared e.1.shares e.1.feed.impls) m.entries → map (λ e. e.1.feed) m.entries ≡ fs
-    → uri ≡ r.feed.uri → AreShared r.shares r.feed.impls → listed r.feed.uri (addresses fs) ≡ false → n.entries ≡ insert_entry bytes_eq m.entries uri r → Grows n fs r.feed
+pub grows : {S : Type 0} (m n : IndexMap Uri ReadFeed S) (fs : List Feed) (uri : Uri) (r : ReadFeed) → All (λ e. (e.0 ≡ e.1.feed.uri) × HasShares e.1) m.entries → map (λ e. e.1.feed) m.entries ≡ fs
+    → uri ≡ r.feed.uri → HasShares r → listed r.feed.uri (addresses fs) ≡ false → n.entries ≡ insert_entry bytes_eq m.entries uri r → Grows n fs r.feed
 grows m n fs uri r all view same shared none e =
     let missing : option_map (λ (q : ReadFeed). q.feed) (lookup (bytes_eq uri) m.entries) ≡ None =
     lookup_feed m.entries uri all ∙ ap (λ gs. find_feed gs uri) view ∙ ap (find_feed fs) same ∙ absent fs r.feed.uri none in

@@ -1,5 +1,5 @@
 -- What was loaded is whole.
-use Rattle.std.proofs.Common.{◌≡◌, zero, suc, ◌<◌, List, [], ◌∷◌, ◌++◌, length, map, All, Option, refl, sym, ap, subst, ◌∙◌, arith}
+use Rattle.std.proofs.Common.{◌≡◌, zero, suc, ◌<◌, Bool, List, [], ◌∷◌, ◌++◌, length, map, All, Option, refl, sym, ap, subst, ◌∙◌, arith}
 use Rattle.std.specs.List.{AllZip, flat_map}
 use Rattle.std.proofs.lemmas.List.Elements.{All-nil, All-cons}
 use Rattle.std.proofs.lemmas.List.{length-map}
@@ -8,6 +8,7 @@ use Rattle.zi_policy.specs.Platform.{listed}
 use Rattle.zi_digest.specs.declared.DigestName.{DigestName}
 use Rattle.zi_digest.specs.Name.{spelling}
 use Rattle.zi_outside.specs.Views.{Holding}
+use Rattle.zi_packages.specs.declared.types.Packages.{Packages}
 use Rattle.zi_universe.specs.declared.types.Requirement.{Requirement}
 use Rattle.zi_universe.specs.declared.types.Interface.{Interface}
 use Rattle.zi_universe.specs.Naming.{Uri, Uris, in_set, without_repeats, all_of, AreApart}
@@ -62,9 +63,12 @@ module _ (told : Option Holding) (req : Requirement) (p : Policy) (stored : Stor
 abbrev pub task : Requirement → Policy → Store → Task
 task req p stored = record { req = req; policy = p; stored = stored }
 
-same_store : (keys : Uris) (digests : List DigestName) → keys ≡ without_repeats (map spelling digests) → in_set keys ≡ names_of digests
-same_store keys digests e = λ i t. (ap (listed t) e ∙ listed-without_repeats t (map spelling digests)) i
+abbrev store : (Uri → Bool) → Packages → Store
+store trees packages = record { trees = trees; packages = packages }
 
-pub same_task : (req : Requirement) (p : Policy) (keys : Uris) (digests : List DigestName) → keys ≡ without_repeats (map spelling digests)
-    → task req p (in_set keys) ≡ task req p (names_of digests)
-same_task req p keys digests e = ap (task req p) (same_store keys digests e)
+same_trees : (keys : Uris) (digests : List DigestName) → keys ≡ without_repeats (map spelling digests) → in_set keys ≡ (λ t. listed t (map spelling digests))
+same_trees keys digests e = λ i t. (ap (listed t) e ∙ listed-without_repeats t (map spelling digests)) i
+
+pub same_task : (req : Requirement) (p : Policy) (keys : Uris) (digests : List DigestName) (rows packages : Packages) → keys ≡ without_repeats (map spelling digests) → rows ≡ packages
+    → task req p (record { trees = in_set keys; packages = rows }) ≡ task req p (names_of digests packages)
+same_task req p keys digests rows packages e f = ap (λ t. task req p (store t rows)) (same_trees keys digests e) ∙ ap (λ q. task req p (names_of digests q)) f

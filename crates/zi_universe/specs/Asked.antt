@@ -7,6 +7,7 @@ use Rattle.zi_text.specs.Count.{Rose}
 use Rattle.zi_outside.specs.Views.{Holding, Feeding}
 use Rattle.zi_outside.specs.Outside.{Asks}
 use Rattle.zi_universe.specs.declared.types.Requirement.{Requirement}
+use Rattle.zi_universe.specs.declared.types.Candidate.{Candidate}
 use Rattle.zi_universe.specs.declared.fault.LoadFault.{LoadFault}
 use Rattle.zi_universe.specs.declared.fault.LoadFault.TheVariants as fault
 use Rattle.zi_universe.specs.Naming.{Uri, Uris}
@@ -14,7 +15,7 @@ use Rattle.zi_universe.specs.Candidates.{Store}
 use Rattle.zi_universe.specs.Whole.{most_feeds}
 use Rattle.zi_universe.specs.Loading.{AreAsked, CountsFault, Refuses, asked_until}
 use Rattle.zi_universe.specs.Tables.{addresses}
-use Rattle.zi_universe.specs.Stages.{HasListed, StopsListing}
+use Rattle.zi_universe.specs.Stages.{HasListed, StopsListing, Gathers, StopsGathering}
 use Rattle.zi_universe.specs.Listing.{StopsNext}
 
 -- an address, unless it is there
@@ -85,6 +86,19 @@ pub record EndsListing (told : Option Holding) (root : Uri) (p : Policy) (interf
 abbrev pub LeavesListing : Option Holding → Uri → Policy → Uri → List Feed → Feeding → LoadFault → Feeding → Type 0
 LeavesListing told root p interface start old e new =
     ByMemory e (EndsListing told root p interface start old new) (RefusesListing told root p interface start old e new)
+
+-- The feeds of an interface were found, and what they have for it is refused.
+pub record LeavesGathering (told : Option Holding) (req : Requirement) (p : Policy) (stored : Store) (interface : Uri) (start : List Feed) (old : Feeding) (e : LoadFault) (new : Feeding) : Type 0 where
+  pub offered : List Candidate
+  pub fs : List Feed
+  pub gathers : Gathers told req p stored interface start offered fs
+  pub stops : StopsGathering offered e
+  pub got : GetsMore (addresses start) (addresses fs) old new
+
+-- The looking for an interface is refused at its feeds, or at what they have for it.
+abbrev pub LeavesLooking : Option Holding → Requirement → Policy → Store → Uri → List Feed → Feeding → LoadFault → Feeding → Type 0
+LeavesLooking told req p stored interface start old e new =
+    LeavesListing told req.interface p interface start old e new ⊎ LeavesGathering told req p stored interface start old e new
 
 -- the loading is refused, after it had got these: it asked for what was still to come until then
 pub record StopsLoading (told : Option Holding) (req : Requirement) (p : Policy) (stored : Store) (got : Uris) (old : Feeding) (e : LoadFault) (new : Feeding) : Type 0 where

@@ -1,6 +1,6 @@
 -- The candidates of an interface: which implementations of its feeds may be used, in rank order (the documented policy of
 -- the 0install solver, as this project narrows it).
-use Rattle.std.specs.Prelude.{ℕ, ◌==◌, Bool, true, false, not, ◌&&◌, ◌||◌, List, [], ◌∷◌, ◌++◌, length, map, filter, find, bytes_eq, is_some, is_none, Option, Some, None, unwrap_or, option_map, IsPermutation, AllPairs}
+use Rattle.std.specs.Prelude.{ℕ, ◌==◌, Bool, true, false, not, ◌&&◌, ◌||◌, if◌then◌else◌, List, [], ◌∷◌, ◌++◌, length, map, filter, find, bytes_eq, is_some, is_none, Option, Some, None, unwrap_or, option_map, IsPermutation, AllPairs}
 use Rattle.std.specs.List.{list_any, list_all, flat_map, enumerate_from}
 use Rattle.zi_version.specs.Range.{admits}
 use Rattle.zi_policy.specs.declared.types.Policy.{Policy}
@@ -8,6 +8,8 @@ use Rattle.zi_policy.specs.declared.types.Stability.{Stability}
 use Rattle.zi_policy.specs.Platform.{is_run, holds_where_asked}
 use Rattle.zi_digest.specs.Name.{spelling}
 use Rattle.zi_rank.specs.declared.types.Standing.{Standing}
+use Rattle.zi_rank.specs.declared.types.Origin.{Origin}
+use Rattle.zi_rank.specs.declared.types.Origin.TheVariants as origin
 use Rattle.zi_rank.specs.Languages.{base}
 use Rattle.zi_rank.specs.Reasons.{why_not}
 use Rattle.zi_rank.specs.Rank.{Before}
@@ -18,8 +20,11 @@ use Rattle.zi_parts.specs.declared.types.DepKind.TheVariants.{Essential, Recomme
 use Rattle.zi_parts.specs.declared.types.Runner.{Runner}
 use Rattle.zi_parts.specs.declared.types.Command.{Command}
 use Rattle.zi_parts.specs.declared.types.Impl.{Impl}
+use Rattle.zi_parts.specs.declared.types.Package.{Package}
 use Rattle.zi_parts.specs.declared.types.Import.{Import}
 use Rattle.zi_feed.specs.declared.feed.Feed.{Feed}
+use Rattle.zi_packages.specs.declared.types.Packages.{Packages}
+use Rattle.zi_packages.specs.Natives.{with_rows}
 use Rattle.zi_universe.specs.declared.types.Limit.{Limit}
 use Rattle.zi_universe.specs.declared.types.Requirement.{Requirement}
 use Rattle.zi_universe.specs.declared.types.Candidate.{Candidate}
@@ -51,16 +56,24 @@ unfoldable pub stability_of : Policy → Uri → Impl → Stability
 stability_of p interface i =
     unwrap_or (option_map (λ o. o.stability) (find (λ o. bytes_eq o.interface interface && bytes_eq o.id i.id) p.overrides)) i.stability
 
--- which names are those of trees that are stored
-abbrev pub Store : Type 0
-Store = List ℕ → Bool
+-- what a machine has
+pub record Store : Type 0 where
+  -- which names are those of trees that are stored
+  pub trees : List ℕ → Bool
+  -- the packages of the operating system
+  pub packages : Packages
 
 abbrev pub has_items : {X : Type 0} → List X → Bool
 has_items xs = not (length xs == 0)
 
 -- one of its digests has a name that is in the store
 unfoldable pub is_stored : Store → Impl → Bool
-is_stored stored i = list_any (λ d. stored (spelling d)) i.digests
+is_stored stored i = list_any (λ d. stored.trees (spelling d)) i.digests
+
+-- a feed alone, or a package of the operating system
+abbrev pub origin_of : Option Package → Origin
+origin_of None = origin.Feed
+origin_of (Some p) = if p.installed then origin.Installed else origin.Available
 
 -- an implementation of a feed, as one for an interface, at a place among those of the feed
 unfoldable pub standing_of : Policy → Store → Uri → Uri → ℕ → Impl → Standing
@@ -75,6 +88,7 @@ standing_of p stored interface feed place i = record {
   local = is_some i.local;
   stored = is_stored stored i;
   retrievable = has_items i.digests && has_items i.methods;
+  origin = origin_of i.«package»;
 }
 
 abbrev pub candidate_of : Policy → Store → Uri → Uri → ℕ → Impl → Candidate
@@ -85,9 +99,13 @@ candidate_of p stored interface feed place i =
 abbrev pub offered_from : Policy → Store → Uri → Uri → ℕ → List Impl → List Candidate
 offered_from p stored interface feed place is = map (λ q. candidate_of p stored interface feed q.0 q.1) (enumerate_from place is)
 
+-- the implementations of a feed: those that its elements say, and behind them those of the packages that it names
+abbrev pub all_impls : Packages → Feed → List Impl
+all_impls t f = with_rows t f.impls f.natives
+
 -- what a feed holds, as ones for an interface
 abbrev pub offered_by : Policy → Store → Uri → Feed → List Candidate
-offered_by p stored interface f = offered_from p stored interface f.uri 0 f.impls
+offered_by p stored interface f = offered_from p stored interface f.uri 0 (all_impls stored.packages f)
 
 -- The candidates.
 

@@ -9,6 +9,7 @@ use Rattle.zi_elements.specs.declared.element.Element.{Element}
 use Rattle.zi_elements.specs.Forest.{element_view}
 use Rattle.zi_doc.specs.Documents as doc
 use Rattle.zi_feed.specs.declared.feed.Feed.{Feed}
+use Rattle.zi_packages.specs.declared.types.Packages.{Packages}
 use Rattle.zi_feed.specs.Feeds.{feed_of, feed_fault}
 use Rattle.zi_text.specs.Count.{Rose}
 use Rattle.zi_outside.specs.Views.{Holding, Feeding, holding}
@@ -24,9 +25,9 @@ use Rattle.zi_universe.specs.Naming.{Uri, Uris, in_set, joined, without_repeats,
 use Rattle.zi_universe.specs.Candidates.{Store, imports_of, admitted, AreCandidates, asked_by, asked_by_all}
 use Rattle.zi_universe.specs.Whole.{uris_of, candidates_in, most_feeds, most_candidates, most_interfaces, feed_limit}
 
--- the names of the trees that are stored
-abbrev pub names_of : List DigestName → Store
-names_of stored t = listed t (map spelling stored)
+-- the trees of these digests are stored, and these are the packages of the operating system
+abbrev pub names_of : List DigestName → Packages → Store
+names_of stored packages = record { trees = λ t. listed t (map spelling stored); packages = packages }
 
 -- What stands at an address.
 
@@ -46,7 +47,7 @@ IsHeld told uri held = IfSome told (λ holds. holds uri ≡ held)
 
 -- the feed of an address that is absent
 abbrev pub no_feed : Uri → Feed
-no_feed uri = record { uri = uri; imports = []; impls = [] }
+no_feed uri = record { uri = uri; imports = []; impls = []; natives = [] }
 
 -- f is the feed at this address; that of the root is there
 pub record IsRead (told : Option Holding) (root uri : Uri) (f : Feed) : Type 0 where
@@ -176,7 +177,7 @@ pub record Loads (told : Option Holding) (req : Requirement) (p : Policy) (store
 
 -- What a loading asks for on the outside.
 
--- a loading's task: a requirement, under a policy, beside the trees that are stored
+-- a loading's task: a requirement, under a policy, beside what the machine has
 pub record Task : Type 0 where
   pub req : Requirement
   pub policy : Policy
@@ -187,9 +188,13 @@ pub record Wish : Type 0 where
   pub req : Requirement
   pub policy : Policy
   pub stored : Uris
+  pub packages : Packages
+
+abbrev pub store_of : Wish → Store
+store_of w = record { trees = in_set w.stored; packages = w.packages }
 
 abbrev pub task_of : Wish → Task
-task_of w = record { req = w.req; policy = w.policy; stored = in_set w.stored }
+task_of w = record { req = w.req; policy = w.policy; stored = store_of w }
 
 -- these addresses were asked for, in their order, and no call failed
 pub record AreAsked (uris : Uris) (old new : Feeding) : Type 0 where

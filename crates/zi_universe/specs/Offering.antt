@@ -5,14 +5,17 @@ use Rattle.std.specs.List.{list_any, AllZip}
 use Rattle.std.proofs.Common.{Bor}
 use Rattle.std.specs.Map.{lookup}
 use Rattle.std.specs.Ordering.{nat_cmp, is_lt}
+use Rattle.std.specs.declared.cmp.Ordering.{Ordering}
 use Rattle.zi_version.specs.Value.{version_cmp}
+use Rattle.zi_version.specs.First.{first_cmp}
 use Rattle.zi_policy.specs.declared.types.Policy.{Policy}
 use Rattle.zi_rank.specs.declared.rating.Places.{Places}
+use Rattle.zi_rank.specs.declared.rating.VersionNumber.{VersionNumber}
 use Rattle.zi_rank.specs.Ratings.{places_of, rating_of}
 use Rattle.zi_parts.specs.declared.types.Dep.{Dep}
 use Rattle.zi_feed.specs.declared.shares.Level.{Level}
 use Rattle.zi_feed.specs.declared.shares.Shares.{Shares}
-use Rattle.zi_feed.specs.Shares.{NumbersFit, AreLevels, deps_at}
+use Rattle.zi_feed.specs.Shares.{AreLevels, deps_at}
 use Rattle.zi_universe.specs.declared.types.Candidate.{Candidate}
 use Rattle.zi_universe.specs.declared.offers.Offered.{Offered}
 use Rattle.zi_universe.specs.declared.offers.Key.{Key}
@@ -28,12 +31,14 @@ candidates_of os = map (λ o. o.candidate) os
 abbrev pub given : (Candidate → Bool) → Candidate → Option Candidate
 given test c = if test c then Some c else None
 
--- its feed is one of these, which have what it says under its numbers
+-- its feed is one of these, which have what it says under its numbers; its version has none there where it is that of a package
 pub record IsNumbered (feeds : List Shares) (o : Offered) : Type 0 where
   pub shares : Shares
   pub there : slice_get feeds o.feed ≡ Some shares
   pub levels : AreLevels shares.levels
-  pub fit : NumbersFit shares o.numbers (Some o.candidate.standing.version) o.candidate.standing.langs o.candidate.imp.deps
+  pub version : (n : ℕ) → o.version ≡ Some n → slice_get shares.versions n ≡ Some (Some o.candidate.standing.version)
+  pub langs : slice_get shares.langs o.langs ≡ Some o.candidate.standing.langs
+  pub level : deps_at shares.levels o.level ≡ Some o.candidate.imp.deps
 
 abbrev pub AreNumbered : List Shares → List Offered → Type 0
 AreNumbered feeds os = All (IsNumbered feeds) os
@@ -78,16 +83,30 @@ texts_of vs = map (λ v. v.now) vs
 abbrev pub ArePlacedIn : List (List ℕ) → List Offered → List ℕ → Type 0
 ArePlacedIn versions os places = AllZip (λ o n. slice_get versions n ≡ Some o.candidate.standing.version) os places
 
--- those before a place are less than a version, and those from it on aren't
-pub record IsBehindLess (versions : List (List ℕ)) (v : List ℕ) (n : ℕ) : Type 0 where
+-- an order of versions
+abbrev pub VersionOrder : Type 0
+VersionOrder = List ℕ → List ℕ → Ordering
+
+-- by an order, those before a place are less than a version, and those from it on aren't
+pub record IsBehindLess (cmp : VersionOrder) (versions : List (List ℕ)) (v : List ℕ) (n : ℕ) : Type 0 where
   pub within : n ≤ length versions
-  pub less : (k : ℕ) → (d : List ℕ) → k < n → is_lt (version_cmp (get_or versions k d) v) ≡ true
-  pub others : (k : ℕ) → (d : List ℕ) → n ≤ k → k < length versions → is_lt (version_cmp (get_or versions k d) v) ≡ false
+  pub less : (k : ℕ) → (d : List ℕ) → k < n → is_lt (cmp (get_or versions k d) v) ≡ true
+  pub others : (k : ℕ) → (d : List ℕ) → n ≤ k → k < length versions → is_lt (cmp (get_or versions k d) v) ≡ false
+
+-- so many are less by their first dotted lists, and by the whole
+pub record IsCounted (versions : List (List ℕ)) (v : List ℕ) (n : VersionNumber) : Type 0 where
+  pub first : IsBehindLess first_cmp versions v n.first
+  pub whole : IsBehindLess version_cmp versions v n.whole
+
+-- where nothing is less
+abbrev pub least : VersionNumber
+least = record { first = 0; whole = 0 }
 
 -- the numbers stand to each other as the versions do
-pub record AreNumbersOf (versions : List (List ℕ)) (numbers : List ℕ) : Type 0 where
+pub record AreNumbersOf (versions : List (List ℕ)) (numbers : List VersionNumber) : Type 0 where
   pub count : length numbers ≡ length versions
-  pub alike : (i j : ℕ) → (v w : List ℕ) → slice_get versions i ≡ Some v → slice_get versions j ≡ Some w → nat_cmp (get_or numbers i 0) (get_or numbers j 0) ≡ version_cmp v w
+  pub first : (i j : ℕ) → (v w : List ℕ) → slice_get versions i ≡ Some v → slice_get versions j ≡ Some w → nat_cmp (get_or numbers i least).first (get_or numbers j least).first ≡ first_cmp v w
+  pub whole : (i j : ℕ) → (v w : List ℕ) → slice_get versions i ≡ Some v → slice_get versions j ≡ Some w → nat_cmp (get_or numbers i least).whole (get_or numbers j least).whole ≡ version_cmp v w
 
 -- Versions with their places.
 

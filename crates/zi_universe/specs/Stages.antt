@@ -104,6 +104,12 @@ pub record Gathers (told : Option Holding) (req : Requirement) (p : Policy) (sto
   pub feeds : HasListed told req.interface p interface start here (length here) fs
   pub are : offered ≡ held req p stored interface (feeds_at fs here)
 
+-- There are too many of them already.
+abbrev pub StopsGathering : List Candidate → LoadFault → Type 0
+StopsGathering offered (fault.TooManyCandidates limit) = (limit ≡ most_candidates) × (most_candidates < length offered)
+StopsGathering offered fault.Memory = Unit {0}
+StopsGathering offered e = ⊥
+
 -- The interfaces.
 
 -- These interfaces are done, over the feeds of the table, and names are the root and what they ask for.

@@ -6,11 +6,13 @@ use Rattle.zi_policy.specs.declared.types.Policy.{Policy}
 use Rattle.zi_feed.specs.Active.{active_feed}
 use Rattle.zi_parts.specs.declared.types.Impl.{Impl}
 use Rattle.zi_feed.specs.declared.feed.Feed.{Feed}
+use Rattle.zi_feed.specs.declared.shares.ReadFeed.{ReadFeed}
+use Rattle.zi_feed.specs.Shares.{AreShared, NativesAreShared}
 use Rattle.zi_outside.specs.Views.{Holding}
 use Rattle.zi_universe.specs.declared.types.Requirement.{Requirement}
 use Rattle.zi_universe.specs.declared.types.Candidate.{Candidate}
 use Rattle.zi_universe.specs.Naming.{Uri, Uris}
-use Rattle.zi_universe.specs.Candidates.{Store, imports_of, standing_of, is_admitted}
+use Rattle.zi_universe.specs.Candidates.{Store, imports_of, standing_of, all_impls, is_admitted}
 use Rattle.zi_universe.specs.Loading.{IsRead, Reading}
 
 abbrev pub addresses : List Feed → Uris
@@ -18,6 +20,11 @@ addresses fs = map (λ f. f.uri) fs
 
 abbrev pub find_feed : List Feed → Uri → Option Feed
 find_feed fs uri = find (λ f. bytes_eq uri f.uri) fs
+
+-- the shares that were read beside a feed are those of its implementations and of the packages that it names
+pub record HasShares (r : ReadFeed) : Type 0 where
+  pub impls : AreShared r.shares r.feed.impls
+  pub natives : NativesAreShared r.shares r.feed.natives
 
 -- those of these addresses that are there
 abbrev pub feeds_at : List Feed → Uris → List Feed
@@ -36,7 +43,7 @@ held_from p stored interface feed place is = map (λ q. as_it_is p stored interf
 
 -- what a feed of the table has for an interface, and feeds of it, of what is admitted
 abbrev pub held_by : Requirement → Policy → Store → Uri → Feed → List Candidate
-held_by req p stored interface f = filter (is_admitted req p interface) (held_from p stored interface f.uri 0 f.impls)
+held_by req p stored interface f = filter (is_admitted req p interface) (held_from p stored interface f.uri 0 (all_impls stored.packages f))
 
 abbrev pub held : Requirement → Policy → Store → Uri → List Feed → List Candidate
 held req p stored interface feeds = flat_map (held_by req p stored interface) feeds

@@ -1,13 +1,13 @@
 //! The loading, interface by interface.
 ghost use Rattle.std.specs.Prelude.{◌≡◌, ◌+◌, ◌<◌, ◌≤◌, length, slice_get, Some, IfOk, IfErr, OnOk, MatchResult};
 ghost use Rattle.zi_outside.specs.Views.{holding};
-ghost use Rattle.zi_universe.specs.Naming.{in_set};
+ghost use Rattle.zi_universe.specs.Loading.{store_of};
 ghost use Rattle.zi_universe.specs.Whole.{BeginsWith, most_feeds, most_candidates};
 ghost use Rattle.zi_universe.specs.Tables.{addresses};
 ghost use Rattle.zi_universe.specs.Loading.{task_of, names_of, LoadsAsking, RefusesAsking};
 ghost use Rattle.zi_universe.specs.Offering.{candidates_of, AreNumbered};
 ghost use Rattle.zi_universe.specs.Stages.{Gathers, IsAt, IsBegun, Finishes, StopsFinishing, LoadsNext};
-ghost use Rattle.zi_universe.specs.Asked.{GetsMore, LeavesListing, StopsLoading};
+ghost use Rattle.zi_universe.specs.Asked.{GetsMore, LeavesLooking, StopsLoading};
 
 use crate::fault::LoadFault;
 use crate::feeds::list_feeds;
@@ -24,6 +24,7 @@ use std::alloc::Global;
 use std::mem;
 use zi_digest::DigestName;
 use zi_outside::Feeds;
+use zi_packages::Packages;
 use zi_policy::Policy;
 use zi_text::{List, Memory, Text};
 
@@ -108,8 +109,8 @@ fn look_for<F: Feeds>(
 ) -> Result<Offers, LoadFault>
     requires { length table.old ≤ most_feeds }
     ensures gathers { MatchResult result
-        (λ os. Gathers (holding (F.seen feeds.old)) wanted.now.req wanted.now.policy (in_set wanted.now.stored) uri.now table.old (candidates_of os.offered.items) table.new)
-        (λ e. LeavesListing (holding (F.seen feeds.old)) wanted.now.req.interface wanted.now.policy uri.now table.old (F.seen feeds.old) e (F.seen feeds.new)) }
+        (λ os. Gathers (holding (F.seen feeds.old)) wanted.now.req wanted.now.policy (store_of wanted.now) uri.now table.old (candidates_of os.offered.items) table.new)
+        (λ e. LeavesLooking (holding (F.seen feeds.old)) wanted.now.req wanted.now.policy (store_of wanted.now) uri.now table.old (F.seen feeds.old) e (F.seen feeds.new)) }
     ensures asks { OnOk result (GetsMore (addresses table.old) (addresses table.new) (F.seen feeds.old) (F.seen feeds.new)) }
     ensures numbered { IfOk result (λ os. AreNumbered os.feeds os.offered.items) }
 {
@@ -121,8 +122,7 @@ fn look_for<F: Feeds>(
         table,
         feeds,
     )?;
-    let offers = gather(alloc, wanted, uri, table, here.as_slice())?;
-    Ok(offers)
+    gather(alloc, wanted, uri, table, here.as_slice())
 }
 
 // The first of the interfaces that are asked for and aren't done.
@@ -132,11 +132,11 @@ fn load_next<F: Feeds>(
     state: &mut Loading,
     feeds: &mut F,
 ) -> Result<(), LoadFault>
-    requires at { IsAt (holding (F.seen feeds.old)) wanted.now.req wanted.now.policy (in_set wanted.now.stored) state.old }
+    requires at { IsAt (holding (F.seen feeds.old)) wanted.now.req wanted.now.policy (store_of wanted.now) state.old }
     requires more { length state.old.done < length state.old.names.keys }
     ensures next { MatchResult result
-        (λ _. LoadsNext (holding (F.seen feeds.old)) wanted.now.req wanted.now.policy (in_set wanted.now.stored) state.old state.new)
-        (λ e. StopsLoading (holding (F.seen feeds.old)) wanted.now.req wanted.now.policy (in_set wanted.now.stored) (addresses state.old.table) (F.seen feeds.old) e (F.seen feeds.new)) }
+        (λ _. LoadsNext (holding (F.seen feeds.old)) wanted.now.req wanted.now.policy (store_of wanted.now) state.old state.new)
+        (λ e. StopsLoading (holding (F.seen feeds.old)) wanted.now.req wanted.now.policy (store_of wanted.now) (addresses state.old.table) (F.seen feeds.old) e (F.seen feeds.new)) }
     ensures asks { OnOk result (GetsMore (addresses state.old.table) (addresses state.new.table) (F.seen feeds.old) (F.seen feeds.new)) }
 {
     let uri = copy_at(alloc, &state.names, state.done.len())?;
@@ -165,7 +165,7 @@ fn load_all<F: Feeds>(
 
 /// The universe of a requirement under a policy: the root's interface and, as long as more are asked for, those that active
 /// dependencies and runners of candidates ask for, each with its candidates in rank order. `stored` has the digests of the
-/// trees that the store holds.
+/// trees that the store holds, `packages` the packages of the operating system, of which those that feeds name are candidates.
 ///
 /// Each feed is got once, when it is first reached: the feeds of an interface are its own and those that these import,
 /// unless an import is skipped. The first refusal that is met is answered; for one feed the order is: the object failed,
@@ -176,13 +176,14 @@ pub fn load<F: Feeds>(
     req: &Requirement,
     policy: &Policy,
     stored: &[DigestName],
+    packages: &Packages,
     feeds: &mut F,
 ) -> Result<Universe, LoadFault>
-    ensures loads { IfOk result (λ u. LoadsAsking (record { req = req.now; policy = policy.now; stored = names_of stored.now }) (F.seen feeds.old) u (F.seen feeds.new)) }
-    ensures refuses { IfErr result (λ e. RefusesAsking (record { req = req.now; policy = policy.now; stored = names_of stored.now }) (F.seen feeds.old) e (F.seen feeds.new)) }
+    ensures loads { IfOk result (λ u. LoadsAsking (record { req = req.now; policy = policy.now; stored = names_of stored.now packages.now }) (F.seen feeds.old) u (F.seen feeds.new)) }
+    ensures refuses { IfErr result (λ e. RefusesAsking (record { req = req.now; policy = policy.now; stored = names_of stored.now packages.now }) (F.seen feeds.old) e (F.seen feeds.new)) }
     ensures rooted { IfOk result (λ u. BeginsWith u req.now.interface) }
 {
-    let wanted = Wanted::new(alloc, req, policy, stored)?;
+    let wanted = Wanted::new(alloc, req, policy, stored, packages)?;
     let interfaces = load_all(alloc, &wanted, feeds)?;
     Ok(Universe::from_whole(interfaces))
 }

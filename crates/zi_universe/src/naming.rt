@@ -254,7 +254,7 @@ fn add_needs(
     }
     let key = Key {
         feed: one.feed,
-        number: one.numbers.level,
+        number: one.level,
     };
     add_level(alloc, feeds, key, named, names)?;
     Ok(())

@@ -1,23 +1,28 @@
-//! What feeds offer for an interface, and what of it is admitted. Each candidate keeps the numbers of what it shares with others.
-ghost use Rattle.std.specs.Prelude.{◌≡◌, ◌<◌, ◌∷◌, [], ◌++◌, length, slice_get, Some, is_some, IfOk, OnOk};
+//! What feeds offer for an interface, and what of it is admitted: their implementations, and behind them those that rows of the
+//! packages make which they name. Each candidate keeps the numbers of what it shares with others.
+ghost use Rattle.std.specs.Prelude.{◌≡◌, ◌<◌, ◌∷◌, [], ◌++◌, length, slice_get, filter, Some, is_some, IfOk, OnOk, MatchResult};
 ghost use Rattle.std.specs.List.{cons_option};
 ghost use Rattle.zi_policy.specs.Platform.{is_run, holds_where_asked};
-ghost use Rattle.zi_universe.specs.Candidates.{suits, is_followed, has_items, standing_of, is_admitted};
-ghost use Rattle.zi_universe.specs.Naming.{in_set};
+ghost use Rattle.zi_universe.specs.Candidates.{suits, is_followed, has_items, origin_of, standing_of, is_admitted};
+ghost use Rattle.zi_universe.specs.Loading.{store_of};
 ghost use Rattle.zi_parts.specs.declared.types.Impl.{Impl as AnImpl};
-ghost use Rattle.zi_feed.specs.Shares.{AreShared};
-ghost use Rattle.zi_universe.specs.Tables.{find_feed, feeds_at, as_it_is, held_by, held};
+ghost use Rattle.zi_packages.specs.Picks.{AreAt, picked, all_picked};
+ghost use Rattle.zi_universe.specs.Stages.{StopsGathering};
+ghost use Rattle.zi_universe.specs.Tables.{HasShares, find_feed, feeds_at, as_it_is, held_from, held_by, held};
 ghost use Rattle.zi_universe.specs.Offering.{given, candidates_of, IsNumbered, AreNumbered};
 
+use crate::fault::LoadFault;
+use crate::limits::MOST_CANDIDATES;
 use crate::table::FeedTable;
 use crate::types::Candidate;
 use crate::wanted::Wanted;
 use std::alloc::Global;
-use zi_feed::{Numbers, ReadFeed, Shares};
+use zi_feed::{ReadFeed, Shares};
 use zi_inherited::Shared;
-use zi_parts::{Impl, Import};
+use zi_packages::Pick;
+use zi_parts::{Impl, Import, Package};
 use zi_policy::{Arch, Policy, machine_rank, os_rank};
-use zi_rank::{Standing, place_among, usable};
+use zi_rank::{Origin, Standing, place_among, usable};
 use zi_text::{List, Memory, Text};
 
 /// A candidate, with what its feed knows of it.
@@ -27,8 +32,12 @@ pub struct Offered {
     pub candidate: Candidate,
     /// The place of its feed among those of the interface.
     pub feed: usize,
-    /// Its numbers there.
-    pub numbers: Numbers,
+    /// The number of its version there; none for a package, whose version the feed doesn't say.
+    pub version: Option<usize>,
+    /// That of its languages.
+    pub langs: usize,
+    /// That of the level whose dependencies it has.
+    pub level: usize,
 }
 
 /// What feeds offer for an interface.
@@ -36,7 +45,7 @@ pub struct Offered {
 pub struct Offers {
     /// The candidates.
     pub offered: Vec<Offered>,
-    /// What the implementations of each feed share.
+    /// What the implementations and packages of each feed share.
     pub feeds: List<Shared<Shares>>,
 }
 
@@ -85,6 +94,22 @@ fn copy_arch(alloc: Global, arch: &Option<Arch>) -> Result<Option<Arch>, Memory>
     }
 }
 
+// Whether it is a feed's alone, or a package's.
+fn origin_of(package: &Option<Package>) -> Origin
+    ensures { result ≡ origin_of «package».now }
+{
+    match package {
+        None => Origin::Feed,
+        Some(package) => {
+            if package.installed {
+                Origin::Installed
+            } else {
+                Origin::Available
+            }
+        }
+    }
+}
+
 // An implementation's standing for an interface.
 #[tactic(auto, unfolding(crate::specs::Candidates::standing_of))]
 fn standing(
@@ -95,7 +120,7 @@ fn standing(
     place: u64,
     imp: &Impl,
 ) -> Result<Standing, Memory>
-    ensures { IfOk result (λ s. s ≡ standing_of wanted.now.policy (in_set wanted.now.stored) interface.now feed.now place imp.now) }
+    ensures { IfOk result (λ s. s ≡ standing_of wanted.now.policy (store_of wanted.now) interface.now feed.now place imp.now) }
 {
     let version = imp.version.copy(alloc)?;
     let id = imp.id.copy(alloc)?;
@@ -114,6 +139,7 @@ fn standing(
         local: imp.local.is_some(),
         stored,
         retrievable: !imp.digests.is_empty() && !imp.methods.is_empty(),
+        origin: origin_of(&imp.package),
     })
 }
 
@@ -127,7 +153,7 @@ fn admitted(
     imp: &Impl,
 ) -> Result<Option<Candidate>, Memory>
     ensures { IfOk result (λ c. c ≡ given (is_admitted wanted.now.req wanted.now.policy interface.now)
-        (as_it_is wanted.now.policy (in_set wanted.now.stored) interface.now feed.now place imp.now)) }
+        (as_it_is wanted.now.policy (store_of wanted.now) interface.now feed.now place imp.now)) }
 {
     let standing = standing(alloc, wanted, interface, feed, place, imp)?;
     if usable(&standing, wanted.policy()).is_some()
@@ -162,14 +188,14 @@ fn offer_at(
     feed: usize,
     offers: &mut Offers,
 ) -> Result<(), Memory>
-    requires shared { AreShared read.now.shares read.now.feed.impls }
+    requires shared { HasShares read.now }
     requires within { place < length read.now.feed.impls }
     requires there { slice_get offers.old.feeds feed ≡ Some read.now.shares }
     ensures feeds { OnOk result (offers.new.feeds ≡ offers.old.feeds) }
     ensures held { OnOk result ((i : AnImpl) → slice_get read.now.feed.impls place ≡ Some i
         → candidates_of offers.new.offered.items ≡ candidates_of offers.old.offered.items
         ++ cons_option (given (is_admitted wanted.now.req wanted.now.policy interface.now)
-        (as_it_is wanted.now.policy (in_set wanted.now.stored) interface.now read.now.feed.uri place i)) []) }
+        (as_it_is wanted.now.policy (store_of wanted.now) interface.now read.now.feed.uri place i)) []) }
     ensures numbered { OnOk result (AreNumbered offers.old.feeds offers.old.offered.items → AreNumbered offers.new.feeds offers.new.offered.items) }
 {
     let imp = read.feed.impls.at(place);
@@ -182,9 +208,101 @@ fn offer_at(
         Some(candidate) => offers.push(Offered {
             candidate,
             feed,
-            numbers,
+            version: Some(numbers.version),
+            langs: numbers.langs,
+            level: numbers.level,
         }),
     }
+}
+
+// Adds the implementation of a row that was picked for a feed, if it is admitted, at a place among those of the feed.
+fn offer_row(
+    alloc: Global,
+    wanted: &Wanted,
+    interface: &Text,
+    read: &ReadFeed,
+    pick: &Pick,
+    place: u64,
+    feed: usize,
+    offers: &mut Offers,
+) -> Result<(), Memory>
+    requires shared { HasShares read.now }
+    requires at { slice_get read.now.feed.natives pick.now.at ≡ Some pick.now.native.now }
+    requires there { slice_get offers.old.feeds feed ≡ Some read.now.shares }
+    ensures feeds { OnOk result (offers.new.feeds ≡ offers.old.feeds) }
+    ensures held { OnOk result (candidates_of offers.new.offered.items ≡ candidates_of offers.old.offered.items
+        ++ cons_option (given (is_admitted wanted.now.req wanted.now.policy interface.now)
+        (as_it_is wanted.now.policy (store_of wanted.now) interface.now read.now.feed.uri place (picked pick.now))) []) }
+    ensures numbered { OnOk result (AreNumbered offers.old.feeds offers.old.offered.items → AreNumbered offers.new.feeds offers.new.offered.items) }
+{
+    let imp = pick.row.implementation(alloc, pick.native)?;
+    let shares = read.shares.as_ref();
+    let numbers = *shares.of_natives.at(pick.at);
+    let uri = &read.feed.uri;
+    let found = admitted(alloc, wanted, interface, uri, place, &imp)?;
+    match found {
+        None => Ok(()),
+        Some(candidate) => offers.push(Offered {
+            candidate,
+            feed,
+            version: None,
+            langs: numbers.langs,
+            level: numbers.level,
+        }),
+    }
+}
+
+// Adds what the implementations of a feed are for an interface.
+fn offer_impls(
+    alloc: Global,
+    wanted: &Wanted,
+    interface: &Text,
+    read: &ReadFeed,
+    feed: usize,
+    offers: &mut Offers,
+) -> Result<(), Memory>
+    requires shared { HasShares read.now }
+    requires there { slice_get offers.old.feeds feed ≡ Some read.now.shares }
+    ensures feeds { OnOk result (offers.new.feeds ≡ offers.old.feeds) }
+    ensures held { OnOk result (candidates_of offers.new.offered.items ≡ candidates_of offers.old.offered.items
+        ++ filter (is_admitted wanted.now.req wanted.now.policy interface.now) (held_from wanted.now.policy (store_of wanted.now) interface.now read.now.feed.uri 0 read.now.feed.impls)) }
+    ensures numbered { OnOk result (AreNumbered offers.old.feeds offers.old.offered.items → AreNumbered offers.new.feeds offers.new.offered.items) }
+{
+    for place in 0..read.feed.impls.len() {
+        offer_at(alloc, wanted, interface, read, place, feed, offers)?;
+    }
+    Ok(())
+}
+
+// Adds what the rows that were picked for a feed are for an interface, behind its implementations.
+fn offer_rows(
+    alloc: Global,
+    wanted: &Wanted,
+    interface: &Text,
+    read: &ReadFeed,
+    picks: &[Pick],
+    feed: usize,
+    offers: &mut Offers,
+) -> Result<(), Memory>
+    requires shared { HasShares read.now }
+    requires at { AreAt read.now.feed.natives picks.now }
+    requires there { slice_get offers.old.feeds feed ≡ Some read.now.shares }
+    ensures held { OnOk result (candidates_of offers.new.offered.items ≡ candidates_of offers.old.offered.items
+        ++ filter (is_admitted wanted.now.req wanted.now.policy interface.now) (held_from wanted.now.policy (store_of wanted.now) interface.now read.now.feed.uri (length read.now.feed.impls) (all_picked picks.now))) }
+    ensures numbered { OnOk result (AreNumbered offers.old.feeds offers.old.offered.items → AreNumbered offers.new.feeds offers.new.offered.items) }
+{
+    let front = read.feed.impls.len();
+    // No memory holds more places than numbers tell apart.
+    if picks.len() > usize::MAX - front {
+        return Err(Memory);
+    }
+    for n in 0..picks.len() {
+        let place = (front + n) as u64;
+        offer_row(
+            alloc, wanted, interface, read, &picks[n], place, feed, offers,
+        )?;
+    }
+    Ok(())
 }
 
 // Adds what a feed has for an interface.
@@ -195,18 +313,27 @@ fn offer(
     read: &ReadFeed,
     offers: &mut Offers,
 ) -> Result<(), Memory>
-    requires { AreShared read.now.shares read.now.feed.impls }
+    requires { HasShares read.now }
     ensures held { OnOk result (candidates_of offers.new.offered.items ≡ candidates_of offers.old.offered.items
-        ++ held_by wanted.now.req wanted.now.policy (in_set wanted.now.stored) interface.now read.now.feed) }
+        ++ held_by wanted.now.req wanted.now.policy (store_of wanted.now) interface.now read.now.feed) }
     ensures numbered { OnOk result (AreNumbered offers.old.feeds offers.old.offered.items → AreNumbered offers.new.feeds offers.new.offered.items) }
 {
     let feed = offers.feeds.len();
     let shares = read.shares.share()?;
     offers.feeds.push(shares)?;
-    for place in 0..read.feed.impls.len() {
-        offer_at(alloc, wanted, interface, read, place, feed, offers)?;
-    }
-    Ok(())
+    offer_impls(alloc, wanted, interface, read, feed, offers)?;
+    let impls = read.feed.impls.as_slice();
+    let natives = read.feed.natives.as_slice();
+    let picks = wanted.rows().picks(alloc, impls, natives)?;
+    offer_rows(
+        alloc,
+        wanted,
+        interface,
+        read,
+        picks.as_slice(),
+        feed,
+        offers,
+    )
 }
 
 // Adds what the feed of an address has for an interface, where it is there.
@@ -219,7 +346,7 @@ fn offer_from(
     offers: &mut Offers,
 ) -> Result<(), Memory>
     ensures held { OnOk result (candidates_of offers.new.offered.items ≡ candidates_of offers.old.offered.items
-        ++ held wanted.now.req wanted.now.policy (in_set wanted.now.stored) interface.now (cons_option (find_feed table.now uri.now) [])) }
+        ++ held wanted.now.req wanted.now.policy (store_of wanted.now) interface.now (cons_option (find_feed table.now uri.now) [])) }
     ensures numbered { OnOk result (AreNumbered offers.old.feeds offers.old.offered.items → AreNumbered offers.new.feeds offers.new.offered.items) }
 {
     match table.find(uri) {
@@ -228,15 +355,17 @@ fn offer_from(
     }
 }
 
-/// The candidates of an interface, in the order of its feeds, which have these addresses.
+/// The candidates of an interface, in the order of its feeds, which have these addresses. Where a front of the feeds has more than a
+/// loading may have, that is refused at once, since feeds may name many packages.
 pub fn gather(
     alloc: Global,
     wanted: &Wanted,
     interface: &Text,
     table: &FeedTable,
     here: &[Text],
-) -> Result<Offers, Memory>
-    ensures held { IfOk result (λ os. candidates_of os.offered.items ≡ held wanted.now.req wanted.now.policy (in_set wanted.now.stored) interface.now (feeds_at table.now here.now)) }
+) -> Result<Offers, LoadFault>
+    ensures held { MatchResult result (λ os. candidates_of os.offered.items ≡ held wanted.now.req wanted.now.policy (store_of wanted.now) interface.now (feeds_at table.now here.now))
+        (StopsGathering (held wanted.now.req wanted.now.policy (store_of wanted.now) interface.now (feeds_at table.now here.now))) }
     ensures numbered { IfOk result (λ os. AreNumbered os.feeds os.offered.items) }
 {
     let offered = Vec::new(alloc);
@@ -244,6 +373,10 @@ pub fn gather(
     let mut offers = Offers { offered, feeds };
     for uri in here {
         offer_from(alloc, wanted, interface, table, uri, &mut offers)?;
+        if offers.offered.len() > MOST_CANDIDATES {
+            let limit = MOST_CANDIDATES as u64;
+            return Err(LoadFault::TooManyCandidates { limit });
+        }
     }
     Ok(offers)
 }

@@ -1,11 +1,12 @@
-//! Candidates in rank order. What a policy makes of each is computed once; the places of languages, and the number of a version
-//! among those of the interface, once for all candidates that share them.
+//! Candidates in rank order. What a policy makes of each is computed once; the places of languages, and the numbers of a version
+//! among those of the interface, once for all candidates that share them. Versions of packages, which share none, have numbers of their
+//! own.
 ghost use Rattle.std.specs.Prelude.{◌≡◌, ◌<◌, ℕ, List as Items, map, All, length, get_or, slice_get, Some, IfOk};
 ghost use Rattle.zi_feed.specs.declared.shares.Shares.{Shares as SharedThings};
 ghost use Rattle.zi_feed.specs.Shares.{Grows};
 ghost use Rattle.zi_rank.specs.Ratings.{places_of};
 ghost use Rattle.zi_universe.specs.Stages.{IsSorting};
-ghost use Rattle.zi_universe.specs.Offering.{candidates_of, IsNumbered, AreNumbered, langs_at, HasLangs, FindsVersions, FindsPlaces, texts_of, versions_in, ArePlacedIn, AreNumbersOf, HaveRatings};
+ghost use Rattle.zi_universe.specs.Offering.{candidates_of, IsNumbered, AreNumbered, langs_at, HasLangs, FindsVersions, FindsPlaces, texts_of, versions_in, ArePlacedIn, AreNumbersOf, HaveRatings, least};
 
 use crate::numbers::numbers_of;
 use crate::offers::{Key, Offered};
@@ -15,7 +16,7 @@ use zi_feed::Shares;
 use zi_inherited::Shared;
 use zi_policy::Policy;
 use zi_rank::laws::ranks_are_strict;
-use zi_rank::{Places, Rating, compare_numbered};
+use zi_rank::{Places, Rating, VersionNumber, compare_numbered};
 use zi_text::{List, Memory, Text};
 use zi_version::Version;
 
@@ -24,8 +25,8 @@ use zi_version::Version;
 pub struct RatedCandidate {
     /// What the policy makes of it.
     pub rating: Rating,
-    /// How many versions of the interface are less than its own.
-    pub number: usize,
+    /// How many versions of the interface are less than its own, by their first dotted lists and by the whole.
+    pub number: VersionNumber,
     /// The candidate.
     pub one: Offered,
 }
@@ -47,7 +48,45 @@ pub fn shares_at<'a>(feeds: &'a [Shared<Shares>], feed: usize) -> &'a Shares
     feeds[feed].as_ref()
 }
 
-// The place of a candidate's version among those found so far; it is added where it is new.
+// Adds the version of a candidate; the answer is its place.
+fn add_version<'v>(one: &'v Offered, versions: &mut Vec<&'v Version>) -> Result<usize, Memory>
+    ensures grows { IfOk result (λ _. Grows (texts_of versions.old.items) (texts_of versions.new.items)) }
+    ensures at { IfOk result (λ n. slice_get (texts_of versions.new.items) n ≡ Some one.now.candidate.standing.version) }
+{
+    let place = versions.len();
+    versions.push(&one.candidate.standing.version)?;
+    Ok(place)
+}
+
+// The place of a candidate's version, which has this number, among those found so far; it is added where it is new.
+fn place_by<'v>(
+    feeds: &[Shared<Shares>],
+    one: &'v Offered,
+    number: usize,
+    known: &mut HashMap<Key, usize>,
+    versions: &mut Vec<&'v Version>,
+) -> Result<usize, Memory>
+    requires there { IsNumbered feeds.now one.now }
+    requires number { one.now.version ≡ Some number }
+    requires finds { FindsVersions feeds.now known.old.entries (texts_of versions.old.items) }
+    ensures grows { IfOk result (λ _. Grows (texts_of versions.old.items) (texts_of versions.new.items)) }
+    ensures finds { IfOk result (λ _. FindsVersions feeds.now known.new.entries (texts_of versions.new.items)) }
+    ensures at { IfOk result (λ n. slice_get (texts_of versions.new.items) n ≡ Some one.now.candidate.standing.version) }
+{
+    let key = Key {
+        feed: one.feed,
+        number,
+    };
+    if let Some(place) = known.get(&key) {
+        return Ok(*place);
+    }
+    let place = versions.len();
+    versions.push(&one.candidate.standing.version)?;
+    known.insert(key, place)?;
+    Ok(place)
+}
+
+// The place of a candidate's version among those found so far; it is added where it is new, or has no number.
 fn place_of<'v>(
     feeds: &[Shared<Shares>],
     one: &'v Offered,
@@ -60,17 +99,10 @@ fn place_of<'v>(
     ensures finds { IfOk result (λ _. FindsVersions feeds.now known.new.entries (texts_of versions.new.items)) }
     ensures at { IfOk result (λ n. slice_get (texts_of versions.new.items) n ≡ Some one.now.candidate.standing.version) }
 {
-    let key = Key {
-        feed: one.feed,
-        number: one.numbers.version,
-    };
-    if let Some(place) = known.get(&key) {
-        return Ok(*place);
+    match one.version {
+        None => add_version(one, versions),
+        Some(number) => place_by(feeds, one, number, known, versions),
     }
-    let place = versions.len();
-    versions.push(&one.candidate.standing.version)?;
-    known.insert(key, place)?;
-    Ok(place)
 }
 
 // What is known of one feed is forgotten at the next, since each has versions of its own.
@@ -105,9 +137,13 @@ fn place_all<'v>(
 }
 
 // What numbers have at these places.
-fn numbers_at(alloc: Global, numbers: &[usize], places: &[usize]) -> Result<Vec<usize>, Memory>
+fn numbers_at(
+    alloc: Global,
+    numbers: &[VersionNumber],
+    places: &[usize],
+) -> Result<Vec<VersionNumber>, Memory>
     requires { All (λ n. n < length numbers.now) places.now }
-    ensures { IfOk result (λ ns. ns.items ≡ map (λ n. get_or numbers.now n 0) places.now) }
+    ensures { IfOk result (λ ns. ns.items ≡ map (λ n. get_or numbers.now n least) places.now) }
 {
     let mut found = Vec::with_capacity(alloc, places.len())?;
     for place in places {
@@ -121,7 +157,7 @@ fn numbers_for(
     alloc: Global,
     feeds: &[Shared<Shares>],
     offered: &[Offered],
-) -> Result<Vec<usize>, Memory>
+) -> Result<Vec<VersionNumber>, Memory>
     requires { AreNumbered feeds.now offered.now }
     ensures { IfOk result (λ ns. AreNumbersOf (versions_in offered.now) ns.items) }
 {
@@ -190,7 +226,7 @@ fn rate(
     alloc: Global,
     feeds: &[Shared<Shares>],
     offered: Vec<Offered>,
-    numbers: &[usize],
+    numbers: &[VersionNumber],
     policy: &Policy,
 ) -> Result<Vec<RatedCandidate>, Memory>
     requires numbered { AreNumbered feeds.now offered.items }
@@ -204,7 +240,7 @@ fn rate(
     for one in offered {
         let key = Key {
             feed: one.feed,
-            number: one.numbers.langs,
+            number: one.langs,
         };
         let places = places_of(feeds, key, policy, &mut known)?;
         let rating = Rating::placed(places, &one.candidate.standing, policy);

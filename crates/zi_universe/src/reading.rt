@@ -2,7 +2,8 @@
 ghost use Rattle.std.specs.Prelude.{◌≡◌, ◌≢◌, ◌∷◌, [], IfOk, MatchResult};
 ghost use Rattle.zi_outside.specs.Views.{holding};
 ghost use Rattle.zi_universe.specs.Loading.{no_feed, AreAsked};
-ghost use Rattle.zi_feed.specs.Shares.{AreShared};
+ghost use Rattle.zi_feed.specs.Shares.{AreShared, NativesAreShared};
+ghost use Rattle.zi_universe.specs.Tables.{HasShares};
 ghost use Rattle.zi_universe.specs.Stages.{SaysActive, Fetches, RefusesBytes, feed_got};
 ghost use Rattle.zi_universe.specs.Asked.{StopsAt};
 
@@ -25,7 +26,7 @@ fn read_bytes(
     bytes: &[u8],
 ) -> Result<ReadFeed, LoadFault>
     ensures reads { MatchResult (feed_got result) (SaysActive policy.now uri bytes.now) (RefusesBytes uri bytes.now) }
-    ensures shares { IfOk result (λ r. AreShared r.shares r.feed.impls) }
+    ensures shares { IfOk result (λ r. HasShares r) }
 {
     let tree = match zi_doc::read(alloc, bytes) {
         Ok(tree) => tree,
@@ -45,9 +46,9 @@ fn read_bytes(
     }
 }
 
-// What no implementation shares.
+// What no implementation and no package shares.
 fn no_shares(alloc: Global) -> Result<Shared<Shares>, Memory>
-    ensures { IfOk result (λ s. AreShared s []) }
+    ensures { IfOk result (λ s. AreShared s [] × NativesAreShared s []) }
 {
     let shares = Shares::nothing(alloc)?;
     let held = Shared::new(alloc, shares)?;
@@ -61,19 +62,21 @@ fn absent(
     uri: Text,
     shares: Shared<Shares>,
 ) -> Result<ReadFeed, LoadFault>
-    requires { AreShared shares [] }
+    requires { AreShared shares [] × NativesAreShared shares [] }
     ensures reads { MatchResult (feed_got result) (λ feed. (uri ≢ root.now) × (feed ≡ no_feed uri)) (λ e. (uri ≡ root.now) × (e ≡ LoadFault.NoRootFeed)) }
-    ensures shares { IfOk result (λ r. AreShared r.shares r.feed.impls) }
+    ensures shares { IfOk result (λ r. HasShares r) }
 {
     if &uri == root {
         return Err(LoadFault::NoRootFeed);
     }
     let imports = List::new(alloc);
     let impls = List::new(alloc);
+    let natives = List::new(alloc);
     let feed = Feed {
         uri,
         imports,
         impls,
+        natives,
     };
     Ok(ReadFeed { feed, shares })
 }
@@ -88,7 +91,7 @@ pub fn fetch<F: Feeds>(
     feeds: &mut F,
 ) -> Result<ReadFeed, LoadFault>
     ensures fetched { Fetches (holding (F.seen feeds.old)) root.now policy.now uri.now (feed_got result) }
-    ensures shares { IfOk result (λ r. AreShared r.shares r.feed.impls) }
+    ensures shares { IfOk result (λ r. HasShares r) }
     ensures asks { MatchResult result (λ _. AreAsked (uri.now ∷ []) (F.seen feeds.old) (F.seen feeds.new)) (λ e. StopsAt uri.now (F.seen feeds.old) e (F.seen feeds.new)) }
 {
     let named = uri.copy(alloc)?;

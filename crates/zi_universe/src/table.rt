@@ -1,8 +1,7 @@
-//! The feeds got so far, by their addresses, each with what its implementations share.
+//! The feeds got so far, by their addresses, each with what its implementations and packages share.
 ghost use Rattle.std.specs.Prelude.{◌≡◌, ◌∷◌, [], ◌++◌, false, OnOk, IfSome, option_copied, option_map, length};
 ghost use Rattle.zi_policy.specs.Platform.{listed};
-ghost use Rattle.zi_feed.specs.Shares.{AreShared};
-ghost use Rattle.zi_universe.specs.Tables.{addresses, find_feed};
+ghost use Rattle.zi_universe.specs.Tables.{HasShares, addresses, find_feed};
 
 use indexmap::IndexMap;
 use std::alloc::Global;
@@ -25,14 +24,14 @@ impl Drop for FeedTable {
 impl Model for FeedTable {
     ghost use Rattle.std.specs.Prelude.{List, map, All, ◌≡◌};
     ghost use Rattle.zi_feed.specs.declared.feed.Feed.{Feed as AFeed};
-    ghost use Rattle.zi_feed.specs.Shares.{AreShared};
+    ghost use Rattle.zi_universe.specs.Tables.{HasShares};
 
     ghost Value = { List AFeed };
 
     ghost view = { λ t. map (λ e. e.1.feed) t.feeds.entries };
 
-    // each stands under its address, and the shares are those of its implementations
-    ghost invariant = { λ t. All (λ e. (e.0 ≡ e.1.feed.uri) × AreShared e.1.shares e.1.feed.impls) t.feeds.entries };
+    // each stands under its address, and the shares are those of what it says
+    ghost invariant = { λ t. All (λ e. (e.0 ≡ e.1.feed.uri) × HasShares e.1) t.feeds.entries };
 }
 
 impl FeedTable {
@@ -52,10 +51,10 @@ impl FeedTable {
         self.feeds.len()
     }
 
-    /// The feed of an address, where it is there, with what its implementations share.
+    /// The feed of an address, where it is there, with what its implementations and packages share.
     pub fn find(&self, uri: &Text) -> Option<&ReadFeed>
         ensures feed { option_map (λ r. r.feed) (option_copied result) ≡ find_feed self.now uri.now }
-        ensures shared { IfSome result (λ r. AreShared r.now.shares r.now.feed.impls) }
+        ensures shared { IfSome result (λ r. HasShares r.now) }
     {
         self.feeds.get(uri)
     }
@@ -70,7 +69,7 @@ impl FeedTable {
     /// Adds a feed whose address isn't there yet.
     pub fn push(&mut self, alloc: Global, read: ReadFeed) -> Result<(), Memory>
         requires new { listed read.feed.uri (addresses self.old) ≡ false }
-        requires shared { AreShared read.shares read.feed.impls }
+        requires shared { HasShares read }
         ensures { OnOk result (self.new ≡ self.old ++ read.feed ∷ []) }
     {
         let uri = read.feed.uri.copy(alloc)?;

@@ -2,9 +2,9 @@
 ghost use Rattle.std.specs.Prelude.{◌≡◌, IfOk, OnOk};
 ghost use Rattle.std.specs.List.{list_any};
 ghost use Rattle.zi_digest.specs.Name.{spelling};
-ghost use Rattle.zi_universe.specs.Naming.{in_set};
 ghost use Rattle.zi_universe.specs.Candidates.{stability_of, is_stored, within_limits};
-ghost use Rattle.zi_universe.specs.Loading.{task_of, names_of};
+ghost use Rattle.zi_universe.specs.Naming.{in_set};
+ghost use Rattle.zi_universe.specs.Loading.{store_of, task_of, names_of};
 ghost use Rattle.zi_universe.specs.Lookups.{all_admit, FindsStabilities, FindsLimits, AddsLimit};
 
 use crate::naming::spelled;
@@ -14,6 +14,7 @@ use std::alloc::Global;
 use std::collections::HashMap;
 use std::marker::Model;
 use zi_digest::DigestName;
+use zi_packages::{Packages, Rows};
 use zi_parts::Impl;
 use zi_policy::{Override, Policy, Stability};
 use zi_text::{List, Memory, Text};
@@ -28,12 +29,14 @@ pub struct Overridden<'a> {
     pub id: &'a str,
 }
 
-/// What a loading is for: what is wanted, by which policy, and which trees are stored. Contracts see these three. The
-/// stabilities that overrides give, the limits of an interface and the names of the trees are each found in constant time.
+/// What a loading is for: what is wanted, by which policy, which trees are stored, and which packages the operating system has.
+/// Contracts see these four. The stabilities that overrides give, the limits of an interface, the names of the trees and the rows of
+/// a package are each found in constant time.
 pub struct Wanted<'a> {
     req: &'a Requirement,
     policy: &'a Policy,
     stored: IndexSet<Text>,
+    rows: Rows<'a>,
     stabilities: HashMap<Overridden<'a>, Stability>,
     limits: HashMap<&'a str, List<&'a Limit>>,
 }
@@ -45,6 +48,7 @@ impl<'a> Drop for Wanted<'a> {
             req: _,
             policy: _,
             stored: _,
+            rows: _,
             stabilities: _,
             limits: _,
         } = self;
@@ -57,7 +61,7 @@ impl<'a> Model for Wanted<'a> {
 
     ghost Value = { Wish };
 
-    ghost view = { λ w. record { req = w.req.now; policy = w.policy.now; stored = w.stored.keys } };
+    ghost view = { λ w. record { req = w.req.now; policy = w.policy.now; stored = w.stored.keys; packages = w.rows } };
 
     ghost invariant = { λ w. FindsStabilities w.policy.now.overrides w.stabilities.entries × FindsLimits w.req.now.limits w.limits.entries };
 }
@@ -142,22 +146,26 @@ fn all_admit(limits: &[&Limit], version: &Version) -> bool
 }
 
 impl<'a> Wanted<'a> {
-    /// What is wanted by this policy, where the trees of these digests are stored. Memory is the one refusal.
+    /// What is wanted by this policy, where the trees of these digests are stored and the operating system has these packages. Memory is
+    /// the one refusal.
     pub fn new(
         alloc: Global,
         req: &'a Requirement,
         policy: &'a Policy,
         stored: &[DigestName],
+        packages: &'a Packages,
     ) -> Result<Wanted<'a>, Memory>
-        ensures { IfOk result (λ w. task_of w ≡ record { req = req.entry.now; policy = policy.entry.now; stored = names_of stored.now }) }
+        ensures { IfOk result (λ w. task_of w ≡ record { req = req.entry.now; policy = policy.entry.now; stored = names_of stored.now packages.entry.now }) }
     {
         let stored = spelled(alloc, stored)?;
+        let rows = Rows::new(alloc, packages)?;
         let stabilities = stabilities_of(alloc, policy.overrides.as_slice())?;
         let limits = limits_of(alloc, req.limits.as_slice())?;
         Ok(Wanted {
             req,
             policy,
             stored,
+            rows,
             stabilities,
             limits,
         })
@@ -177,10 +185,17 @@ impl<'a> Wanted<'a> {
         self.policy
     }
 
+    /// The packages of the operating system.
+    pub fn rows(&self) -> &Rows<'a>
+        ensures { result.now ≡ self.now.packages }
+    {
+        &self.rows
+    }
+
     /// Whether the tree of an implementation is stored.
     #[tactic(auto, unfolding(crate::specs::Candidates::is_stored))]
     pub fn is_stored(&self, alloc: Global, imp: &Impl) -> Result<bool, Memory>
-        ensures { IfOk result (λ b. b ≡ is_stored (in_set self.now.stored) imp.now) }
+        ensures { IfOk result (λ b. b ≡ is_stored (store_of self.now) imp.now) }
     {
         has_stored(alloc, &self.stored, imp.digests.as_slice())
     }

@@ -1,14 +1,13 @@
 -- What is read of elements can be carried, where each text and each value in them can be.
 use Rattle.std.specs.Prelude.{if◌then◌else◌, option_map, option_and_then, unwrap_or, not}
-use Rattle.std.proofs.Common.{◌≡◌, ℕ, Bool, true, false, cond, List, [], ◌∷◌, ◌++◌, map, Option, Some, None, refl}
+use Rattle.std.proofs.Common.{ℕ, Bool, true, false, cond, List, [], ◌∷◌, ◌++◌, map, Option, Some, None}
 use Rattle.std.specs.List.{find, filter}
-use Rattle.std.specs.Option.{option_or}
 use Rattle.zi_elements.specs.declared.element.Attr.{Attr}
 use Rattle.zi_elements.specs.declared.element.Element.{Element}
-use Rattle.zi_elements.specs.Forest.{Forest, none, words, child, Elem, elements, text_in, is_attribute, value_among, attribute, value, nodes_view, element_view, whole}
+use Rattle.zi_elements.specs.Forest.{Forest, none, words, child, Elem, elements, text_in, is_attribute, attribute, value, element_view, whole}
 use Rattle.zi_address.specs.Address.{resolved}
 use Rattle.zi_reading.specs.Ways.{Ways, InFeed}
-use Rattle.zi_reading.specs.Reading.{meaning, stands, is_closed, is_part, parts, those, named}
+use Rattle.zi_reading.specs.Reading.{meaning, stands, is_closed, is_part, parts, named}
 use Rattle.zi_faults.specs.Sites.{Site, here, under, sites, path}
 use Rattle.zi_faults.specs.Said.{inherited, Said, said}
 use Rattle.zi_parts.specs.Values.{address_in}
@@ -16,7 +15,7 @@ use Rattle.zi_reading.specs.Words.{is_among}
 use Rattle.zi_doc_laws.specs.Trees.{IsCarried, HasCarriedValues, HasCarriedTexts}
 use Rattle.zi_doc_laws.proofs.CarriedLaws.{none_carried, both_carried}
 use Rattle.zi_sels_laws.proofs.LikeLaws.{Each, each_append}
-use Rattle.zi_sels_laws.proofs.FreeLaws.{each_weak, each_map, sub_filter}
+use Rattle.zi_sels_laws.proofs.FreeLaws.{sub_filter}
 use Rattle.zi_written_laws.proofs.TextLaws.{IsCarriedOr, or_carried, either_carried}
 use Rattle.zi_written_laws.proofs.AddressLaws.{resolved_carried}
 

@@ -1,8 +1,7 @@
 -- What a feed says can be carried, where its address and all in its tree can be.
 use Rattle.std.specs.Prelude.{if◌then◌else◌, option_map, option_and_then, unwrap_or, is_some}
-use Rattle.std.proofs.Common.{◌≡◌, ℕ, Bool, true, false, ◌||◌, List, [], ◌∷◌, ◌++◌, map, Option, Some, None, codes, refl, subst, arith}
+use Rattle.std.proofs.Common.{◌≡◌, ℕ, Bool, true, false, ◌||◌, List, [], ◌∷◌, ◌++◌, Option, Some, None, codes, refl, subst, arith}
 use Rattle.std.specs.List.{filter, filter_map, cons_option, flat_map, list_any}
-use Rattle.std.specs.Option.{option_or}
 use Rattle.zi_text.specs.Pieces.{pieces}
 use Rattle.zi_version.specs.Value.{value as version_value}
 use Rattle.zi_version.specs.Range.{a_version}
@@ -18,15 +17,18 @@ use Rattle.zi_faults.specs.Said.{Said, said, version_text, begins_path, local_te
 use Rattle.zi_parts.specs.Values.{deps_of, commands_of, bindings_of}
 use Rattle.zi_feed.specs.Impls.{are_alike, is_run, main_command, with_main, local_of, impl_with, impl_from, impl_of, import_of}
 use Rattle.zi_faults.specs.Faults.{implementations, counts}
+use Rattle.zi_feed.specs.Natives.{native_of, counts_native, packages}
 use Rattle.zi_feed.specs.Feeds.{feed_sites, feed_of}
 use Rattle.zi_parts.specs.declared.types.Command.{Command}
 use Rattle.zi_parts.specs.declared.types.Impl.{Impl}
+use Rattle.zi_parts.specs.declared.types.Native.{Native}
 use Rattle.zi_parts.specs.declared.types.Import.{Import}
 use Rattle.zi_feed.specs.declared.feed.Feed.{Feed}
 use Rattle.zi_doc_laws.specs.Trees.{IsCarried}
 use Rattle.zi_doc_laws.proofs.CarriedLaws.{none_carried, both_carried}
 use Rattle.zi_sels_laws.proofs.LikeLaws.{Each, each_append}
 use Rattle.zi_sels_laws.proofs.FreeLaws.{each_front, each_weak, each_map, each_flat, sub_filter}
+use Rattle.zi_sels_laws.proofs.FeedLaws.{package_of}
 use Rattle.zi_written_laws.proofs.TextLaws.{shown_carried, cut_text, IsCarriedOr, or_carried, either_carried}
 use Rattle.zi_written_laws.proofs.AddressLaws.{placed_carried}
 use Rattle.zi_written_laws.proofs.ElemLaws.{IsCarriedElem, attribute_carried, value_carried, address_carried, IsCarriedAlong, sites_carried, IsCarriedSaid, said_carried}
@@ -110,6 +112,7 @@ pub record IsCarriedImpl (i : Impl) : Type 0 where
   pub version : IsCarried i.version
   pub arch : IsCarriedArch i.arch
   pub released : IsCarriedOr i.released
+  pub named : IsCarriedOr (package_of i)
   pub local : IsCarriedOr i.local
   pub deps : Each IsCarriedDep i.deps
   pub commands : Each IsCarriedCommand i.commands
@@ -132,6 +135,7 @@ read_carried uri t v u h version =
       version = version;
       arch = arch_carried (said (path t)).arch s.arch;
       released = s.released;
+      named = tt;
       local = local_carried uri (said (path t)) t.element u s e;
       deps = each_flat IsCarriedDep (deps_of ways) IsCarriedElem (deps_carried uri u) (path t) h;
       commands = main_carried (said (path t)).main (latest are_alike cs) s.main
@@ -159,12 +163,34 @@ impls_carried uri (t ∷ ts) u h = either (impl_of (InFeed uri) t) refl (impls_c
     either None e more = more
     either (Some i) e more = (impl_carried uri t u h.0 i e, more)
 
+-- Packages.
+
+pub record IsCarriedNative (n : Native) : Type 0 where
+  pub released : IsCarriedOr n.released
+  pub deps : Each IsCarriedDep n.deps
+  pub commands : Each IsCarriedCommand n.commands
+  pub bindings : Each IsCarriedBinding n.bindings
+
+native_carried : (uri : List ℕ) (t : Site) → IsCarried uri → IsCarriedAlong t → IsCarriedNative (native_of (InFeed uri) t)
+unfolding native_of
+native_carried uri t u h =
+    let ways : Ways = InFeed uri in
+    let s : IsCarriedSaid (said (path t)) = said_carried (path t) h in
+    let cs = flat_map (commands_of ways) (path t) in record {
+      released = s.released;
+      deps = each_flat IsCarriedDep (deps_of ways) IsCarriedElem (deps_carried uri u) (path t) h;
+      commands = main_carried (said (path t)).main (latest are_alike cs) s.main
+          (each_latest IsCarriedCommand cs (each_flat IsCarriedCommand (commands_of ways) IsCarriedElem (commands_carried uri u) (path t) h));
+      bindings = each_flat IsCarriedBinding (bindings_of ways) IsCarriedElem (bindings_carried ways) (path t) h;
+    }
+
 -- Feeds.
 
 pub record IsCarriedFeed (f : Feed) : Type 0 where
   pub uri : IsCarried f.uri
   pub imports : Each (λ (m : Import). IsCarried m.uri) f.imports
   pub impls : Each IsCarriedImpl f.impls
+  pub natives : Each IsCarriedNative f.natives
 
 import_carried : (uri : List ℕ) (t : Site) → IsCarried uri → IsCarriedAlong t → IsCarried (import_of (InFeed uri) t.element).uri
 unfolding import_of
@@ -180,4 +206,6 @@ feed_carried root uri u h =
       imports = each_map (λ (m : Import). IsCarried m.uri) (λ (t : Site). import_of (InFeed uri) t.element) feeds
           (each_weak IsCarriedAlong (λ (t : Site). IsCarried (import_of (InFeed uri) t.element).uri) (λ t k. import_carried uri t u k) feeds (sub_filter IsCarriedAlong (λ (t : Site). is (codes "feed") t.element) ss along));
       impls = impls_carried uri (implementations ss) u (sub_filter IsCarriedAlong (λ t. counts t.element) ss along);
+      natives = each_map IsCarriedNative (native_of (InFeed uri)) (packages ss)
+          (each_weak IsCarriedAlong (λ t. IsCarriedNative (native_of (InFeed uri) t)) (λ t k. native_carried uri t u k) (packages ss) (sub_filter IsCarriedAlong (λ t. counts_native t.element) ss along));
     }

@@ -3,6 +3,7 @@ mod AddressLaws
 mod ElemLaws
 mod PartLaws
 mod ImplLaws
+mod RowLaws
 mod UniverseLaws
 mod DigitLaws
 mod MadeLaws

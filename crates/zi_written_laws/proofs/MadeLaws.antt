@@ -1,6 +1,6 @@
 -- The selection of a candidate can be carried, where the candidate and the address of its interface can be.
 use Rattle.std.specs.Prelude.{option_map, filter}
-use Rattle.std.proofs.Common.{◌≡◌, ℕ, List, [], ◌∷◌, ◌++◌, map, Option, Some, None, codes, refl}
+use Rattle.std.proofs.Common.{ℕ, List, ◌++◌, Option, Some, None, codes, refl}
 use Rattle.zi_policy.specs.declared.types.Arch.{Arch}
 use Rattle.zi_policy.specs.declared.types.Stability.{Stability}
 use Rattle.zi_policy.specs.declared.types.Stability.TheVariants.{Insecure, Buggy, Developer, Testing, Stable, Packaged, Preferred}
@@ -29,6 +29,7 @@ pub record IsCarriedItem (item : Selection) : Type 0 where
   pub id : IsCarried item.id
   pub version : IsCarried item.version
   pub from_feed : IsCarried item.from_feed
+  pub named : IsCarriedOr item.«package»
   pub local : IsCarriedOr item.local
   pub arch : IsCarriedOr item.arch
   pub released : IsCarriedOr item.released
@@ -59,7 +60,7 @@ met_carried u s ds h =
 
 runner_carried : (o : Option Runner) → Each IsCarriedRunner (optional o) → Each IsCarriedRunner (optional (option_map plain_runner o))
 runner_carried None h = tt
-runner_carried (Some r) h = (record { dep = plain_carried r.dep h.0.dep; commands = h.0.commands; words = h.0.words }, tt)
+runner_carried (Some r) h = (record { dep = plain_carried r.dep h.0.dep; wanted = h.0.wanted; words = h.0.words }, tt)
 
 used_carried : (u : List Interface) (s : Choice) (c : Command) → IsCarriedCommand c → IsCarriedCommand (used_command u s c)
 used_carried u s c h = record {
@@ -83,6 +84,7 @@ made_carried u s w i uri k known h = record {
   id = h.imp.id;
   version = h.imp.version;
   from_feed = h.feed;
+  named = h.imp.named;
   local = h.imp.local;
   arch = arch_carried k.imp.arch h.imp.arch;
   released = h.imp.released;

@@ -1,13 +1,13 @@
 -- What a feed's elements say as parts can be carried: bindings, dependencies, words, runners, commands.
-use Rattle.std.specs.Prelude.{if◌then◌else◌, option_map, option_and_then, unwrap_or}
-use Rattle.std.proofs.Common.{◌≡◌, ℕ, Bool, true, false, List, [], ◌∷◌, ◌++◌, map, Option, Some, None, codes, refl}
+use Rattle.std.specs.Prelude.{if◌then◌else◌, option_and_then, unwrap_or}
+use Rattle.std.proofs.Common.{ℕ, Bool, true, false, List, map, codes, refl, sym, subst}
 use Rattle.zi_elements.specs.Forest.{Elem, attribute, has, value, text_in}
-use Rattle.zi_reading.specs.Words.{listed, first, optional}
-use Rattle.zi_parts.specs.Values.{mode_of, extra_of, binding_of, bindings_of, dep_of, deps_of, word_of, args_of, runner_of, command_of, commands_of}
+use Rattle.zi_reading.specs.Words.{listed, optional}
+use Rattle.zi_parts.specs.Values.{mode_of, extra_of, binding_of, bindings_of, command_named, dep_binding_of, dep_bindings_of, dep_of, deps_of, word_of, args_of, runner_of, command_of, commands_of}
 use Rattle.zi_reading.specs.Ways.{Ways, InFeed}
 use Rattle.zi_reading.specs.Reading.{is, parts, binding_names, named}
 use Rattle.zi_parts.specs.declared.types.Binding.{Binding}
-use Rattle.zi_parts.specs.declared.types.Binding.TheVariants.{Env, Unbuilt}
+use Rattle.zi_parts.specs.declared.types.Binding.TheVariants.{Env, ExecVar, ExecPath, Unbuilt}
 use Rattle.zi_parts.specs.declared.types.Extra.{Extra}
 use Rattle.zi_parts.specs.declared.types.Extra.TheVariants.{Insert, Value}
 use Rattle.zi_parts.specs.declared.types.Mode.{Mode}
@@ -18,8 +18,9 @@ use Rattle.zi_parts.specs.declared.types.Word.TheVariants.{Arg, ForEach}
 use Rattle.zi_parts.specs.declared.types.Runner.{Runner}
 use Rattle.zi_parts.specs.declared.types.Command.{Command}
 use Rattle.zi_doc_laws.specs.Trees.{IsCarried}
-use Rattle.zi_doc_laws.proofs.CarriedLaws.{none_carried}
+use Rattle.zi_sels.specs.Written.{command_wanted}
 use Rattle.zi_sels_laws.proofs.LikeLaws.{Each}
+use Rattle.zi_sels_laws.proofs.SoundLaws.{own_wanted}
 use Rattle.zi_sels_laws.proofs.FreeLaws.{each_weak, each_map, each_first}
 use Rattle.zi_written_laws.proofs.TextLaws.{shown_carried, IsCarriedOr, or_carried}
 use Rattle.zi_written_laws.proofs.ElemLaws.{IsCarriedElem, attribute_carried, value_carried, text_carried, parts_carried, named_carried, address_carried}
@@ -42,6 +43,8 @@ IsCarriedExtra (Value text) = IsCarried text
 
 abbrev pub IsCarriedBinding : Binding → Type 0
 IsCarriedBinding (Env name extra mode separator default) = IsCarried name × IsCarriedExtra extra × IsCarried separator × IsCarriedOr default
+IsCarriedBinding (ExecVar name command) = IsCarried name × IsCarried command
+IsCarriedBinding (ExecPath name command) = IsCarried name × IsCarried command
 IsCarriedBinding (Unbuilt element) = Unit {0}
 
 extra_carried : (e : Elem) → IsCarriedElem e → IsCarriedExtra (extra_of e)
@@ -67,6 +70,24 @@ binding_carried e h = by (is (codes "environment") e) (unwrap_or (option_and_the
 
 pub bindings_carried : (ways : Ways) (e : Elem) → IsCarriedElem e → Each IsCarriedBinding (bindings_of ways e)
 bindings_carried ways e h = each_made IsCarriedBinding binding_of binding_carried (named ways binding_names e) (named_carried ways binding_names e h)
+
+-- Those of a dependency.
+
+command_carried_in : (e : Elem) → IsCarriedElem e → IsCarried (command_named e)
+command_carried_in e h = or_carried (attribute (codes "command") e) (codes "run") (attribute_carried (codes "command") e h) run_carried
+
+dep_binding_carried : (e : Elem) → IsCarriedElem e → IsCarriedBinding (dep_binding_of e)
+unfolding dep_binding_of
+dep_binding_carried e h = by (is (codes "executable-in-var") e) (is (codes "executable-in-path") e)
+  where
+    by : (v p : Bool)
+        → IsCarriedBinding (if v then ExecVar (value (codes "name") e) (command_named e) else if p then ExecPath (value (codes "name") e) (command_named e) else binding_of e)
+    by true p = (value_carried (codes "name") e h, command_carried_in e h)
+    by false true = (value_carried (codes "name") e h, command_carried_in e h)
+    by false false = binding_carried e h
+
+dep_bindings_carried : (ways : Ways) (e : Elem) → IsCarriedElem e → Each IsCarriedBinding (dep_bindings_of ways e)
+dep_bindings_carried ways e h = each_made IsCarriedBinding dep_binding_of dep_binding_carried (named ways binding_names e) (named_carried ways binding_names e h)
 
 -- Words.
 
@@ -98,7 +119,7 @@ pub record IsCarriedDep (d : Dep) : Type 0 where
 
 pub record IsCarriedRunner (r : Runner) : Type 0 where
   pub dep : IsCarriedDep r.dep
-  pub commands : Each IsCarried r.dep.commands
+  pub wanted : IsCarried (command_wanted r)
   pub words : Each IsCarriedWord r.words
 
 pub record IsCarriedCommand (c : Command) : Type 0 where
@@ -112,7 +133,7 @@ pub record IsCarriedCommand (c : Command) : Type 0 where
 module _ (uri : List ℕ) (known : IsCarried uri) where
   dep_carried : (e : Elem) → IsCarriedElem e → IsCarriedDep (dep_of (InFeed uri) e)
   unfolding dep_of
-  dep_carried e h = record { interface = address_carried uri (codes "interface") e known h; bindings = bindings_carried (InFeed uri) e h }
+  dep_carried e h = record { interface = address_carried uri (codes "interface") e known h; bindings = dep_bindings_carried (InFeed uri) e h }
 
   pub deps_carried : (e : Elem) → IsCarriedElem e → Each IsCarriedDep (deps_of (InFeed uri) e)
   deps_carried e h =
@@ -121,8 +142,8 @@ module _ (uri : List ℕ) (known : IsCarried uri) where
   runner_carried : (e : Elem) → IsCarriedElem e → IsCarriedRunner (runner_of (InFeed uri) e)
   unfolding runner_of
   runner_carried e h = record {
-    dep = record { interface = address_carried uri (codes "interface") e known h; bindings = bindings_carried (InFeed uri) e h };
-    commands = (or_carried (attribute (codes "command") e) (codes "run") (attribute_carried (codes "command") e h) run_carried, tt);
+    dep = record { interface = address_carried uri (codes "interface") e known h; bindings = dep_bindings_carried (InFeed uri) e h };
+    wanted = subst IsCarried (sym (own_wanted (InFeed uri) e)) (command_carried_in e h);
     words = args_carried (InFeed uri) e h;
   }
 

@@ -5,7 +5,7 @@ use Rattle.std.specs.List.{list_any, position_from}
 use Rattle.std.proofs.lemmas.List.Folds.{list_any-append}
 use Rattle.std.proofs.lemmas.Bool.{or_from, or_parts}
 use Rattle.zi_elements.specs.declared.element.Attr.{Attr}
-use Rattle.zi_elements.specs.Forest.{Forest, none, words, child, Elem}
+use Rattle.zi_elements.specs.Forest.{Forest, none, words, Elem}
 use Rattle.zi_names.specs.Names.{has_twice}
 use Rattle.zi_elements.specs.Namespace.{injector}
 use Rattle.zi_docout.specs.Amiss.{is_plain_name, is_carried, is_amiss_attr, is_amiss_text, same_name, texts, count, Standing, is_amiss, standing, alone, first_amiss}

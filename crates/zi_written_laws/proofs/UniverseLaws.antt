@@ -1,6 +1,6 @@
 -- What is loaded can be carried, where the address of the root can be: each interface's address is the root's or one that a feed says.
 use Rattle.std.specs.Prelude.{◌≢◌, if◌then◌else◌, MatchOption}
-use Rattle.std.proofs.Common.{◌≡◌, ℕ, zero, suc, ◌+◌, ◌<◌, ◌≤◌, Bool, true, false, ◌||◌, List, [], ◌∷◌, ◌++◌, length, take, map, get_or, Option, Some, None, refl, sym, ap, ◌∙◌, subst, add-one, arith}
+use Rattle.std.proofs.Common.{◌≡◌, ℕ, zero, suc, ◌+◌, ◌<◌, ◌≤◌, Bool, true, false, List, [], ◌∷◌, ◌++◌, length, take, map, get_or, Option, Some, None, refl, sym, ap, ◌∙◌, subst, add-one, arith}
 use Rattle.std.specs.List.{AllZip, flat_map, filter}
 use Rattle.std.proofs.lemmas.List.{take_all, take_more, length-map}
 use Rattle.zi_policy.specs.declared.types.Policy.{Policy}
@@ -19,7 +19,7 @@ use Rattle.zi_universe.specs.declared.types.Candidate.{Candidate}
 use Rattle.zi_universe.specs.declared.types.Interface.{Interface}
 use Rattle.zi_universe.specs.Naming.{Uri, Uris, with_one, joined, without_repeats, all_of, IsNamed}
 use Rattle.zi_feed.specs.Active.{active_command, active_part}
-use Rattle.zi_universe.specs.Candidates.{Store, is_followed, imports_of, standing_of, offered_from, offered_by, is_admitted, admitted_by, admitted, asks, asked, asked_by_runner, asked_by_command, asked_by_impl, asked_by}
+use Rattle.zi_universe.specs.Candidates.{Store, all_impls, is_followed, imports_of, standing_of, offered_from, offered_by, is_admitted, admitted_by, admitted, asks, asked, asked_by_runner, asked_by_command, asked_by_impl, asked_by}
 use Rattle.zi_universe.specs.Whole.{uris_of, feed_limit}
 use Rattle.zi_universe.specs.Loading.{Reading, Says, no_feed, IsRead, IsInterface, reached, Loads}
 use Rattle.zi_universe.proofs.NamingLemmas.{all_of-append, joined-append, at_stage, listed-Contains}
@@ -27,11 +27,13 @@ use Rattle.zi_doc_laws.specs.Trees.{IsCarried, HasCarriedTexts}
 use Rattle.zi_xml.specs.Documents.{Spells}
 use Rattle.zi_elements.specs.declared.element.Element.{Element}
 use Rattle.zi_sels_laws.proofs.LikeLaws.{Each, each_append}
-use Rattle.zi_sels_laws.proofs.FreeLaws.{each_weak, each_map, each_flat, sub_filter, each_filter}
+use Rattle.zi_sels_laws.proofs.FreeLaws.{each_weak, each_map, each_flat, sub_filter}
 use Rattle.zi_sels_laws.proofs.EachLaws.{each_permuted}
 use Rattle.zi_written_laws.proofs.ElemLaws.{root_carried}
 use Rattle.zi_written_laws.proofs.PartLaws.{IsCarriedDep, IsCarriedRunner, IsCarriedCommand}
 use Rattle.zi_written_laws.proofs.ImplLaws.{IsCarriedImpl, IsCarriedFeed, feed_carried}
+use Rattle.zi_sels_laws.specs.Rows.{HasRightRows}
+use Rattle.zi_written_laws.proofs.RowLaws.{rows_carried}
 use Rattle.zi_sels_laws.proofs.LoadedLaws.{each_reached}
 
 -- What is so of the first of a list that grows by what its members name, and of all that a member names of which it is so, is so of all.
@@ -113,6 +115,7 @@ impl_active p i h = record {
   version = h.version;
   arch = h.arch;
   released = h.released;
+  named = h.named;
   local = h.local;
   deps = sub_filter IsCarriedDep (λ (d : Dep). is_active p d.condition) i.deps h.deps;
   commands = each_map IsCarriedCommand (active_command p) i.commands (each_weak IsCarriedCommand (λ c. IsCarriedCommand (active_command p c)) (command_active p) i.commands h.commands);
@@ -128,10 +131,10 @@ unfolding standing_of
 offered_carried p st interface feed n [] u h = tt
 offered_carried p st interface feed n (i ∷ is) u h = (record { feed = u; imp = impl_active p i h.0 }, offered_carried p st interface feed (n + 1) is u h.1)
 
-admitted_carried : (req : Requirement) (p : Policy) (st : Store) (interface : Uri) (fs : List Feed) → Each IsCarriedFeed fs → Each IsCarriedCandidate (admitted req p st interface fs)
-admitted_carried req p st interface fs h =
+admitted_carried : (req : Requirement) (p : Policy) (st : Store) (interface : Uri) (fs : List Feed) → HasRightRows st.packages → Each IsCarriedFeed fs → Each IsCarriedCandidate (admitted req p st interface fs)
+admitted_carried req p st interface fs right h =
     each_flat IsCarriedCandidate (admitted_by req p st interface) IsCarriedFeed
-    (λ f k. sub_filter IsCarriedCandidate (is_admitted req p interface) (offered_by p st interface f) (offered_carried p st interface f.uri 0 f.impls k.uri k.impls)) fs h
+    (λ f k. sub_filter IsCarriedCandidate (is_admitted req p interface) (offered_by p st interface f) (offered_carried p st interface f.uri 0 (all_impls st.packages f) k.uri (rows_carried st.packages f.impls f.natives right k.impls k.natives))) fs h
 
 candidates_asked : (cs : List Candidate) → Each IsCarriedCandidate cs → Each IsCarried (flat_map (λ (c : Candidate). asked_by_impl c.imp) cs)
 candidates_asked cs h = each_flat IsCarried (λ (c : Candidate). asked_by_impl c.imp) IsCarriedCandidate (λ c k. impl_asked c.imp k.imp) cs h
@@ -146,7 +149,7 @@ read_carried : IsKept → (told : Option Holding) (root uri : Uri) (f : Feed) �
 read_carried kept told root uri f h u = by h.held h.means
   where
     none : IsCarriedFeed (no_feed uri)
-    none = record { uri = u; imports = tt; impls = tt }
+    none = record { uri = u; imports = tt; impls = tt; natives = tt }
 
     by : (held : Option (List ℕ)) → MatchOption held ((uri ≢ root) × (f ≡ no_feed uri)) (λ (bytes : List ℕ). (length bytes ≤ feed_limit) × Says uri bytes f) → IsCarriedFeed f
     by None k = subst IsCarriedFeed (sym k.1) none
@@ -166,7 +169,7 @@ mapped_get f [] k d lt = absurd (omega arith)
 mapped_get f (x ∷ xs) zero d lt = refl
 mapped_get f (x ∷ xs) (suc k) d lt = mapped_get f xs k d (omega arith)
 
-module _ (kept : IsKept) (told : Option Holding) (req : Requirement) (p : Policy) (st : Store) (at : Reading) where
+module _ (kept : IsKept) (told : Option Holding) (req : Requirement) (p : Policy) (st : Store) (right : HasRightRows st.packages) (at : Reading) where
   -- the feed at this address was read
   abbrev IsReadAt : Uri → Type 0
   IsReadAt y = IsRead told req.interface y (at y)
@@ -188,7 +191,7 @@ module _ (kept : IsKept) (told : Option Holding) (req : Requirement) (p : Policy
   interface_carried : (feeds : Uris) (i : Interface) → IsInterface at req p st feeds i → Each IsReadAt feeds → IsCarried i.uri → AreCarriedIn i
   interface_carried feeds i h read u =
       each_permuted IsCarriedCandidate (admitted req p st i.uri (map at feeds)) i.candidates h.candidates.same
-      (admitted_carried req p st i.uri (map at feeds) (all_read feeds read (feeds_carried i.uri feeds u h.closed read)))
+      (admitted_carried req p st i.uri (map at feeds) right (all_read feeds read (feeds_carried i.uri feeds u h.closed read)))
 
   -- each interface can be carried as far as its address can be
   abbrev Carries : Interface → Type 0
@@ -214,11 +217,12 @@ both_carried : (is : List Interface) → Each (λ (i : Interface). IsCarried i.u
 both_carried [] h k = tt
 both_carried (i ∷ is) h k = (record { uri = k.0; candidates = h.0 k.0 }, both_carried is h.1 k.1)
 
-pub loaded_carried : IsKept → (told : Option Holding) (req : Requirement) (p : Policy) (st : Store) (u : List Interface) → IsCarried req.interface → Loads told req p st u → Each IsCarriedInterface u
-loaded_carried kept told req p st u root l =
+pub loaded_carried : IsKept → (told : Option Holding) (req : Requirement) (p : Policy) (st : Store) (u : List Interface) → IsCarried req.interface → HasRightRows st.packages → Loads told req p st u
+    → Each IsCarriedInterface u
+loaded_carried kept told req p st u root right l =
     let feeds = each_weak (λ g. Each (λ y. listed y (reached l.groups) ≡ true) g) (λ g. Each (λ y. IsRead told req.interface y (l.at y)) g)
     (λ g h. each_weak (λ y. listed y (reached l.groups) ≡ true) (λ y. IsRead told req.interface y (l.at y)) (λ y k. l.read y (listed-Contains y (reached l.groups) k)) g h) l.groups (each_reached l.groups) in
-    let carry = interfaces_carry kept told req p st l.at l.groups u l.universe.each feeds in
+    let carry = interfaces_carry kept told req p st right l.at l.groups u l.universe.each feeds in
     let all : Each IsCarried (uris_of u) = named_all IsCarried req.interface (map asked_by u) (uris_of u) l.universe.named root
     (λ k lt here. carried_asks u k req.interface carry (omega (arith, lt, length-map u asked_by)) here) in
     both_carried u carry all

@@ -1,22 +1,19 @@
 -- The tree of selections can be written, where they are as they may be read and all their values can be carried.
-use Rattle.std.specs.Prelude.{if◌then◌else◌, option_map, filter}
-use Rattle.std.proofs.Common.{◌≡◌, ℕ, suc, nat_le, Bool, true, false, List, [], ◌∷◌, ◌++◌, map, Option, Some, None, codes, refl, sym, ap, subst}
+use Rattle.std.specs.Prelude.{option_map}
+use Rattle.std.proofs.Common.{◌≡◌, ℕ, suc, nat_le, true, false, List, [], ◌∷◌, ◌++◌, map, Option, Some, None, codes, refl, sym, subst}
 use Rattle.hex.specs.Hex.{encode_lower}
-use Rattle.zi_elements.specs.declared.element.Attr.{Attr}
 use Rattle.zi_elements.specs.Forest.{Elem}
 use Rattle.zi_xml.specs.Chars.{is_digit}
 use Rattle.zi_digest.specs.Name.{base32, IsDigest}
 use Rattle.zi_digest.specs.declared.DigestName.{DigestName}
-use Rattle.zi_digest.specs.declared.DigestName.TheVariants as digest
 use Rattle.zi_docout.specs.Amiss.{is_plain_name, first_amiss}
-use Rattle.zi_docout.specs.Elements.{attr, elem}
-use Rattle.zi_reading.specs.Words.{is_among, listed, first, optional}
-use Rattle.zi_address.specs.Texts.{same}
+use Rattle.zi_docout.specs.Elements.{attr}
+use Rattle.zi_reading.specs.Words.{optional}
 use Rattle.zi_parts.specs.declared.types.Dep.{Dep}
 use Rattle.zi_parts.specs.declared.types.DepKind.{DepKind}
 use Rattle.zi_parts.specs.declared.types.DepKind.TheVariants.{Essential, Recommended, Restricts}
 use Rattle.zi_parts.specs.declared.types.Binding.{Binding}
-use Rattle.zi_parts.specs.declared.types.Binding.TheVariants.{Env, Unbuilt}
+use Rattle.zi_parts.specs.declared.types.Binding.TheVariants.{Env, ExecVar, ExecPath, Unbuilt}
 use Rattle.zi_parts.specs.declared.types.Extra.{Extra}
 use Rattle.zi_parts.specs.declared.types.Extra.TheVariants.{Insert, Value}
 use Rattle.zi_parts.specs.declared.types.Mode.{Mode}
@@ -27,18 +24,19 @@ use Rattle.zi_parts.specs.declared.types.Runner.{Runner}
 use Rattle.zi_parts.specs.declared.types.Command.{Command}
 use Rattle.zi_sels.specs.declared.types.Selection.{Selection}
 use Rattle.zi_sels.specs.declared.types.Selections.{Selections}
-use Rattle.zi_sels.specs.Written.{attr_of, attr_unless, extra_attr, mode_attrs, binding_elem, kind_attrs, dep_elem, arg_elem, word_elem, command_wanted, runner_elem, unbuilt_elem, command_elem, digest_attrs, digests_elems, selection_attrs, selection_elem, tree}
+use Rattle.zi_sels.specs.Written.{attr_unless, extra_attr, mode_attrs, binding_elem, kind_attrs, dep_elem, arg_elem, word_elem, command_wanted, runner_elem, unbuilt_elem, command_elem, digest_attrs, digests_elems, selection_attrs, selection_elem, tree}
 use Rattle.zi_doc_laws.specs.Trees.{IsCarried}
 use Rattle.zi_sels_laws.proofs.LikeLaws.{Each, each_append, each_both}
 use Rattle.zi_sels_laws.proofs.FreeLaws.{each_weak, each_map}
 use Rattle.zi_sels_laws.proofs.PlainLaws.{among_each}
 use Rattle.zi_sels_laws.proofs.BindingLaws.{other_names, IsProperBinding}
+use Rattle.zi_sels_laws.proofs.ShimLaws.{unbuilt_names, IsProperDepBinding}
 use Rattle.zi_sels_laws.proofs.DepLaws.{IsProperDep}
 use Rattle.zi_sels_laws.proofs.RunnerLaws.{IsProperRunner}
 use Rattle.zi_sels_laws.proofs.CommandLaws.{IsDir, IsProperCommand}
-use Rattle.zi_sels_laws.proofs.DigestsLaws.{three, AreProper, AreWhole}
-use Rattle.zi_sels_laws.proofs.ItemLaws.{IsProperItem}
-use Rattle.zi_written_laws.proofs.TextLaws.{shown_carried, IsCarriedOr, or_carried}
+use Rattle.zi_sels_laws.proofs.DigestsLaws.{three}
+use Rattle.zi_sels_laws.proofs.ItemLaws.{HasDigests, IsProperItem}
+use Rattle.zi_written_laws.proofs.TextLaws.{shown_carried, IsCarriedOr}
 use Rattle.zi_written_laws.proofs.PartLaws.{IsCarriedExtra, IsCarriedBinding, IsCarriedWord, IsCarriedDep, IsCarriedRunner, IsCarriedCommand}
 use Rattle.zi_written_laws.proofs.DigitLaws.{hex_carried, base32_carried}
 use Rattle.zi_written_laws.proofs.MadeLaws.{IsCarriedItem}
@@ -71,10 +69,32 @@ binding_stands d near (Env name extra mode separator default) h c =
     elem_stands d (codes "environment") _ [] near refl
     (drawn_both (drawn_both (drawn_both (here {n = codes "name"} name c.0 (extra_drawn extra c.1)) (mode_drawn mode)) (drawn_unless (codes ":") (codes "separator") separator c.2)) (drawn_of (codes "default") default c.3))
     refl tt
+binding_stands d near (ExecVar name command) h c = absurd h
+binding_stands d near (ExecPath name command) h c = absurd h
 binding_stands d near (Unbuilt name) h c = elem_stands d name [] [] near (among_each (λ n. is_plain_name n ≡ true) other_names name others_plain h) done refl tt
 
 bindings_stand : (d : ℕ) → nat_le 64 d ≡ false → (bs : List Binding) → Each IsProperBinding bs → Each IsCarriedBinding bs → Each (CanStand d) (map binding_elem bs)
 bindings_stand d near bs h c = each_made d binding_elem IsProperBinding IsCarriedBinding (binding_stands d near) bs h c
+
+-- Those of a dependency.
+
+unbuilt_plain : Each (λ n. is_plain_name n ≡ true) unbuilt_names
+unfolding is_plain_name is_digit
+unbuilt_plain = (refl, (refl, tt))
+
+shim_drawn : (name command : List ℕ) → IsCarried name → IsCarried command
+    → Drawn (codes "name" ∷ codes "command" ∷ []) (attr (codes "name") name ∷ [] ++ attr_unless (codes "run") (codes "command") command)
+shim_drawn name command n c = drawn_both (drawn_one (codes "name") name n) (drawn_unless (codes "run") (codes "command") command c)
+
+dep_binding_stands : (d : ℕ) → nat_le 64 d ≡ false → (b : Binding) → IsProperDepBinding b → IsCarriedBinding b → CanStand d (binding_elem b)
+unfolding binding_elem is_plain_name is_digit
+dep_binding_stands d near (Env name extra mode separator default) h c = binding_stands d near (Env name extra mode separator default) h c
+dep_binding_stands d near (ExecVar name command) h c = elem_stands d (codes "executable-in-var") _ [] near refl (shim_drawn name command c.0 c.1) refl tt
+dep_binding_stands d near (ExecPath name command) h c = elem_stands d (codes "executable-in-path") _ [] near refl (shim_drawn name command c.0 c.1) refl tt
+dep_binding_stands d near (Unbuilt name) h c = elem_stands d name [] [] near (among_each (λ n. is_plain_name n ≡ true) unbuilt_names name unbuilt_plain h) done refl tt
+
+dep_bindings_stand : (d : ℕ) → nat_le 64 d ≡ false → (bs : List Binding) → Each IsProperDepBinding bs → Each IsCarriedBinding bs → Each (CanStand d) (map binding_elem bs)
+dep_bindings_stand d near bs h c = each_made d binding_elem IsProperDepBinding IsCarriedBinding (dep_binding_stands d near) bs h c
 
 -- Dependencies.
 
@@ -87,7 +107,7 @@ dep_stands : (d : ℕ) → nat_le 64 d ≡ false → nat_le 64 (suc d) ≡ false
 unfolding dep_elem is_plain_name is_digit
 dep_stands d near inner x h c =
     elem_stands d (codes "requires") _ (map binding_elem x.bindings) near refl (drawn_both (drawn_one (codes "interface") x.interface c.interface) (kind_drawn x.kind)) refl
-    (bindings_stand (suc d) inner x.bindings h.bindings c.bindings)
+    (dep_bindings_stand (suc d) inner x.bindings h.bindings c.bindings)
 
 -- Words.
 
@@ -108,19 +128,12 @@ words_stand d near inner ws c = each_map (CanStand d) word_elem ws (each_weak Is
 
 -- Runners and commands, the latter with two elements around them.
 
-wanted_carried : (r : Runner) → IsCarriedRunner r → IsCarried (command_wanted r)
-wanted_carried r h = or_carried (first r.dep.commands) (codes "run") (by r.dep.commands h.commands) (shown_carried (codes "run") refl)
-  where
-    by : (ts : List (List ℕ)) → Each IsCarried ts → IsCarriedOr (first ts)
-    by [] k = tt
-    by (t ∷ ts) k = k.0
-
 runner_stands : (x : Runner) → IsProperRunner x → IsCarriedRunner x → CanStand 3 (runner_elem x)
 unfolding runner_elem is_plain_name is_digit
 runner_stands x h c =
     elem_stands 3 (codes "runner") _ (map binding_elem x.dep.bindings ++ map word_elem x.words) refl refl
-    (here {n = codes "interface"} x.dep.interface c.dep.interface (here {n = codes "command"} (command_wanted x) (wanted_carried x c) done)) refl
-    (each_append (CanStand 4) (map binding_elem x.dep.bindings) (map word_elem x.words) (bindings_stand 4 refl x.dep.bindings h.bindings c.dep.bindings) (words_stand 4 refl refl x.words c.words))
+    (here {n = codes "interface"} x.dep.interface c.dep.interface (here {n = codes "command"} (command_wanted x) c.wanted done)) refl
+    (each_append (CanStand 4) (map binding_elem x.dep.bindings) (map word_elem x.words) (dep_bindings_stand 4 refl x.dep.bindings h.bindings c.dep.bindings) (words_stand 4 refl refl x.words c.words))
 
 maybe_runner : (o : Option Runner) → Each IsProperRunner (optional o) → Each IsCarriedRunner (optional o) → Each (CanStand 3) (optional (option_map runner_elem o))
 maybe_runner None h c = tt
@@ -167,10 +180,14 @@ unfolding digests_elems is_plain_name is_digit
 one_digests [] h = tt
 one_digests (x ∷ ds) h = (elem_stands 2 (codes "manifest-digest") (digest_attrs (x ∷ ds)) [] refl refl h refl tt, tt)
 
-digests_stand : (id : List ℕ) (ds : List DigestName) → AreProper id ds → Each (CanStand 2) (digests_elems ds)
-digests_stand id ds h =
+digests_stand : (o : Option (List ℕ)) (id : List ℕ) (ds : List DigestName) → HasDigests o id ds → Each (CanStand 2) (digests_elems ds)
+unfolding digests_elems
+digests_stand None id ds h =
     let P : List DigestName → Type 0 = λ v. Each (CanStand 2) (digests_elems v) in
     subst P (sym h.are) (one_digests (three h.new h.middle h.old) (digests_drawn h.new h.middle h.old h.whole))
+digests_stand (Some name) id ds h =
+    let P : List DigestName → Type 0 = λ v. Each (CanStand 2) (digests_elems v) in
+    subst P (sym h) tt
 
 -- Selections.
 
@@ -186,14 +203,16 @@ selection_stands x h c =
     (drawn_both
     (drawn_both
     (drawn_both
+    (drawn_both
     (drawn_both (here {n = codes "interface"} x.interface c.interface (here {n = codes "id"} x.id c.id (here {n = codes "version"} x.version c.version done)))
     (drawn_unless x.interface (codes "from-feed") x.from_feed c.from_feed))
+    (drawn_of (codes "package") x.«package» c.named))
     (drawn_of (codes "local-path") x.local c.local))
     (drawn_of (codes "arch") x.arch c.arch))
     (drawn_of (codes "released") x.released c.released))
     (drawn_of (codes "stability") x.stability c.stability)) refl
     (each_append (CanStand 2) (gs ++ bs ++ ds) cs
-    (each_append (CanStand 2) (gs ++ bs) ds (each_append (CanStand 2) gs bs (digests_stand x.id x.digests h.digests) (bindings_stand 2 refl x.bindings h.bindings c.bindings))
+    (each_append (CanStand 2) (gs ++ bs) ds (each_append (CanStand 2) gs bs (digests_stand x.«package» x.id x.digests h.digests) (bindings_stand 2 refl x.bindings h.bindings c.bindings))
     (each_made 2 dep_elem IsProperDep IsCarriedDep (dep_stands 2 refl refl) x.deps h.deps c.deps))
     (each_made 2 command_elem IsProperCommand IsCarriedCommand command_stands x.commands h.commands c.commands))
 

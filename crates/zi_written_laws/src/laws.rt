@@ -14,16 +14,17 @@ ghost use Rattle.zi_sels.specs.declared.types.Selections.{Selections};
 ghost use Rattle.zi_sels.specs.Chosen.{AreSelected};
 ghost use Rattle.zi_sels.specs.Written.{tree, document};
 ghost use Rattle.zi_sels.specs.Reading.{Says};
+ghost use Rattle.zi_sels_laws.specs.Rows.{HasRightRows};
 
 use zi_doc_laws::what_is_read_keeps;
 use zi_sels_laws::what_is_chosen_is_read_back;
 
 /// Of what a valid choice selects in a universe that was loaded, every element of the tree can be written, where XML can carry the
 /// address of the root: so `zi_sels::write` never answers `Unwritable` of it. The universe is one that `zi_universe::load` answers for
-/// the requirement of the choice, over whatever feeds are held.
+/// the requirement of the choice, over whatever feeds are held and a table of packages whose rows are right.
 pub fn what_is_chosen_can_be_written()
     ensures { (told : Option Holding) (req : Requirement) (policy : Policy) (stored : Store) (universe : List Interface) (choice : Choice) (s : Selections)
-        → is_carried req.interface ≡ true → Loads told req policy stored universe → IsValid universe req choice → AreSelected universe req choice s → first_amiss (tree s) ≡ None }
+        → is_carried req.interface ≡ true → HasRightRows stored.packages → Loads told req policy stored universe → IsValid universe req choice → AreSelected universe req choice s → first_amiss (tree s) ≡ None }
 {
     what_is_read_keeps();
 }
@@ -32,7 +33,7 @@ pub fn what_is_chosen_can_be_written()
 /// address of the root: `zi_sels::read` gives it again of what `zi_sels::write` writes, as `from_choice` gave it.
 pub fn what_is_chosen_is_written_and_read_back()
     ensures { (told : Option Holding) (req : Requirement) (policy : Policy) (stored : Store) (universe : List Interface) (choice : Choice) (s : Selections)
-        → is_carried req.interface ≡ true → Loads told req policy stored universe → IsValid universe req choice → AreSelected universe req choice s → Says (document s) s }
+        → is_carried req.interface ≡ true → HasRightRows stored.packages → Loads told req policy stored universe → IsValid universe req choice → AreSelected universe req choice s → Says (document s) s }
 {
     what_is_chosen_can_be_written();
     what_is_chosen_is_read_back();

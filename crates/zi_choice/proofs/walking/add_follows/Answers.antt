@@ -1,8 +1,8 @@
 use Rattle.std.proofs.Common.{◌≡◌, ◌-◌, List, drop, ap, ◌∙◌, subst, arith}
 use Rattle.std.specs.List.{flat_map}
 use Rattle.zi_parts.specs.declared.types.Dep.{Dep}
-use Rattle.zi_choice.specs.Walk.{Follows}
-use Rattle.zi_choice.specs.Tasks.{universe_of, picks_of, walk_of, Then}
+use Rattle.zi_choice.specs.Stops.{FollowStops}
+use Rattle.zi_choice.specs.Tasks.{universe_of, picks_of, stops_of, Then}
 use Rattle.zi_choice.proofs.TaskLaws.{pieces_none, pieces_more}
 use Rattle.zi_choice.proofs.walking.add_follows.Goals as goal
 
@@ -26,5 +26,5 @@ returns c way w r =
     let ps = c.as_slice-pieces.result.now in
     let first : c.loop-left.left ≡ 0 = omega arith in
     let all : flat_map (λ q. q.now) (drop c.loop-left.left ps) ≡ c.args.deps.now = ap (λ n. flat_map (λ q. q.now) (drop n ps)) first ∙ (ap (flat_map (λ q. q.now)) c.as_slice-pieces.ensures.value ∙ c.in_ok-segments.ensures) in
-    let P : List Dep → Type 0 = λ ds. Then u s (Follows u s ds) c.args.tasks.now.items (walk_of c.args.on.now way) w in
-    subst P all (c.loop-left.invariant.runs (walk_of c.args.on.now way) w r)
+    let P : List Dep → Type 0 = λ ds. Then u s (FollowStops u s ds) c.args.tasks.now.items (stops_of way) w in
+    subst P all (c.loop-left.invariant.runs (stops_of way) w r)

@@ -1,15 +1,15 @@
 use Rattle.std.proofs.Common.{ap, arith, ◌≡◌, ◌∙◌, ◌+◌, ◌-◌, length, take, drop}
-use Rattle.zi_choice.specs.Tasks.{universe_of, picks_of, walk_of, sizes}
+use Rattle.zi_choice.specs.Tasks.{universe_of, picks_of, stops_of, sizes}
 use Rattle.zi_choice.proofs.TaskLaws.{each_none, each_some, sizes_last, front, empty}
 use Rattle.zi_choice.proofs.walking.need_first.Goals as goal
 
 pub returns-in_default-clause-steps : goal.returns-in_default-clause-steps
 returns-in_default-clause-steps c =
-    each_none (universe_of c.args.on.now) (picks_of c.args.on.now) c.args.i c.args.names.now c.args.tasks.now.items (walk_of c.args.on.now c.args.way.now) (empty c.args.names.now c.in_default.len_below)
+    each_none (universe_of c.args.on.now) (picks_of c.args.on.now) c.args.i c.args.names.now c.args.tasks.now.items (stops_of c.args.way.now) (empty c.args.names.now c.in_default.len_below)
 
 pub returns-clause-steps : goal.returns-clause-steps
 returns-clause-steps c v r =
-    each_some (universe_of c.args.on.now) (picks_of c.args.on.now) c.args.i c.name-item.result c.args.names.now _ c.args.tasks.now.items c.push.new.self.items (walk_of c.args.on.now c.args.way.now)
+    each_some (universe_of c.args.on.now) (picks_of c.args.on.now) c.args.i c.name-item.result c.args.names.now _ c.args.tasks.now.items c.push.new.self.items (stops_of c.args.way.now)
     (front c.args.names.now c.name-item.result c.in-len1-up.len_at_least c.name-item.is) c.in_ok-push.ensures.items v (c.in_ok-new.ensures.steps v r)
 
 pub returns-clause-old : goal.returns-clause-old

@@ -19,7 +19,7 @@ returns-in-Ok-load g c =
       over =
           checked c.args.ask c.args.sels c.args.proof c.args.stored.now (record { feeds = old; out = out }) (record { feeds = g.F.Feeds.seen c.check_file.new.feeds; out = g.O.Sink.seen c.check_file.new.out }) c.in-Ok.job.req mid
           c.in-Ok-load.universe c.check_file.result c.in-Ok.ensures.req
-          (loaded_as c.args.stored.now c.args.ask c.in-Ok.job.req c.in-Ok.job.policy old mid c.in-Ok-load.universe c.in-Ok.ensures.req c.in-Ok.ensures.policy c.in-Ok-load.ensures.loads)
+          (loaded_as c.args.stored.now c.nothing-packages.result c.args.ask c.in-Ok.job.req c.in-Ok.job.policy old mid c.in-Ok-load.universe c.nothing-packages.ensures c.in-Ok.ensures.req c.in-Ok.ensures.policy c.in-Ok-load.ensures.loads)
           c.check_file.ensures;
       feeds =
           check_stays c.in-Ok-load.universe c.in-Ok.job.req c.args.sels c.args.proof old (record { feeds = mid; out = out }) (record { feeds = g.F.Feeds.seen c.check_file.new.feeds; out = g.O.Sink.seen c.check_file.new.out }) c.check_file.result
@@ -34,7 +34,7 @@ returns-in-Err g c =
     record {
       over =
           check_refused c.args.ask c.args.sels c.args.proof c.args.stored.now (record { feeds = old; out = out }) (record { feeds = mid; out = out }) c.in-Err.fault c.refused.result
-          (refused_as c.args.stored.now c.args.ask c.in-Ok.job.req c.in-Ok.job.policy old mid c.in-Err.fault c.in-Ok.ensures.req c.in-Ok.ensures.policy c.in-Err.ensures.refuses)
+          (refused_as c.args.stored.now c.nothing-packages.result c.args.ask c.in-Ok.job.req c.in-Ok.job.policy old mid c.in-Err.fault c.nothing-packages.ensures c.in-Ok.ensures.req c.in-Ok.ensures.policy c.in-Err.ensures.refuses)
           refl c.refused.ensures;
       feeds = asks_stay _ old mid c.in-Err.ensures.refuses.asks;
     }

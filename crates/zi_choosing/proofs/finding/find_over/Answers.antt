@@ -8,8 +8,8 @@ use Rattle.zi_choosing.proofs.finding.find_over.Goals as goal
 pub invariant_of-result : goal.invariant_of-result
 invariant_of-result g c = record {
   written =
-      all_written (g.F.Feeds.seen c.args.feeds.now) (g.F.Feeds.seen c.load.new.feeds) c.in_ok-job.job.req c.in_ok-job.job.policy c.as_slice.result.now c.in-Ok.universe
-      c.what_is_chosen_can_be_written.ensures c.in_ok-job.ensures.root c.in-Ok.ensures.loads c.in_ok-choice.choice.picks c.in_ok-choice.ensures.1.valid c.in_ok-sels.sels c.in_ok-sels.ensures;
+      all_written (g.F.Feeds.seen c.args.feeds.now) (g.F.Feeds.seen c.load.new.feeds) c.in_ok-job.job.req c.in_ok-job.job.policy c.as_slice.result.now c.nothing-packages.result c.in-Ok.universe
+      c.what_is_chosen_can_be_written.ensures c.nothing-packages.ensures c.in_ok-job.ensures.root c.in-Ok.ensures.loads c.in_ok-choice.choice.picks c.in_ok-choice.ensures.1.valid c.in_ok-sels.sels c.in_ok-sels.ensures;
 }
 
 pub returns-in_err-job : goal.returns-in_err-job
@@ -25,7 +25,7 @@ returns-in-Err g c =
     record {
       chooses =
           refused_find c.args.ask c.args.stored old new c.in-Err.fault c.refused.result
-          (refused_as c.args.stored c.args.ask c.in_ok-job.job.req c.in_ok-job.job.policy old new c.in-Err.fault c.in_ok-job.ensures.req c.in_ok-job.ensures.policy
+          (refused_as c.args.stored c.nothing-packages.result c.args.ask c.in_ok-job.job.req c.in_ok-job.job.policy old new c.in-Err.fault c.nothing-packages.ensures c.in_ok-job.ensures.req c.in_ok-job.ensures.policy
           (rw c.as_slice.ensures at c.in-Err.ensures.refuses))
           c.refused.ensures;
       feeds = asks_stay _ old new c.in-Err.ensures.refuses.asks;
@@ -40,7 +40,7 @@ returns-in_err-choice g c =
     (record {
       chooses =
           unsolved c.args.ask c.args.stored old new c.in_ok-job.job.req c.args.ask.search c.in-Ok.universe c.in_err-choice.field-0.0 c.in_ok-job.ensures.req refl
-          (loaded_as c.args.stored c.args.ask c.in_ok-job.job.req c.in_ok-job.job.policy old new c.in-Ok.universe c.in_ok-job.ensures.req c.in_ok-job.ensures.policy
+          (loaded_as c.args.stored c.nothing-packages.result c.args.ask c.in_ok-job.job.req c.in_ok-job.job.policy old new c.in-Ok.universe c.nothing-packages.ensures c.in_ok-job.ensures.req c.in_ok-job.ensures.policy
           (rw c.as_slice.ensures at c.in-Ok.ensures.loads))
           c.in_err-choice.ensures;
       feeds = asks_stay _ old new c.in-Ok.ensures.loads.asked.asks;
@@ -55,7 +55,7 @@ returns-in_err-sels g c =
     (record {
       chooses =
           loaded_alone c.args.ask c.args.stored old new c.in-Ok.universe q.0
-          (loaded_as c.args.stored c.args.ask c.in_ok-job.job.req c.in_ok-job.job.policy old new c.in-Ok.universe c.in_ok-job.ensures.req c.in_ok-job.ensures.policy
+          (loaded_as c.args.stored c.nothing-packages.result c.args.ask c.in_ok-job.job.req c.in_ok-job.job.policy old new c.in-Ok.universe c.nothing-packages.ensures c.in_ok-job.ensures.req c.in_ok-job.ensures.policy
           (rw c.as_slice.ensures at c.in-Ok.ensures.loads))
           q.2;
       feeds = asks_stay _ old new c.in-Ok.ensures.loads.asked.asks;
@@ -69,7 +69,7 @@ returns g c =
       chooses = (
         refl,
         found c.args.ask c.args.stored old new _ c.in_ok-job.job.req c.in_ok-job.ensures.req refl refl
-            (loaded_as c.args.stored c.args.ask c.in_ok-job.job.req c.in_ok-job.job.policy old new c.in-Ok.universe c.in_ok-job.ensures.req c.in_ok-job.ensures.policy
+            (loaded_as c.args.stored c.nothing-packages.result c.args.ask c.in_ok-job.job.req c.in_ok-job.job.policy old new c.in-Ok.universe c.nothing-packages.ensures c.in_ok-job.ensures.req c.in_ok-job.ensures.policy
             (rw c.as_slice.ensures at c.in-Ok.ensures.loads))
             c.in_ok-choice.ensures.0 c.in_ok-choice.ensures.1 c.in_ok-sels.ensures,
       );

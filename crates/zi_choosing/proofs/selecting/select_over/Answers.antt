@@ -12,8 +12,8 @@ returns-in_default g c = record {
 
 pub choose-outcome-requires-clause-written : goal.choose-outcome-requires-clause-written
 choose-outcome-requires-clause-written g c =
-    all_written (g.F.Feeds.seen c.args.feeds.now) (g.F.Feeds.seen c.load.new.feeds) c.in-Ok.job.req c.in-Ok.job.policy c.args.stored.now c.in-Ok-load.universe
-    c.what_is_chosen_can_be_written.ensures c.in-Ok.ensures.root c.in-Ok-load.ensures.loads
+    all_written (g.F.Feeds.seen c.args.feeds.now) (g.F.Feeds.seen c.load.new.feeds) c.in-Ok.job.req c.in-Ok.job.policy c.args.stored.now c.nothing-packages.result c.in-Ok-load.universe
+    c.what_is_chosen_can_be_written.ensures c.nothing-packages.ensures c.in-Ok.ensures.root c.in-Ok-load.ensures.loads
 
 pub returns-in-Ok-load : goal.returns-in-Ok-load
 returns-in-Ok-load g c =
@@ -23,7 +23,7 @@ returns-in-Ok-load g c =
       over =
           selected c.args.ask c.args.proof c.args.stored.now c.in-Ok.job.req c.args.ask.search (record { feeds = old; out = g.O.Sink.seen c.args.out.now }) (record { feeds = mid; out = g.O.Sink.seen c.choose-outcome.new.out })
           c.in-Ok-load.universe c.choose-outcome.result c.in-Ok.ensures.req refl
-          (loaded_as c.args.stored.now c.args.ask c.in-Ok.job.req c.in-Ok.job.policy old mid c.in-Ok-load.universe c.in-Ok.ensures.req c.in-Ok.ensures.policy c.in-Ok-load.ensures.loads)
+          (loaded_as c.args.stored.now c.nothing-packages.result c.args.ask c.in-Ok.job.req c.in-Ok.job.policy old mid c.in-Ok-load.universe c.nothing-packages.ensures c.in-Ok.ensures.req c.in-Ok.ensures.policy c.in-Ok-load.ensures.loads)
           c.choose-outcome.ensures;
       feeds = asks_stay _ old mid c.in-Ok-load.ensures.loads.asked.asks;
     }
@@ -36,7 +36,7 @@ returns g c =
     record {
       over =
           refused_over c.args.ask c.args.proof c.args.stored.now (record { feeds = old; out = out }) (record { feeds = mid; out = out }) c.in-Err.fault c.refused.result
-          (refused_as c.args.stored.now c.args.ask c.in-Ok.job.req c.in-Ok.job.policy old mid c.in-Err.fault c.in-Ok.ensures.req c.in-Ok.ensures.policy c.in-Err.ensures.refuses)
+          (refused_as c.args.stored.now c.nothing-packages.result c.args.ask c.in-Ok.job.req c.in-Ok.job.policy old mid c.in-Err.fault c.nothing-packages.ensures c.in-Ok.ensures.req c.in-Ok.ensures.policy c.in-Err.ensures.refuses)
           refl c.refused.ensures;
       feeds = asks_stay _ old mid c.in-Err.ensures.refuses.asks;
     }

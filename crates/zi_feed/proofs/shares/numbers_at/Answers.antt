@@ -18,6 +18,7 @@ returns-clause-adds c = record {
   tables = record { versions = c.in_ok-version.ensures.grows; langs = c.in_ok-langs.ensures.grows; levels = c.in_ok-level.ensures.grows };
   levels = c.in_ok-level.ensures.levels;
   of = refl;
+  of_natives = refl;
 }
 
 pub returns-clause-fit : goal.returns-clause-fit

@@ -2,9 +2,9 @@ use Rattle.std.proofs.Common.{◌≡◌, ◌++◌, ◌+◌, ◌*◌, suc, map, d
 use Rattle.std.specs.Prelude.{option_copied}
 use Rattle.zi_elements.specs.Forest.{node_view, nodes_view}
 use Rattle.zi_reading.specs.Ways.{ways_of}
-use Rattle.zi_feed.specs.Shares.{TablesGrow, AreShared}
+use Rattle.zi_feed.specs.Shares.{TablesGrow, IsGathered}
 use Rattle.zi_faults.specs.Carrying.{said_by, seen_view, carried_sites, AreChecked}
-use Rattle.zi_feed.specs.Inward.{carried_impls}
+use Rattle.zi_feed.specs.Inward.{carried_impls, carried_natives}
 use Rattle.zi_faults.proofs.SizeLaws.{size}
 use Rattle.zi_feed.proofs.walking.+gathering.Given as goal
 
@@ -19,8 +19,13 @@ invariant-gather-loop-node l = record {
       ++ carried_impls (ways_of l.fn.ways) (option_copied l.fn.policy) (said_by l.fn.around.said, l.fn.around.added) l.fn.parent.name (nodes_view (drop l.node-index l.node-items))
       ≡ l.fn.found.gathered.impls
       ++ carried_impls (ways_of l.fn.ways) (option_copied l.fn.policy) (said_by l.fn.around.said, l.fn.around.added) l.fn.parent.name (nodes_view l.fn.parent.children);
+  natives :
+      l.found.gathered.natives
+      ++ carried_natives (ways_of l.fn.ways) (option_copied l.fn.policy) (said_by l.fn.around.said, l.fn.around.added) l.fn.parent.name (nodes_view (drop l.node-index l.node-items))
+      ≡ l.fn.found.gathered.natives
+      ++ carried_natives (ways_of l.fn.ways) (option_copied l.fn.policy) (said_by l.fn.around.said, l.fn.around.added) l.fn.parent.name (nodes_view l.fn.parent.children);
   tables : TablesGrow l.fn.found.gathered.shares l.found.gathered.shares;
-  right : AreShared l.found.gathered.shares l.found.gathered.impls;
+  right : IsGathered l.found.gathered;
 }
 
 abbrev pub decreases-gather : goal.decreases-gather

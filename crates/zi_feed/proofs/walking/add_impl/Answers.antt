@@ -4,7 +4,7 @@ use Rattle.zi_elements.specs.Forest.{element_view}
 use Rattle.zi_reading.specs.Ways.{ways_of}
 use Rattle.zi_reading.specs.Words.{optional}
 use Rattle.zi_faults.specs.Carrying.{said_by}
-use Rattle.zi_feed.proofs.ImplLaws.{nothing_added}
+use Rattle.zi_feed.proofs.GatherLaws.{nothing_added}
 use Rattle.zi_feed.proofs.ShareLaws.{impl_numbers, gathered_none}
 use Rattle.zi_feed.proofs.walking.add_impl.Goals as goal
 

@@ -6,8 +6,10 @@ use Rattle.zi_faults.specs.declared.carrying.Seen.{Seen}
 use Rattle.zi_feed.specs.Inward.{made_of, IsAdded}
 use Rattle.zi_feed.proofs.AddedLaws.{none_added}
 use Rattle.zi_parts.specs.declared.types.Impl.{Impl}
-use Rattle.zi_feed.specs.Shares.{AreShared}
+use Rattle.zi_parts.specs.declared.types.Native.{Native}
+use Rattle.zi_feed.specs.Shares.{AreShared, NativesAreShared}
 use Rattle.zi_feed.proofs.ImplLaws.{impls_are}
+use Rattle.zi_feed.proofs.NativeLaws.{natives_are}
 use Rattle.zi_feed.proofs.ShareLaws.{nothing_fits}
 use Rattle.zi_feed.proofs.walking.found_in.Goals as goal
 
@@ -20,7 +22,11 @@ gather-requires-clause-made c = c.in_ok-around.ensures.made ∙ ap (made_of (InF
 pub gather-requires-clause-shared : goal.gather-requires-clause-shared
 gather-requires-clause-shared c =
     let P : List Impl → Type 0 = λ q. AreShared c.in_ok-shares.shares q in
-    subst P (sym (c.from_vec-impls.ensures ∙ c.in_ok-room.ensures.items)) c.in_ok-shares.ensures.none
+    let Q : List Native → Type 0 = λ q. NativesAreShared c.in_ok-shares.shares q in
+    record {
+      impls = subst P (sym (c.from_vec-impls.ensures ∙ c.in_ok-room.ensures.items)) c.in_ok-shares.ensures.none;
+      natives = subst Q (sym c.new-natives.ensures) c.in_ok-shares.ensures.no_natives;
+    }
 
 pub gather-requires-clause-fit : goal.gather-requires-clause-fit
 gather-requires-clause-fit c =
@@ -49,3 +55,8 @@ pub returns-clause-impls : goal.returns-clause-impls
 returns-clause-impls c =
     impls_are (element_view c.args.root.now) _ _ c.from_vec-impls.result _ (said_by c.in_ok-around.around.said) _
     (c.from_vec-impls.ensures ∙ c.in_ok-room.ensures.items) c.in_ok-around.ensures.said c.in_ok-around.ensures.added c.in_ok-gather.ensures.impls
+
+pub returns-clause-natives : goal.returns-clause-natives
+returns-clause-natives c =
+    natives_are (element_view c.args.root.now) _ _ c.new-natives.result _ (said_by c.in_ok-around.around.said) _ c.new-natives.ensures c.in_ok-around.ensures.said c.in_ok-around.ensures.added
+    c.in_ok-gather.ensures.natives

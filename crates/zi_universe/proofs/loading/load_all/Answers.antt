@@ -3,7 +3,7 @@ use Rattle.std.proofs.lemmas.Result.{err_from_is_err_and}
 use Rattle.zi_feed.specs.declared.feed.Feed.{Feed}
 use Rattle.zi_outside.specs.Views.{Holding, holding}
 use Rattle.zi_universe.specs.declared.types.Requirement.{Requirement}
-use Rattle.zi_universe.specs.Naming.{in_set}
+use Rattle.zi_universe.specs.Loading.{store_of}
 use Rattle.zi_universe.specs.Tables.{addresses}
 use Rattle.zi_universe.specs.Loading.{task_of}
 use Rattle.zi_universe.specs.Stages.{IsAt, IsBegun, LoadsNext}
@@ -24,7 +24,7 @@ loop-alloc-init g c =
     let P : List Feed → Type 0 = λ q. GetsMore [] (addresses q) seen seen in
     let R : Requirement → Type 0 = λ r. IsBegun r.interface c.in_ok-state.state in
     record {
-      at = at_begun (holding seen) c.args.wanted.now.req c.args.wanted.now.policy (in_set c.args.wanted.now.stored) c.in_ok-state.state (subst R c.req.ensures c.in_ok-state.ensures);
+      at = at_begun (holding seen) c.args.wanted.now.req c.args.wanted.now.policy (store_of c.args.wanted.now) c.in_ok-state.state (subst R c.req.ensures c.in_ok-state.ensures);
       got = subst P (sym c.in_ok-state.ensures.table) (gets_none [] seen);
     }
 
@@ -32,7 +32,7 @@ pub load_next-requires-clause-at : goal.load_next-requires-clause-at
 load_next-requires-clause-at g c =
     let seen = g.F.Feeds.seen c.args.feeds.now in
     let same = holding_got [] (addresses c.loop-alloc.state.table) seen (g.F.Feeds.seen c.loop-alloc.feeds) c.loop-alloc.invariant.got in
-    let P : Option Holding → Type 0 = λ q. IsAt q c.args.wanted.now.req c.args.wanted.now.policy (in_set c.args.wanted.now.stored) c.loop-alloc.state in
+    let P : Option Holding → Type 0 = λ q. IsAt q c.args.wanted.now.req c.args.wanted.now.policy (store_of c.args.wanted.now) c.loop-alloc.state in
     subst P (sym same) c.loop-alloc.invariant.at
 
 pub loop-alloc-preserved : goal.loop-alloc-preserved
@@ -40,7 +40,7 @@ loop-alloc-preserved g c =
     let seen = g.F.Feeds.seen c.args.feeds.now in
     let mid = g.F.Feeds.seen c.loop-alloc.feeds in
     let same = holding_got [] (addresses c.loop-alloc.state.table) seen mid c.loop-alloc.invariant.got in
-    let P : Option Holding → Type 0 = λ q. LoadsNext q c.args.wanted.now.req c.args.wanted.now.policy (in_set c.args.wanted.now.stored) c.loop-alloc.state c.load_next.new.state in
+    let P : Option Holding → Type 0 = λ q. LoadsNext q c.args.wanted.now.req c.args.wanted.now.policy (store_of c.args.wanted.now) c.loop-alloc.state c.load_next.new.state in
     record {
       at = (subst P same c.in_ok-load_next.ensures.next).at;
       got = gets_more [] (addresses c.loop-alloc.state.table) (addresses c.load_next.new.state.table) seen mid (g.F.Feeds.seen c.load_next.new.feeds)

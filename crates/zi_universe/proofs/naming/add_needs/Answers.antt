@@ -14,4 +14,4 @@ pub returns-clause-names : goal.returns-clause-names
 returns-clause-names c =
     let n = c.requires.numbered in
     let imp = c.args.one.now.candidate.imp in
-    c.in_ok-add_level.ensures.names imp.deps (deps_there c.args.feeds.now (record { feed = c.args.one.now.feed; number = c.args.one.now.numbers.level }) n.shares imp.deps n.there n.fit.level)
+    c.in_ok-add_level.ensures.names imp.deps (deps_there c.args.feeds.now (record { feed = c.args.one.now.feed; number = c.args.one.now.level }) n.shares imp.deps n.there n.level)

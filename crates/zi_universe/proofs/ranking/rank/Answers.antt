@@ -3,6 +3,7 @@ use Rattle.std.proofs.lemmas.Fn.{always_returns_same}
 use Rattle.std.specs.Ordering.{is_lt}
 use Rattle.std.proofs.lemmas.List.{length-map}
 use Rattle.std.proofs.lemmas.List.Sorted.{ranks_by}
+use Rattle.zi_rank.specs.declared.rating.VersionNumber.{VersionNumber}
 use Rattle.zi_rank.specs.Ratings.{numbered_cmp}
 use Rattle.zi_rank.specs.RankOrder.{numbered_total}
 use Rattle.zi_universe.specs.declared.offers.Offered.{Offered}
@@ -21,13 +22,13 @@ rate-requires-clause-numbered c = c.requires
 
 pub rate-requires-clause-count : goal.rate-requires-clause-count
 rate-requires-clause-count c =
-    ap (λ (q : List ℕ). length q) c.as_slice-numbers_of_all.ensures.value
+    ap (λ (q : List VersionNumber). length q) c.as_slice-numbers_of_all.ensures.value
     ∙ (c.in_ok-numbers.ensures.count ∙ (length-map c.as_slice-all.result.now (λ (o : Offered). o.candidate.standing.version) ∙ ap (λ (q : List Offered). length q) c.as_slice-all.ensures.value))
 
 pub returns-clause-sorting : goal.returns-clause-sorting
 returns-clause-sorting c =
     let ns = c.as_slice-numbers_of_all.result.now in
-    let P : List ℕ → Type 0 = λ q. AreNumbersOf (versions_in c.args.offered.items) q in
+    let P : List VersionNumber → Type 0 = λ q. AreNumbersOf (versions_in c.args.offered.items) q in
     let Q : List Offered → Type 0 = λ q. AreNumbersOf (versions_in q) c.in_ok-numbers.numbers.items in
     rated_sorting c.args.policy.now c.args.offered.items ns c.in_ok-rated.rated.items c.sort_unstable_by.new.self.items c.in_ok-ranked.ranked.items
     c.in_ok-rated.ensures.same c.sort_unstable_by.ensures.permutation c.in_ok-ranked.ensures c.ranks_are_strict.ensures

@@ -6,7 +6,7 @@ use Rattle.zi_rank.specs.declared.rating.Places.{Places}
 use Rattle.zi_rank.specs.Ratings.{places_of}
 use Rattle.zi_universe.specs.declared.offers.Key.{Key}
 use Rattle.zi_universe.specs.declared.ranking.RatedCandidate.{RatedCandidate}
-use Rattle.zi_universe.specs.Offering.{IsNumbered, langs_at}
+use Rattle.zi_universe.specs.Offering.{IsNumbered, langs_at, least}
 use Rattle.zi_universe.proofs.KeyLemmas.{finds_none, All-turn, langs_there}
 use Rattle.zi_universe.proofs.RankedLemmas.{none_rated, one_rated}
 use Rattle.zi_universe.proofs.ranking.rate.Goals as goal
@@ -52,7 +52,7 @@ loop-one-preserved c =
     let at : c.len-at.result ≡ length c.loop-one.yielded = omega (arith, long, c.len-at.ensures, c.loop-one.rated.ok.0) in
     record {
       rated = one_rated c.args.policy.now c.loop-one.yielded c.args.numbers.now c.loop-one.rated.items c.push.new.self.items _ c.in_ok-push.ensures.items
-          (omega (arith, t.0, c.requires.count)) c.placed-rating.ensures (ap (λ q. get_or c.args.numbers.now q 0) at) c.loop-one.invariant.rated;
+          (omega (arith, t.0, c.requires.count)) c.placed-rating.ensures (ap (λ q. get_or c.args.numbers.now q least) at) c.loop-one.invariant.rated;
       finds = c.in_ok-places.ensures.finds;
     }
 

@@ -1,9 +1,12 @@
 use Rattle.std.proofs.Common.{ap, refl, ◌∙◌, Some, None}
-use Rattle.zi_feed.proofs.ShareLaws.{none_shared, at_first, first_levels, first_deps}
+use Rattle.zi_feed.proofs.ShareLaws.{none_shared, no_natives, at_first, first_levels, first_deps}
 use Rattle.zi_feed.proofs.shares.Shares.nothing.Goals as goal
 
 pub returns-clause-none : goal.returns-clause-none
 returns-clause-none c = none_shared _ (c.from_vec-of.ensures ∙ c.in_ok-room.ensures.items) (first_levels c.new-levels.result c.push-3.new.self _ c.new-levels.ensures c.in_ok-push-3.ensures.ok refl)
+
+pub returns-clause-no_natives : goal.returns-clause-no_natives
+returns-clause-no_natives c = no_natives _ c.new-of_natives.ensures
 
 pub returns-clause-fit : goal.returns-clause-fit
 returns-clause-fit c = record {

@@ -1,0 +1,6 @@
+pub mod Lines
+pub mod Cutting
+pub mod Table
+pub mod Natives
+pub mod Picks
+pub mod Laws
