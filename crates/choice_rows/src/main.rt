@@ -11,6 +11,7 @@ mod asking;
 mod certificates;
 mod choices;
 mod deciding;
+mod explaining;
 mod refusing;
 mod selections;
 mod solving;

@@ -71,7 +71,7 @@ kept_one f ms true a e h = h.0
 kept_one f ms false a e h = absurd (false≢true e)
 
 -- what is taken as true is so
-makes_both : (v : ℕ → Bool) (xs ys : List Lit) → MakesTrue v xs → MakesTrue v ys → MakesTrue v (xs ++ ys)
+pub makes_both : (v : ℕ → Bool) (xs ys : List Lit) → MakesTrue v xs → MakesTrue v ys → MakesTrue v (xs ++ ys)
 makes_both v [] ys h g = g
 makes_both v (x ∷ xs) ys h g = (h.0, makes_both v xs ys h.1 g)
 
@@ -94,7 +94,7 @@ module _ (u : List Interface) (req : Requirement) (ms : List Lemma) (log : follo
       let f : v (var_number u (Cand i c)) ≡ false = false_from_ne_true (v (var_number u (Cand i c))) (λ y. none_some (sym e ∙ part.are_chosen i c (some_is (candidate_at u i c) k (candidate_is u i c ∙ at)) y)) in
       (ap not f, tt)
 
-  said_true : (i : ℕ) (p : Option ℕ) → pick t i ≡ p → MakesTrue v (said_at u i p)
+  pub said_true : (i : ℕ) (p : Option ℕ) → pick t i ≡ p → MakesTrue v (said_at u i p)
   said_true i (Some c) e = (so_true i c e, tt)
   said_true i None e = makes_each v 0 (is_not u i) (candidates_of u i) (λ c k at. (let z : c ≡ 0 + c = omega arith in subst (λ m. MakesTrue v (is_not u i m k)) z (none_false i c k e at)))
 

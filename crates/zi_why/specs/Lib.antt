@@ -1,0 +1,5 @@
+pub mod Reasons
+pub mod Laws
+pub mod Reports
+pub mod Known
+pub mod Taking
