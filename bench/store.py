@@ -1,5 +1,5 @@
 #!/usr/bin/env python3
-"""The time to verify and to add trees in a store, as ratios to `0install store` on the same trees, in the same run.
+"""The time to verify and to add trees in a store, as ratios to `0install store` on the same trees, in the same run; and what stores cost a choice.
 
 Run it after `rt ci`, which builds the program; the variable ZI_PROGRAM names another. The trees: one file of 256 MB, 20,000 files
 of 1,000 bytes in 200 folders, one folder of 100,000 files, and 396, 793 and 1,587 chains of 63 folders one in another (25,000, 50,000
@@ -8,6 +8,8 @@ and 100,000 nodes), for `verify`; 1,000 files of 1,000 bytes for `add`. The goal
 there are; a folder is listed once. How often is counted by strace, where that is installed. `add` may take twice the time of
 0install, which doesn't make what it stored last through a crash: what that costs is shown by the time of `sync -f` alone. Each
 figure is the best of some runs. Where 0install isn't installed, `sha256sum` and `cp -r` over the same files stand for it.
+Last come five stores of 10,000 trees, over which programs of 10, 100 and 1,000 interfaces are chosen: the smallest in at most 5.5 times the
+time that it takes over one of them, and what the stores add is the same however much is selected.
 """
 import base64
 import hashlib
@@ -27,6 +29,9 @@ PROGRAM = pathlib.Path(os.environ.get("ZI_PROGRAM") or TOP / "crates/zi/out/zi")
 ONE_FILE = "one file of 256 MB"
 WIDE = "one folder of 100,000 files"
 DEEP = 63
+STORES = 5
+NAMES = 10_000
+NS = "http://zero-install.sourceforge.net/2004/injector/interface"
 
 
 def timed(words, env=None, between=None):
@@ -56,6 +61,11 @@ def name_of(program, store, tree):
     env = dict(os.environ, ZI_STORE=str(store))
     done = subprocess.run([program, "manifest", "sha256new", tree], env=env, capture_output=True, check=True)
     return done.stdout.split(b"\n")[-2].decode(), done.stdout[: done.stdout[:-1].rfind(b"\n") + 1]
+
+
+def spelled(data):
+    """The digest name of what has these bytes as its manifest."""
+    return "sha256new_" + base64.b32encode(hashlib.sha256(data).digest()).decode().rstrip("=")
 
 
 def chains(tree, count):
@@ -111,8 +121,7 @@ def add(work):
     for name, data in files.items():
         put(source / name, data)
     lines = [f"F {hashlib.sha256(data).hexdigest()} 0 {len(data)} {name}\n" for name, data in sorted(files.items())]
-    digest = hashlib.sha256("".join(lines).encode()).digest()
-    name = "sha256new_" + base64.b32encode(digest).decode().rstrip("=")
+    name = spelled("".join(lines).encode())
     store = work / "store"
     env = dict(os.environ, ZI_STORE=str(store))
     clean = lambda: shutil.rmtree(store, ignore_errors=True)
@@ -136,6 +145,33 @@ def add(work):
     print(f"add, 1,000 files: {ours:.3f} s; {other} {theirs:.3f} s; ratio {ours / theirs:.2f}; sync -f alone {sync:.3f} s")
 
 
+def program(folder, count):
+    """A program of so many interfaces, all of which the first needs."""
+    for number in range(count):
+        needs = "".join(f'<requires interface="./i{other}.xml"/>' for other in range(1, count)) if number == 0 else ""
+        inside = f'<implementation id="i" version="1" local-path=".">{needs}</implementation>'
+        (folder / f"i{number}.xml").write_text(f'<interface xmlns="{NS}"><name>n</name><summary>s</summary>{inside}</interface>\n')
+    return str(folder / "i0.xml")
+
+
+def choose(work):
+    stores = [work / f"store{number}" for number in range(STORES)]
+    for store in stores:
+        for number in range(NAMES):
+            (store / spelled(f"{store.name} {number}".encode())).mkdir(parents=True)
+    for count in (10, 100, 1_000):
+        folder = work / str(count)
+        folder.mkdir()
+        words = [str(PROGRAM), "select", "--no-command", program(folder, count)]
+        times = []
+        for some in ([work / "none"], stores[:1], stores):
+            env = dict(os.environ, ZI_STORE=str(some[0]), ZI_STORES=":".join(str(store) for store in some[1:]))
+            times.append(timed(words, env))
+        none, one, all_of = times
+        print(f"select, {count:,} interfaces: {none * 1e3:.1f} ms without a store, {one * 1e3:.1f} over one, {all_of * 1e3:.1f} over {STORES}", end="")
+        print(f"; ratio to one {all_of / one:.2f}; what they add {(all_of - none) * 1e3:.1f} ms", flush=True)
+
+
 def main():
     if not PROGRAM.exists():
         sys.exit(f"{PROGRAM} isn't built: run `rt ci` first")
@@ -144,6 +180,8 @@ def main():
             verify(shape, make, nodes, pathlib.Path(work))
     with tempfile.TemporaryDirectory() as work:
         add(pathlib.Path(work))
+    with tempfile.TemporaryDirectory() as work:
+        choose(pathlib.Path(work))
 
 
 if __name__ == "__main__":

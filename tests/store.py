@@ -100,6 +100,26 @@ def residues(folder):
     return [name for name in os.listdir(store(folder)) if name.startswith("tmp-")]
 
 
+def laid(top, files, kind="F"):
+    """A stored tree of these files in a store's folder, made by hand, and its name; those of the kind `X` are executable."""
+    name = name_of(files, kind)
+    inside = os.path.join(top, name)
+    os.makedirs(inside)
+    for file, data in files.items():
+        path = write(inside, file, data)
+        os.chmod(path, 0o755 if kind == "X" else 0o644)
+        os.utime(path, (0, 0))
+    write(inside, ".manifest", manifest(files, kind))
+    return name
+
+
+def selections(folder, name):
+    """The words that launch the file `main` of a stored tree."""
+    document = f"""<selections xmlns="http://zero-install.sourceforge.net/2004/injector/interface" interface="/p" command="run">
+<selection interface="/p" id="x" version="1"><manifest-digest sha256new="{name[10:]}"/><command name="run" path="main"/></selection></selections>"""
+    return ["launch", write(folder, "sels", document.encode())]
+
+
 FILES = {"b": b"abc", "a": b"", "c.d": b"x" * 200_000}
 
 
@@ -478,6 +498,63 @@ def failures_are_told(folder):
     )
 
 
+def several_stores(folder):
+    """A tree is used from the first store that has it: that of the variable ZI_STORE, then the others in their order, which stay as they are."""
+    folder = os.path.realpath(folder)
+    near, far = os.path.join(folder, "near"), os.path.join(folder, "far")
+    stores = {"ZI_STORES": f":near::{far}:"}
+    script = {"main": b"#!/bin/sh\nprintf '[%s]' \"$0\" \"$@\"\n"}
+    name = laid(far, script, "X")
+    words = selections(folder, name) + ["a b"]
+    expect(run(words, folder), 86, b"", f"zi: {name} is not stored\n".encode())
+    expect(run(words, folder, **stores), 0, f"[{far}/{name}/main][a b]".encode(), b"")
+    other = laid(near, FILES)
+    listed = "".join(line + "\n" for line in sorted([name, other])).encode()
+    expect(run(["store", "list"], folder, **stores), 0, listed, b"")
+    for stored in (name, other):
+        expect(run(["store", "verify", stored], folder, **stores), 0, b"sound\n", b"")
+    expect(run(["manifest", "sha256new", other], folder, **stores), 0, manifest(FILES) + other.encode() + b"\n", b"")
+    os.makedirs(os.path.join(far, "plain"))
+    expect(run(["manifest", "sha256new", "plain"], folder, **stores), 0, EMPTY.encode() + b"\n", b"")
+    holds("nothing is made", not os.path.exists(store(folder)))
+    for top in (near, store(folder)):
+        laid(top, script, "X")
+        expect(run(words, folder, **stores), 0, f"[{top}/{name}/main][a b]".encode(), b"")
+    expect(run(tree(folder, FILES), folder, **stores), 0, b"stored\n", b"")
+    whole(folder, FILES)
+    expect(run(["store", "list"], folder, **stores), 0, listed, b"")
+    write(os.path.join(store(folder), name), "main", b"")
+    os.utime(os.path.join(store(folder), name, "main"), (0, 0))
+    damaged = f"zi: {name} is damaged: {name_of({'main': b''}, 'X')}\n".encode()
+    expect(run(words, folder, **stores), 87, b"", damaged)
+    expect(run(["store", "verify", name], folder, **stores), 87, b"manifest line 1\n", damaged)
+    holds("near", sorted(os.listdir(near)) == sorted([name, other]))
+    holds("far", sorted(os.listdir(far)) == sorted([name, "plain"]))
+
+
+def further_stores_that_are_none(folder):
+    """One that isn't there has no trees, and isn't made. One that can't be read is a fault for all that ask it, and is named where that is asked for."""
+    folder = os.path.realpath(folder)
+    none, file, loop = (os.path.join(folder, name) for name in ("none", "file", "loop"))
+    write(folder, "file", b"")
+    os.symlink("loop", loop)
+    name = laid(store(folder), {"main": b"#!/bin/sh\n"}, "X")
+    words = selections(folder, name)
+    for stores in ("", ":", none, f"{none}:none/more"):
+        expect(run(["store", "list"], folder, ZI_STORES=stores), 0, name.encode() + b"\n", b"")
+        expect(run(words, folder, ZI_STORES=stores), 0, b"", b"")
+        expect(run(["store", "verify", OTHER], folder, ZI_STORES=stores), 86, b"", f"zi: {OTHER} is not stored\n".encode())
+    expect(run(tree(folder, FILES), folder, ZI_STORES=none), 0, b"stored\n", b"")
+    holds("isn't made", not os.path.exists(none))
+    for bad, reason in ((file, "Not a directory (os error 20)"), (loop, "Too many levels of symbolic links (os error 40)")):
+        stores = {"ZI_STORES": f"{none}:{bad}:{store(folder)}", "ZI_LOG": "-"}
+        for asked in (["store", "list"], words):
+            expect(run(asked, folder, **stores), 90, b"", f"zi: store fault at \n{bad}: {reason}\n".encode())
+        expect(run(["store", "verify", name], folder, **stores), 0, b"sound\n", b"")
+        expect(run(["manifest", "sha256", "plain"], folder, **stores), 90, b"", f"zi: store fault at plain\n{bad}/plain: {reason}\n".encode())
+        expect(run(tree(folder, FILES), folder, **stores), 0, b"present\n", b"")
+
+
 ROWS = [
     added_listed_verified,
     no_files_are_the_empty_tree,
@@ -488,6 +565,8 @@ ROWS = [
     where_proc_is_not_mounted,
     large,
     what_is_stored_counts_in_rank,
+    several_stores,
+    further_stores_that_are_none,
     an_empty_folder_under_the_name_is_present,
     stored_folders_are_closed,
     what_a_failed_write_leaves,

@@ -21,6 +21,7 @@ fn status_over<F: Feeds>(
         &objects.vars,
         feeds,
         &mut objects.shelf,
+        objects.others.as_mut_slice(),
         &mut objects.web,
         &mut objects.spawner,
         &mut objects.out,
@@ -34,7 +35,7 @@ fn status_of(alloc: Global, words: &[Text], told: &mut Told) -> u8 {
     let objects = &mut told.objects;
     match &mut told.feeds {
         Held::Planned(feeds) => status_over(alloc, words, feeds, objects),
-        Held::Sure(feeds) => status_over(alloc, words, feeds, objects),
+        Held::Limited(feeds) => status_over(alloc, words, feeds, objects),
         Held::Long(feeds) => status_over(alloc, words, feeds, objects),
     }
 }

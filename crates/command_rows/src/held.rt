@@ -1,4 +1,5 @@
 //! Feeds of one form or another.
+use crate::limited::{LimitedFeeds, Most};
 use std::alloc::Global;
 use zi_demo::universe_of;
 use zi_outside::{Feeds, FeedsFault, Got, MemoryFeeds, SureFeeds};
@@ -23,8 +24,8 @@ impl Feeds for LongFeeds {
 pub(crate) enum Held {
     /// Those that are told, which fail where it was planned.
     Planned(MemoryFeeds),
-    /// Those of a demonstration.
-    Sure(SureFeeds),
+    /// Those of a demonstration, or those that fail where more is asked for than may be.
+    Limited(LimitedFeeds),
     /// Those that are too long.
     Long(LongFeeds),
 }
@@ -36,16 +37,26 @@ impl Held {
             "1" => universe_of(alloc, 1)?,
             _ => universe_of(alloc, 40)?,
         };
-        Ok(Held::Sure(feeds))
+        Ok(Held::Limited(LimitedFeeds::new(feeds)))
     }
 
     /// Sets what a key holds.
     pub(crate) fn put(&mut self, key: &str, bytes: &[u8]) -> Result<(), Memory> {
         match self {
             Held::Planned(feeds) => feeds.put(key, bytes),
-            Held::Sure(feeds) => feeds.put(key, bytes),
+            Held::Limited(feeds) => feeds.put(key, bytes),
             Held::Long(_) => Ok(()),
         }
+    }
+
+    /// Sets with which limit a key may be asked for. What was told before the first of these is gone.
+    pub(crate) fn allow(&mut self, alloc: Global, most: Most) {
+        if let Held::Limited(feeds) = self {
+            return feeds.allow(most);
+        }
+        let mut feeds = LimitedFeeds::new(SureFeeds::new(alloc));
+        feeds.allow(most);
+        *self = Held::Limited(feeds);
     }
 
     /// Sets the numbers of the calls that fail, where they can.

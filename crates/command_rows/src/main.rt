@@ -11,6 +11,7 @@
 mod asking;
 mod calling;
 mod held;
+mod limited;
 mod seen;
 mod told;
 mod words;

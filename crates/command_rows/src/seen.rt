@@ -125,16 +125,16 @@ fn put_launch(out: &mut Sheet, word: &str, rest: &str, objects: &Objects) {
 }
 
 /// Adds what is seen: the words, a variable or the folders of the last launch; how many were launched, asked of the web, called of the
-/// store or made in it; the reads of it; what is stored; how often a text was written.
+/// store that was told last or made in it; the reads of it; what is stored there; how often a text was written.
 pub(crate) fn put_seen(alloc: Global, out: &mut Sheet, word: &str, rest: &str, objects: &Objects) {
     match word {
         "last" | "variable" | "folders" => put_launch(out, word, rest, objects),
         "launched" => out.number(objects.spawner.launches().len() as u64),
         "asked" => put_asked(out, objects.web.asked()),
-        "called" => out.number(objects.shelf.calls().len() as u64),
-        "reads" => put_reads(out, &objects.shelf),
-        "made" => out.number(made(&objects.shelf) as u64),
-        "stored" => put_stored(alloc, out, rest, &objects.shelf),
+        "called" => out.number(objects.store().calls().len() as u64),
+        "reads" => put_reads(out, objects.store()),
+        "made" => out.number(made(objects.store()) as u64),
+        "stored" => put_stored(alloc, out, rest, objects.store()),
         "times" => out.number(times(rest, &objects.out) as u64),
         _ => out.put("no question"),
     }

@@ -1,11 +1,12 @@
 //! What lines tell: feeds and files, the web, variables, what is stored, how programs end, and which calls fail.
 use crate::asking::put_spelled;
 use crate::held::{Held, LongFeeds};
+use crate::limited::{LimitedWeb, Most};
 use std::alloc::Global;
 use zi_lines::{Sheet, halves, take_numbers};
 use zi_memory::MemoryShelf;
 use zi_outside::{MemoryFeeds, MemorySink, MemorySpawner, MemoryWeb, Vars};
-use zi_text::{Bytes, List, Memory};
+use zi_text::{Bytes, List, Memory, Text};
 use zi_tree::{RelPath, Tree, TreeNode};
 
 /// What stands before the inside of a feed.
@@ -29,20 +30,37 @@ fn plain(bytes: Vec<u8>) -> TreeNode {
 #[derive(Drop)]
 pub(crate) struct Objects {
     pub vars: Vars,
+    /// The store that is written.
     pub shelf: MemoryShelf,
-    pub web: MemoryWeb,
+    /// Those that are read besides, in their order.
+    pub others: Vec<MemoryShelf>,
+    pub web: LimitedWeb,
     pub spawner: MemorySpawner,
     pub out: MemorySink,
     pub err: MemorySink,
 }
 
 impl Objects {
+    /// The store that was told last.
+    pub(crate) fn store(&self) -> &MemoryShelf {
+        self.others.last().unwrap_or(&self.shelf)
+    }
+
+    /// The store that was told last.
+    fn store_mut(&mut self) -> &mut MemoryShelf {
+        match self.others.last_mut() {
+            Some(shelf) => shelf,
+            None => &mut self.shelf,
+        }
+    }
+
     /// Empty ones.
     fn new(alloc: Global) -> Objects {
         Objects {
             vars: Vars::new(alloc),
             shelf: MemoryShelf::new(alloc),
-            web: MemoryWeb::new(alloc),
+            others: Vec::new(alloc),
+            web: LimitedWeb::new(MemoryWeb::new(alloc)),
             spawner: MemorySpawner::new(alloc),
             out: MemorySink::new(alloc),
             err: MemorySink::new(alloc),
@@ -115,6 +133,25 @@ impl Told {
         self.objects.web.put(href, text.as_bytes())
     }
 
+    /// Takes the greatest limit with which a feed, a file or an address may be asked for, and which that is. It goes before the
+    /// feeds that are told.
+    fn take_limit(&mut self, alloc: Global, row: &str) -> Result<(), Memory> {
+        let (number, key) = halves(row);
+        let limit = number.parse::<u64>().unwrap_or(0);
+        self.objects.web.allow(Most {
+            key: Text::from_str(alloc, key)?,
+            limit,
+        });
+        self.feeds.allow(
+            alloc,
+            Most {
+                key: Text::from_str(alloc, key)?,
+                limit,
+            },
+        );
+        Ok(())
+    }
+
     /// Takes a variable: its name and its value.
     fn take_variable(&mut self, row: &str) -> Result<(), Memory> {
         let (name, value) = halves(row);
@@ -153,10 +190,16 @@ impl Told {
         }
     }
 
+    /// Takes a further store: its root. From here on `place`, `fails store` and `stored` mean it.
+    fn take_store(&mut self, alloc: Global, root: &str) -> Result<(), Memory> {
+        let shelf = MemoryShelf::with_root(alloc, root)?;
+        Ok(self.objects.others.push(shelf)?)
+    }
+
     /// Sets the top entry of this name to the tree.
     fn place(&mut self, alloc: Global, top: &str) -> Result<(), Memory> {
         let tree = std::mem::replace(&mut self.tree, Tree::new(alloc));
-        self.objects.shelf.place(top, tree)
+        self.objects.store_mut().place(top, tree)
     }
 
     /// Sets the temporary name of this number to an empty tree.
@@ -164,7 +207,9 @@ impl Told {
         let mut name = Sheet::new(alloc);
         name.put("tmp-");
         name.number(u64::from(number));
-        self.objects.shelf.place(name.text()?, Tree::new(alloc))
+        self.objects
+            .store_mut()
+            .place(name.text()?, Tree::new(alloc))
     }
 
     /// Sets the first so many temporary names to empty trees.
@@ -185,7 +230,7 @@ impl Told {
     fn fail_object(&mut self, object: &str, calls: &[u32]) -> Result<(), Memory> {
         match object {
             "feeds" => self.feeds.fail_at(calls),
-            "store" => self.objects.shelf.fail_at(calls),
+            "store" => self.objects.store_mut().fail_at(calls),
             "web" => self.objects.web.fail_at(calls),
             _ => self.objects.spawner.fail_at(calls),
         }
@@ -256,6 +301,7 @@ fn tells_of_feeds(alloc: Global, out: &mut Sheet, word: &str, rest: &str, told: 
         "demonstration" => out.needs(told.take_demonstration(alloc, rest)),
         "long" => told.feeds = Held::Long(LongFeeds),
         "web" => out.needs(told.take_remote(rest)),
+        "limit" => out.needs(told.take_limit(alloc, rest)),
         _ => return false,
     }
     true
@@ -274,6 +320,7 @@ pub(crate) fn tells(
         "set" => out.needs(told.take_variable(rest)),
         "node" => out.needs(told.take_node(alloc, rest)),
         "zeros" => out.needs(told.take_zeros(alloc, rest)),
+        "store" => out.needs(told.take_store(alloc, rest)),
         "place" => out.needs(told.place(alloc, rest)),
         "crowd" => out.needs(told.crowd(alloc, rest.parse::<u32>().unwrap_or(0))),
         "fails" => out.needs(told.fail(alloc, rest)),

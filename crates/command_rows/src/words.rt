@@ -1,7 +1,7 @@
 //! What words ask for, or the index at which they stop being right.
 use crate::asking::take_words;
 use std::alloc::Global;
-use zi_app::feed_file;
+use zi_edge::feed_file;
 use zi_lines::Sheet;
 use zi_policy::{Override, Policy};
 use zi_text::{List, Memory, Text};

@@ -89,10 +89,9 @@ fn joined(alloc: Global, folder: &str, path: &str) -> Result<Text, Memory>
     Text::from_str(alloc, whole.as_str())
 }
 
-/// The folder of the store: the variable `ZI_STORE`, or `store` where that isn't set, is empty or no UTF-8. One that doesn't
-/// begin with `/` is one in the current folder, and is given with that folder's path where the system tells it.
-pub fn store_folder<R: Env + AllocGlobal>(rt: &R) -> Result<Text, Memory> {
-    let folder = text_or(rt, "ZI_STORE", "store")?;
+// A folder whose path doesn't begin with `/` is one in the current folder, and is given with that folder's path where the system
+// tells it.
+fn from_root<R: Env + AllocGlobal>(rt: &R, folder: Text) -> Result<Text, Memory> {
     if folder.as_str().starts_with('/') {
         return Ok(folder);
     }
@@ -103,4 +102,24 @@ pub fn store_folder<R: Env + AllocGlobal>(rt: &R) -> Result<Text, Memory> {
         Some(current) => joined(rt.alloc(), current, folder.as_str()),
         None => Ok(folder),
     }
+}
+
+/// The folder of the store that is written: the variable `ZI_STORE`, or `store` where that isn't set, is empty or no UTF-8. One
+/// that doesn't begin with `/` is one in the current folder, and is given with that folder's path where the system tells it.
+pub fn store_folder<R: Env + AllocGlobal>(rt: &R) -> Result<Text, Memory> {
+    from_root(rt, text_or(rt, "ZI_STORE", "store")?)
+}
+
+/// The folders of the stores that are read besides, in the order in which they are searched: the parts of the variable
+/// `ZI_STORES` between `:`, each as `ZI_STORE` is taken. Empty parts are left out; where it isn't set, is empty or no UTF-8, there
+/// are none.
+pub fn other_folders<R: Env + AllocGlobal>(rt: &R) -> Result<Vec<Text>, Memory> {
+    let all = text_or(rt, "ZI_STORES", "")?;
+    let mut folders = Vec::new(rt.alloc());
+    for part in all.as_str().split(':') {
+        if !part.is_empty() {
+            folders.push(from_root(rt, Text::from_str(rt.alloc(), part)?)?)?;
+        }
+    }
+    Ok(folders)
 }

@@ -1,24 +1,17 @@
 //! The program: its words, its folders of feeds and of trees, its helper, its programs and the standard streams, handed to `zi_app::run`.
 //! What these real objects do is tried, and not claimed.
 //!
-//! Code: `arguments` (words and variables), `folder_feeds` (feeds in files, each read by `piecewise`), `std_sink` (the streams).
-//! specs/Seen.antt says what is seen of the feeds and the streams: each tells its count of faults alone. Paths.antt says where a
-//! feed's file is, Found.antt what is read of it where its bytes are known.
+//! Code: `arguments` (words and variables). The objects are those of `zi_folder` and `zi_edge`.
 #![tactic(auto)]
 
 mod arguments;
-mod folder_feeds;
-mod piecewise;
-mod std_sink;
 
-use arguments::{TextWords, feeds_folder, log_name, store_folder, words};
-use folder_feeds::FolderFeeds;
+use arguments::{TextWords, feeds_folder, log_name, other_folders, store_folder, words};
 use std::alloc::Global;
 use std::process::ExitCode;
-use std_sink::StdSink;
 use zi_app::{Outcome, refuse, run};
-use zi_edge::{ChildSpawner, HelperWeb, helper, variables};
-use zi_folder::{FolderShelf, write_log};
+use zi_edge::{ChildSpawner, FolderFeeds, HelperWeb, StdSink, helper, variables, write_log};
+use zi_folder::FolderShelf;
 use zi_outside::Vars;
 use zi_text::{Memory, Text};
 
@@ -28,6 +21,15 @@ fn named_helper(alloc: Global, vars: &Vars) -> Result<Option<Text>, Memory> {
         Some(name) => Ok(Some(name.copy(alloc)?)),
         None => Ok(None),
     }
+}
+
+// The stores that are read besides.
+fn other_stores(rt: &HostRuntime) -> Result<Vec<FolderShelf>, Memory> {
+    let mut shelves = Vec::new(rt.alloc());
+    for folder in other_folders(rt)? {
+        shelves.push(FolderShelf::new(*rt, folder))?;
+    }
+    Ok(shelves)
 }
 
 // The program's work; Err where memory is refused before it begins.
@@ -42,6 +44,7 @@ fn work(rt: &HostRuntime) -> Result<Outcome, Memory> {
     let vars = variables(rt, alloc)?;
     let mut feeds = FolderFeeds::new(rt, feeds_folder(rt)?);
     let mut shelf = FolderShelf::new(*rt, store_folder(rt)?);
+    let mut others = other_stores(rt)?;
     let mut web = HelperWeb::new(rt, named_helper(alloc, &vars)?);
     let mut spawner = ChildSpawner::new(rt);
     let mut out = StdSink::new(alloc, "standard output", rt.stdout());
@@ -51,6 +54,7 @@ fn work(rt: &HostRuntime) -> Result<Outcome, Memory> {
         &vars,
         &mut feeds,
         &mut shelf,
+        others.as_mut_slice(),
         &mut web,
         &mut spawner,
         &mut out,
@@ -59,6 +63,9 @@ fn work(rt: &HostRuntime) -> Result<Outcome, Memory> {
     if let Some(name) = log_name {
         let _ = write_log(rt, &name, feeds.log().as_bytes());
         let _ = write_log(rt, &name, shelf.log().as_bytes());
+        for other in &others {
+            let _ = write_log(rt, &name, other.log().as_bytes());
+        }
         let _ = write_log(rt, &name, web.log().as_bytes());
         let _ = write_log(rt, &name, spawner.log().as_bytes());
         let _ = write_log(rt, &name, out.log().as_bytes());

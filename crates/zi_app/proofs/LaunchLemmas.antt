@@ -11,6 +11,8 @@ use Rattle.zi_words.specs.declared.request.Ask.{Ask}
 use Rattle.zi_outcome.specs.declared.outcome.Outcome.{Outcome}
 use Rattle.zi_outcome.specs.declared.outcome.Outcome.TheVariants.{Done, Usage, FeedRead, NoRootFeed, BadFeed, FeedTooLong, TooManyFeeds, TooManyInterfaces, TooManyCandidates, TooLarge, NoSolution, Spent, NoFile, BadSels, BadProof, Rejected, Plan, FetchRead, NoRemote, WrongSize, Overlap, NoPath, Mismatch, MissingTree, DamagedTree, BadName, TreeTooLarge, StoreFault, Crowded, SpawnFault, SinkFault, Memory, Child}
 use Rattle.zi_world.specs.Surroundings.{Surroundings}
+use Rattle.zi_world.specs.Places.{place}
+use Rattle.zi_world.proofs.StandLemmas.{never_in_store}
 use Rattle.zi_launching.specs.Verifying.{Condemns, FailsToVerify}
 use Rattle.zi_launching.specs.Launching.{Task, Lent, launching, PreparesNot, Starts, LaunchesOver}
 use Rattle.zi_launching.specs.Run.{RunsTo, RunsProgram}
@@ -91,15 +93,16 @@ fails_right d before after index (inl (v, why, calm, held)) = condemned_right d 
 fails_right d before after index (inr (inl (e, failed))) = (cc e)
 fails_right d before after index (inr (inr (e, calm))) = (cc e)
 
-prepares_right : (task : Task) (before after : Shelving) (index : ℕ) → PreparesNot task before (Usage index) after → ⊥
+prepares_right : (task : Task) (before after : List Shelving) (index : ℕ) → PreparesNot task before (Usage index) after → ⊥
 prepares_right task before after index (inl (inl (d, m, e), calm)) = (cc e)
 prepares_right task before after index (inl (inr e, calm)) = (cc e)
 prepares_right task before after index (inr (inl (inl (fault, e, plan), calm))) = (cc e)
 prepares_right task before after index (inr (inl (inr e, calm))) = (cc e)
-prepares_right task before after index (inr (inr u)) = fails_right u.stops.name before after index u.stops.fails
+prepares_right task before after index (inr (inr u)) =
+    never_in_store (λ b a. FailsToVerify u.stops.name b (Usage index) a) (λ b a f. fails_right u.stops.name b a index f) (place task.each u.stops.name) before after u.stops.fails
 
 over_right : (task : Task) (before after : Lent) (index : ℕ) → LaunchesOver task before after (Usage index) → ⊥
-over_right task before after index (inl (not, same)) = prepares_right task before.shelf after.shelf index not
+over_right task before after index (inl (not, same)) = prepares_right task before.stores after.stores index not
 over_right task before after index (inr (launch, ready, starts)) = starts
 
 pub run_right : (ask : Ask) (vars : List Var) (user : List (List ℕ)) (before after : Surroundings) (index : ℕ) → RunsProgram ask vars user before after (Usage index) → ⊥
@@ -107,7 +110,7 @@ run_right ask vars user before after index r = by r.comes
   where
     by : RunsTo ask vars user r.tried before after (Usage index) → ⊥
     by (inl (inl none, fetched, nothing)) = none.0
-    by (inl (inr found, fetched, nothing)) = found.1.2
+    by (inl (inr found, fetched, nothing)) = found.2
     by (inr (c, chosen, inl stops)) = not_right c before.web index r.tried after.web stops.fetches
     by (inr (c, chosen, inr l)) = over_right _ (launching before) (launching after) index l.launches
 

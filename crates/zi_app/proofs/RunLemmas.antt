@@ -17,30 +17,32 @@ use Rattle.zi_words.specs.Options.{ask_of, gathered}
 use Rattle.zi_words.specs.Store.{AsksStore}
 use Rattle.zi_words.specs.Demo.{AsksDemo}
 use Rattle.zi_words.proofs.SearchLaws.{IsWithin, is_within}
-use Rattle.zi_app.specs.declared.checked.Checked.{Checked}
-use Rattle.zi_app.specs.declared.checked.Checked.TheVariants as checked
-use Rattle.zi_digest.specs.declared.DigestName.{DigestName}
 use Rattle.zi_outcome.specs.declared.outcome.Outcome.{Outcome}
-use Rattle.zi_outcome.specs.declared.outcome.Outcome.TheVariants.{Done, Usage, Child}
-use Rattle.zi_world.specs.World.{World}
+use Rattle.zi_outcome.specs.declared.outcome.Outcome.TheVariants.{Usage, Child}
+use Rattle.zi_world.specs.World.{World, all_stores}
 use Rattle.zi_world.specs.Meets.{world_of}
 use Rattle.zi_world.specs.Surroundings.{Surroundings, NothingDoneAround, meets_of}
-use Rattle.zi_outcome.specs.Writing.{PrintsThen, Prints}
+use Rattle.zi_outcome.specs.Writing.{Prints}
 use Rattle.zi_app.specs.Showing.{ShowsText, ShowsDemo}
 use Rattle.zi_choosing.specs.Demo.{Demos}
-use Rattle.zi_app.specs.StoreVerify.{TellsCheck}
 use Rattle.zi_app.specs.Answers.{Does, Works, Runs}
 use Rattle.zi_app.specs.Words.{IsInForm, words_outcome}
 use Rattle.zi_world.specs.Asking.{FeedsStay}
 use Rattle.zi_world.proofs.AskingLemmas.{unasked_stay}
-use Rattle.zi_world.specs.Shelves.{Lasts}
+use Rattle.zi_world.specs.Shelves.{Untouched, Lasts}
 use Rattle.zi_outcome.specs.Line.{Tells}
-use Rattle.zi_store.specs.Keeping.{is_names, is_reading}
-use Rattle.zi_world.proofs.ShelvesLemmas.{untouched, nothing_done, untouched_lasts, keeps_lasts}
+use Rattle.zi_shelf.specs.Shelving.{Shelving}
+use Rattle.zi_store.specs.Keeping.{Keeps, is_names, is_reading}
+use Rattle.zi_store.specs.Stores.{Each}
+use Rattle.zi_store.proofs.StoresLemmas.{each_same}
+use Rattle.zi_world.proofs.ShelvesLemmas.{untouched, nothing_done, untouched_lasts, keeps_lasts, untouched_keeps}
+use Rattle.zi_world.proofs.PlacesLemmas.{each_by}
 use Rattle.zi_adding.specs.Gains.{KeepsTrees}
-use Rattle.zi_adding.proofs.HistoryLaws.{uses_keep, reading_keeps, told_keeps}
+use Rattle.zi_adding.proofs.HistoryLaws.{uses_keep, reading_keeps, told_keeps, names_only_read}
 use Rattle.zi_app.proofs.LaunchLemmas.{ran_in, run_right, launch_right, run_quiet, launch_quiet}
-use Rattle.zi_app.proofs.KeptLemmas.{adds_keep, uses_last, download_right}
+use Rattle.zi_storing.proofs.AddingLemmas.{adds_use}
+use Rattle.zi_storing.proofs.RightLemmas.{prints_right, lists_right, manifest_right, verify_right, add_right}
+use Rattle.zi_app.proofs.KeptLemmas.{uses_last, download_right}
 
 -- right words ask for files with names, for no more lemmas than there may be, and for a demonstration that there is
 abbrev IsLoading : Request → Type 0
@@ -98,44 +100,20 @@ in_form (w ∷ ws) r (inr (inr (inr (inr (are, inl (e, asked)))))) = subst IsInF
 in_form (w ∷ ws) r (inr (inr (inr (inr (are, inr (e, asked)))))) = subst IsInForm (sym asked) tt
 
 -- Right words never come to Usage.
-no_print : (text : List ℕ) (ending : Outcome) (old new : Sinking) (index : ℕ) → ending ≢ Usage index → PrintsThen text ending old new (Usage index) → ⊥
-no_print text ending old new index ne (inl (w, e)) = ne (sym e)
-no_print text ending old new index ne (inr (inl (w, e))) = (cc e)
-no_print text ending old new index ne (inr (inr (w, e))) = (cc e)
-
-no_show : (text : List ℕ) (old new : Sinking) (index : ℕ) → PrintsThen text Done old new (Usage index) → ⊥
-no_show text old new index p = no_print text Done old new index (λ e. (cc e)) p
-
-no_check : (name : DigestName) (c : Checked) (old new : Sinking) (index : ℕ) → TellsCheck name c old new (Usage index) → ⊥
-no_check name checked.Sound old new index t = no_show _ old new index t
-no_check name (checked.Damaged found difference) old new index t = no_print _ _ old new index (λ e. (cc e)) t
-no_check name checked.Missing old new index (e, w) = (cc e)
-no_check name (checked.BadName path) old new index (e, w) = (cc e)
-no_check name (checked.TooLarge what limit) old new index (e, w) = (cc e)
-
 never_usage : (asked : Request) (vars : List Var) (before after : Surroundings) (index : ℕ) → Does asked vars before after (Usage index) → ⊥
-never_usage (request.Select ask proof) vars before after index d = elim d.does.does.answer [ inl f ↦ f.0 | inr s ↦ s.1.2 ]
+never_usage (request.Select ask proof) vars before after index d = elim d.does.does.answer [ inl f ↦ f.0 | inr s ↦ s.2 ]
 never_usage (request.Run ask user) vars before after index d = run_right ask vars user before after index d
 never_usage (request.Launch file user) vars before after index d = launch_right file vars user before after index d
-never_usage (request.Check ask sels proof) vars before after index d = elim d.does.does.answer [ inl f ↦ f.0 | inr s ↦ s.1.2 ]
-never_usage (request.Refute ask proof) vars before after index d = elim d.does.does.answer [ inl f ↦ f.0 | inr s ↦ s.1.2 ]
+never_usage (request.Check ask sels proof) vars before after index d = elim d.does.does.answer [ inl f ↦ f.0 | inr s ↦ s.2 ]
+never_usage (request.Refute ask proof) vars before after index d = elim d.does.does.answer [ inl f ↦ f.0 | inr s ↦ s.2 ]
 never_usage (request.Download ask) vars before after index d = download_right ask (meets_of before) (meets_of after) index d.does
-never_usage (request.Manifest algorithm name) vars before after index d = elim d.does.does.answer [
-  | inl f ↦ f
-  | inr s ↦ elim s.1 [
-    | inl none ↦ none
-    | inr t ↦ no_show _ before.out after.out index t.2
-  ]
-]
-never_usage (request.Add name files) vars before after index d = d.does.does.ended
-never_usage (request.Verify name) vars before after index d = elim d.does.does.answer [
-  | inl f ↦ f
-  | inr s ↦ no_check name s.1.0 before.out after.out index s.1.2
-]
-never_usage request.Names vars before after index d = elim d.does.does.answer [ inl f ↦ f | inr s ↦ no_show _ before.out after.out index s.1.2 ]
+never_usage (request.Manifest algorithm name) vars before after index d = manifest_right algorithm name (world_of (meets_of before)) (world_of (meets_of after)) index d.does.does
+never_usage (request.Add name files) vars before after index d = add_right name files (world_of (meets_of before)) (world_of (meets_of after)) index d.does.does
+never_usage (request.Verify name) vars before after index d = verify_right name (world_of (meets_of before)) (world_of (meets_of after)) index d.does.does
+never_usage request.Names vars before after index d = lists_right (world_of (meets_of before)) (world_of (meets_of after)) index d.does.does
 never_usage (request.Demo n) vars before after index d = elim d.does.does.out [ inl shown ↦ shown.counts | inr m ↦ (let e = m.0 in (cc e)) ]
-never_usage request.Help vars before after index d = no_show _ before.out after.out index d.does.does.out
-never_usage request.Version vars before after index d = no_show _ before.out after.out index d.does.does.out
+never_usage request.Help vars before after index d = prints_right _ before.out after.out index d.does.does.out
+never_usage request.Version vars before after index d = prints_right _ before.out after.out index d.does.does.out
 
 pub asked_done : (words : List (List ℕ)) (asked : Request) (vars : List Var) (before after : Surroundings) (outcome : Outcome) → Right words asked → Does asked vars before after outcome → Works words vars before after outcome
 asked_done words asked vars before after outcome right does =
@@ -153,31 +131,53 @@ words_unread words vars f s outcome means e = subst (λ x. Works words vars s s 
 
 -- the lines of a demonstration are written
 pub shows_demo : (n : ℕ) (world : World) (out : Sinking) (outcome : Outcome) → Demos n world.out out outcome
-    → ShowsDemo n world (record { feeds = world.feeds; shelf = world.shelf; out = out }) outcome
-shows_demo n world out outcome d = record { feeds = refl; shelf = untouched world.shelf; out = d }
+    → ShowsDemo n world (record { feeds = world.feeds; shelf = world.shelf; others = world.others; out = out }) outcome
+shows_demo n world out outcome d = record { feeds = refl; stores = each_same Untouched untouched (all_stores world); out = d }
 
 -- a text is printed
 pub shows : (text shown : List ℕ) (world : World) (out : Sinking) (outcome : Outcome) → shown ≡ text → Prints shown world.out out outcome
-    → ShowsText text world (record { feeds = world.feeds; shelf = world.shelf; out = out }) outcome
-shows text shown world out outcome e p = record { feeds = refl; shelf = untouched world.shelf; out = subst (λ t. Prints t world.out out outcome) e p }
+    → ShowsText text world (record { feeds = world.feeds; shelf = world.shelf; others = world.others; out = out }) outcome
+shows text shown world out outcome e p = record { feeds = refl; stores = each_same Untouched untouched (all_stores world); out = subst (λ t. Prints t world.out out outcome) e p }
 
 pub ruleset answering = (nothing_done)
 
--- Feeds, shelf and web can be used on.
+-- The stores that are read besides are only read.
+all_read : (before after : List Shelving) → Each (Keeps is_names) before after → Each (Keeps is_reading) before after
+all_read before after k = each_by (Keeps is_names) (Keeps is_reading) (λ b a h. names_only_read b a h) before after k
+
+none_touched : (before after : List Shelving) → Each Untouched before after → Each (Keeps is_reading) before after
+none_touched before after u = each_by Untouched (Keeps is_reading) (λ b a h. untouched_keeps is_reading b a h) before after u
+
+does_read : (asked : Request) (vars : List Var) (before after : Surroundings) (outcome : Outcome) → Does asked vars before after outcome → Each (Keeps is_reading) before.others after.others
+does_read (request.Select ask proof) vars before after outcome d = all_read before.others after.others d.does.does.stores.1
+does_read (request.Run ask user) vars before after outcome d = d.others
+does_read (request.Launch file user) vars before after outcome d = d.stores.1
+does_read (request.Check ask sels proof) vars before after outcome d = all_read before.others after.others d.does.does.stores.1
+does_read (request.Refute ask proof) vars before after outcome d = all_read before.others after.others d.does.does.stores.1
+does_read (request.Download ask) vars before after outcome d = all_read before.others after.others d.does.others
+does_read (request.Manifest algorithm name) vars before after outcome d = d.does.does.stores.1
+does_read (request.Add name files) vars before after outcome d = none_touched before.others after.others d.does.does.others
+does_read (request.Verify name) vars before after outcome d = d.does.does.stores.1
+does_read request.Names vars before after outcome d = all_read before.others after.others d.does.does.stores.1
+does_read (request.Demo n) vars before after outcome d = none_touched before.others after.others d.does.does.stores.1
+does_read request.Help vars before after outcome d = none_touched before.others after.others d.does.does.stores.1
+does_read request.Version vars before after outcome d = none_touched before.others after.others d.does.does.stores.1
+
+-- Feeds, stores and web can be used on.
 does_last : (asked : Request) (vars : List Var) (before after : Surroundings) (outcome : Outcome) → Does asked vars before after outcome → Lasts before.shelf after.shelf
-does_last (request.Select ask proof) vars before after outcome d = keeps_lasts is_names before.shelf after.shelf d.does.does.shelf
+does_last (request.Select ask proof) vars before after outcome d = keeps_lasts is_names before.shelf after.shelf d.does.does.stores.0
 does_last (request.Run ask user) vars before after outcome d = uses_last d.tried before.shelf after.shelf d.shelf
-does_last (request.Launch file user) vars before after outcome d = keeps_lasts is_reading before.shelf after.shelf d.shelf
-does_last (request.Check ask sels proof) vars before after outcome d = keeps_lasts is_names before.shelf after.shelf d.does.does.shelf
-does_last (request.Refute ask proof) vars before after outcome d = keeps_lasts is_names before.shelf after.shelf d.does.does.shelf
+does_last (request.Launch file user) vars before after outcome d = keeps_lasts is_reading before.shelf after.shelf d.stores.0
+does_last (request.Check ask sels proof) vars before after outcome d = keeps_lasts is_names before.shelf after.shelf d.does.does.stores.0
+does_last (request.Refute ask proof) vars before after outcome d = keeps_lasts is_names before.shelf after.shelf d.does.does.stores.0
 does_last (request.Download ask) vars before after outcome d = uses_last d.does.tried before.shelf after.shelf d.does.shelf
-does_last (request.Manifest algorithm name) vars before after outcome d = keeps_lasts is_reading before.shelf after.shelf d.does.does.shelf
-does_last (request.Add name files) vars before after outcome d = d.does.does.shelf
-does_last (request.Verify name) vars before after outcome d = keeps_lasts is_reading before.shelf after.shelf d.does.does.shelf
-does_last request.Names vars before after outcome d = keeps_lasts is_names before.shelf after.shelf d.does.does.shelf
-does_last (request.Demo n) vars before after outcome d = untouched_lasts before.shelf after.shelf d.does.does.shelf
-does_last request.Help vars before after outcome d = untouched_lasts before.shelf after.shelf d.does.does.shelf
-does_last request.Version vars before after outcome d = untouched_lasts before.shelf after.shelf d.does.does.shelf
+does_last (request.Manifest algorithm name) vars before after outcome d = keeps_lasts is_reading before.shelf after.shelf d.does.does.stores.0
+does_last (request.Add name files) vars before after outcome d = uses_last d.does.does.tried before.shelf after.shelf (adds_use d.does.does.tried before.shelf after.shelf d.does.does.shelf)
+does_last (request.Verify name) vars before after outcome d = keeps_lasts is_reading before.shelf after.shelf d.does.does.stores.0
+does_last request.Names vars before after outcome d = keeps_lasts is_names before.shelf after.shelf d.does.does.stores.0
+does_last (request.Demo n) vars before after outcome d = untouched_lasts before.shelf after.shelf d.does.does.stores.0
+does_last request.Help vars before after outcome d = untouched_lasts before.shelf after.shelf d.does.does.stores.0
+does_last request.Version vars before after outcome d = untouched_lasts before.shelf after.shelf d.does.does.stores.0
 
 does_stay : (asked : Request) (vars : List Var) (before after : Surroundings) (outcome : Outcome) → Does asked vars before after outcome → FeedsStay before.feeds after.feeds
 does_stay (request.Select ask proof) vars before after outcome d = d.does.does.feeds
@@ -211,19 +211,19 @@ web_stays request.Version vars before after outcome d = unasked_stay before.web 
 
 -- The stored trees are as before, but for those that have come.
 does_keep : (asked : Request) (vars : List Var) (before after : Surroundings) (outcome : Outcome) → Does asked vars before after outcome → KeepsTrees before.shelf after.shelf
-does_keep (request.Select ask proof) vars before after outcome d = reading_keeps is_names before.shelf after.shelf d.does.does.shelf
+does_keep (request.Select ask proof) vars before after outcome d = reading_keeps is_names before.shelf after.shelf d.does.does.stores.0
 does_keep (request.Run ask user) vars before after outcome d = uses_keep d.tried before.shelf after.shelf d.shelf
-does_keep (request.Launch file user) vars before after outcome d = reading_keeps is_reading before.shelf after.shelf d.shelf
-does_keep (request.Check ask sels proof) vars before after outcome d = reading_keeps is_names before.shelf after.shelf d.does.does.shelf
-does_keep (request.Refute ask proof) vars before after outcome d = reading_keeps is_names before.shelf after.shelf d.does.does.shelf
+does_keep (request.Launch file user) vars before after outcome d = reading_keeps is_reading before.shelf after.shelf d.stores.0
+does_keep (request.Check ask sels proof) vars before after outcome d = reading_keeps is_names before.shelf after.shelf d.does.does.stores.0
+does_keep (request.Refute ask proof) vars before after outcome d = reading_keeps is_names before.shelf after.shelf d.does.does.stores.0
 does_keep (request.Download ask) vars before after outcome d = uses_keep d.does.tried before.shelf after.shelf d.does.shelf
-does_keep (request.Manifest algorithm name) vars before after outcome d = reading_keeps is_reading before.shelf after.shelf d.does.does.shelf
-does_keep (request.Add name files) vars before after outcome d = adds_keep name files (world_of (meets_of before)) (world_of (meets_of after)) outcome d.does.does.ended
-does_keep (request.Verify name) vars before after outcome d = reading_keeps is_reading before.shelf after.shelf d.does.does.shelf
-does_keep request.Names vars before after outcome d = reading_keeps is_names before.shelf after.shelf d.does.does.shelf
-does_keep (request.Demo n) vars before after outcome d = told_keeps before.shelf after.shelf d.does.does.shelf.told
-does_keep request.Help vars before after outcome d = told_keeps before.shelf after.shelf d.does.does.shelf.told
-does_keep request.Version vars before after outcome d = told_keeps before.shelf after.shelf d.does.does.shelf.told
+does_keep (request.Manifest algorithm name) vars before after outcome d = reading_keeps is_reading before.shelf after.shelf d.does.does.stores.0
+does_keep (request.Add name files) vars before after outcome d = uses_keep d.does.does.tried before.shelf after.shelf (adds_use d.does.does.tried before.shelf after.shelf d.does.does.shelf)
+does_keep (request.Verify name) vars before after outcome d = reading_keeps is_reading before.shelf after.shelf d.does.does.stores.0
+does_keep request.Names vars before after outcome d = reading_keeps is_names before.shelf after.shelf d.does.does.stores.0
+does_keep (request.Demo n) vars before after outcome d = told_keeps before.shelf after.shelf d.does.does.stores.0.told
+does_keep request.Help vars before after outcome d = told_keeps before.shelf after.shelf d.does.does.stores.0.told
+does_keep request.Version vars before after outcome d = told_keeps before.shelf after.shelf d.does.does.stores.0.told
 
 -- After every outcome but a program's status nothing was launched.
 does_quiet : (asked : Request) (vars : List Var) (before after : Surroundings) (outcome : Outcome) → Does asked vars before after outcome → ((n : ℕ) → outcome ≢ Child n) → after.spawner.ran ≡ before.spawner.ran
@@ -250,8 +250,13 @@ module _ (words : List (List ℕ)) (vars : List Var) (before after : Surrounding
 
   works_last : Works words vars before after outcome → Lasts before.shelf after.shelf
   works_last (inl done) = does_last done.asked vars before after outcome done.does
-  works_last (inr (inl wrong)) = untouched_lasts before.shelf after.shelf wrong.nothing.nothing.nothing.shelf
-  works_last (inr (inr (e, n))) = untouched_lasts before.shelf after.shelf n.nothing.nothing.shelf
+  works_last (inr (inl wrong)) = untouched_lasts before.shelf after.shelf wrong.nothing.nothing.nothing.stores.0
+  works_last (inr (inr (e, n))) = untouched_lasts before.shelf after.shelf n.nothing.nothing.stores.0
+
+  works_read : Works words vars before after outcome → Each (Keeps is_reading) before.others after.others
+  works_read (inl done) = does_read done.asked vars before after outcome done.does
+  works_read (inr (inl wrong)) = none_touched before.others after.others wrong.nothing.nothing.nothing.stores.1
+  works_read (inr (inr (e, n))) = none_touched before.others after.others n.nothing.nothing.stores.1
 
   works_web : Works words vars before after outcome → FeedsStay before.web after.web
   works_web (inl done) = web_stays done.asked vars before after outcome done.does
@@ -260,8 +265,8 @@ module _ (words : List (List ℕ)) (vars : List Var) (before after : Surrounding
 
   works_keep : Works words vars before after outcome → KeepsTrees before.shelf after.shelf
   works_keep (inl done) = does_keep done.asked vars before after outcome done.does
-  works_keep (inr (inl wrong)) = told_keeps before.shelf after.shelf wrong.nothing.nothing.nothing.shelf.told
-  works_keep (inr (inr (e, n))) = told_keeps before.shelf after.shelf n.nothing.nothing.shelf.told
+  works_keep (inr (inl wrong)) = told_keeps before.shelf after.shelf wrong.nothing.nothing.nothing.stores.0.told
+  works_keep (inr (inr (e, n))) = told_keeps before.shelf after.shelf n.nothing.nothing.stores.0.told
 
   works_quiet : Works words vars before after outcome → ((n : ℕ) → outcome ≢ Child n) → after.spawner.ran ≡ before.spawner.ran
   works_quiet (inl done) ne = does_quiet done.asked vars before after outcome done.does ne
@@ -275,7 +280,8 @@ works_told words vars before after err_before err_after work outcome done told s
   done = done;
   told = told;
   feeds = works_stay words vars before after work done;
-  shelf = works_last words vars before after work done;
+  stores = (works_last words vars before after work done, each_by (Keeps is_reading) Lasts (λ b a k. keeps_lasts is_reading b a k) before.others after.others (works_read words vars before after work done));
+  others = works_read words vars before after work done;
   web = works_web words vars before after work done;
   stored = works_keep words vars before after work done;
   quiet = λ ne. works_quiet words vars before after work done (λ n e. ne n (status n e));

@@ -1,8 +1,10 @@
 -- What the program does.
-use Rattle.std.specs.Prelude.{◌≡◌, ◌≢◌, ℕ, ◌⊎◌, List}
+use Rattle.std.specs.Prelude.{◌≡◌, ◌≢◌, ℕ, ◌⊎◌, List, ◌∷◌}
 use Rattle.zi_text.specs.Front.{StopsAt}
 use Rattle.zi_outside.specs.Views.{Sinking}
 use Rattle.zi_outside.specs.declared.var.Var.{Var}
+use Rattle.zi_store.specs.Keeping.{Keeps, is_reading}
+use Rattle.zi_store.specs.Stores.{Each}
 use Rattle.zi_words.specs.declared.request.Request.{Request}
 use Rattle.zi_words.specs.declared.request.Request.TheVariants as request
 use Rattle.zi_words.specs.Words.{Right, AreRight}
@@ -22,10 +24,10 @@ use Rattle.zi_choosing.specs.Select.{Selects}
 use Rattle.zi_fetching.specs.Download.{Downloads}
 use Rattle.zi_launching.specs.Run.{RunsProgram}
 use Rattle.zi_launching.specs.Opening.{LaunchesFile}
-use Rattle.zi_app.specs.ManifestCommand.{Manifests}
-use Rattle.zi_app.specs.StoreList.{Lists}
-use Rattle.zi_app.specs.StoreVerify.{VerifiesTree}
-use Rattle.zi_app.specs.Adding.{Adds}
+use Rattle.zi_storing.specs.ManifestCommand.{Manifests}
+use Rattle.zi_storing.specs.StoreList.{Lists}
+use Rattle.zi_storing.specs.StoreVerify.{VerifiesTree}
+use Rattle.zi_storing.specs.Adding.{AddsFiles}
 use Rattle.zi_app.specs.Showing.{ShowsText, ShowsDemo}
 
 -- The work of a command that meets neither web nor spawner.
@@ -42,7 +44,7 @@ Does (request.Launch file user) vars before after outcome = LaunchesFile file va
 Does (request.Check ask sels proof) vars before after outcome = Apart (ChecksBest ask sels proof) before after outcome
 Does (request.Refute ask proof) vars before after outcome = Apart (ChecksNone ask proof) before after outcome
 Does (request.Manifest algorithm name) vars before after outcome = Apart (Manifests algorithm name) before after outcome
-Does (request.Add name files) vars before after outcome = Apart (Adds name files) before after outcome
+Does (request.Add name files) vars before after outcome = Apart (AddsFiles name files) before after outcome
 Does (request.Verify name) vars before after outcome = Apart (VerifiesTree name) before after outcome
 Does request.Names vars before after outcome = Apart Lists before after outcome
 Does (request.Demo n) vars before after outcome = Apart (ShowsDemo n) before after outcome
@@ -69,15 +71,16 @@ abbrev pub Works : List (List ℕ) → List Var → Surroundings → Surrounding
 Works words vars before after outcome =
     AreDone words vars before after outcome ⊎ (AreWrong words before after outcome ⊎ ((outcome ≡ Memory) × NothingDoneAround before after))
 
--- The work is done, to an outcome of its own, and the line of that is told on err. Whatever it was, feeds, shelf and web can be used on;
--- what stood under a digest stands there, and each tree that has come under one has it; and after every outcome but a program's status
--- nothing was launched.
+-- The work is done, to an outcome of its own, and the line of that is told on err. Whatever it was, feeds, stores and web can be used on;
+-- what stood under a digest in the store that is written stands there, and each tree that has come under one has it; the other stores were
+-- only read; and after every outcome but a program's status nothing was launched.
 pub record Runs (words : List (List ℕ)) (vars : List Var) (before after : Surroundings) (err_before err_after : Sinking) (outcome : Outcome) : Type 0 where
   pub work : Outcome
   pub done : Works words vars before after work
   pub told : Tells work err_before err_after outcome
   pub feeds : FeedsStay before.feeds after.feeds
-  pub shelf : Lasts before.shelf after.shelf
+  pub stores : Each Lasts (before.shelf ∷ before.others) (after.shelf ∷ after.others)
   pub web : FeedsStay before.web after.web
   pub stored : KeepsTrees before.shelf after.shelf
+  pub others : Each (Keeps is_reading) before.others after.others
   pub quiet : ((status : ℕ) → outcome ≢ Child status) → after.spawner.ran ≡ before.spawner.ran

@@ -26,7 +26,7 @@ zi launch FILE WORDS..
     Starts the program of the selections document in FILE with WORDS. All that is selected has
     to be there. The status is as of run.
 zi manifest ALGORITHM NAME
-    Writes the manifest and the digest of the tree that the store has under NAME.
+    Writes the manifest and the digest of the tree that the first store with NAME has under it.
     ALGORITHM is sha1new, sha256 or sha256new.
 zi store add DIGEST FILE..
     Adds a tree of these files, each under the last part of its path, if DIGEST is its
@@ -36,7 +36,7 @@ zi store verify DIGEST
     Writes sound where the tree of that digest in the store has it, and otherwise how the
     manifest that stands in it differs: in which line, not at all, or that none stands there.
 zi store list
-    Writes the digests that the store has.
+    Writes the digests that the stores have.
 zi demo N
     Chooses for a made program of N and four interfaces, N from 1 to 1000, and writes how many
     interfaces, candidates and selections there are, how many of these are the first of their
@@ -74,6 +74,7 @@ Options of select, check, refute, download and run, before ROOT:
 Feeds of web addresses are files in the folder that ZI_FEEDS names (default: feeds), each
 named by its address with every byte but letters, digits, -, . and _ percent-encoded.
 Trees are stored in the folder that ZI_STORE names (default: store), each under its digest.
+Those in the folders that ZI_STORES names, with : between, are used too, and stay as they are.
 ZI_FETCH names the helper that fetches: a program that is run with an address, and writes what is
 there, or ends with status 44 where nothing is.
 Where ZI_LOG names a file, the path and the system's reason of each failure are added to it,

@@ -1,6 +1,5 @@
 //! Laws of what the program answers, over definitions alone.
-ghost use Rattle.std.specs.Prelude.{◌≡◌, ℕ, List, All};
-ghost use Rattle.zi_app.specs.FileName.{file_name, IsByte};
+ghost use Rattle.std.specs.Prelude.{ℕ, List};
 ghost use Rattle.zi_app.specs.Laws.{HasOneCause};
 ghost use Rattle.zi_feed.specs.IdLaws.{AreDistinct};
 ghost use Rattle.zi_feed.specs.declared.feed.Feed.{Feed};
@@ -20,10 +19,4 @@ pub fn one_cause()
 #[tactic(auto, using(crate::proofs::CauseLaws::ids_apart))]
 pub fn ids_differ()
     ensures { (uri : List ℕ) (bytes : List ℕ) (feed : Feed) → Says uri bytes feed → AreDistinct feed.impls }
-{}
-
-/// No two addresses have one file.
-#[tactic(auto, using(crate::proofs::FileNameLaws::same_file))]
-pub fn files_differ()
-    ensures { (a b : List ℕ) → All IsByte a → All IsByte b → file_name a ≡ file_name b → a ≡ b }
 {}

@@ -1,15 +1,11 @@
 //! The work of any words, and the line of how it ended.
-ghost use Rattle.std.specs.Prelude.{◌≡◌, ℕ};
+ghost use Rattle.std.specs.Prelude.{◌≡◌, ℕ, map};
 ghost use Rattle.zi_app.specs.Answers.{Does, Works, Runs};
 ghost use Rattle.zi_outcome.specs.declared.outcome.Outcome.TheVariants.{Child};
 ghost use Rattle.zi_outcome.specs.Line.{Tells};
 ghost use Rattle.zi_app.specs.Words.{IsInForm, Stops, RefusesWords, words_outcome};
 
-use crate::adding::add;
-use crate::checked::verify_tree;
 use crate::help::{HELP, VERSION};
-use crate::manifests::manifest;
-use crate::names::list;
 use std::alloc::Global;
 use zi_choosing::{check, demonstrate, refute, select};
 use zi_fetching::download;
@@ -17,36 +13,41 @@ use zi_launching::launch;
 use zi_outcome::{Outcome, put_text, tell};
 use zi_outside::{Feeds, Sink, SinkFault, Spawner, Vars, Web};
 use zi_shelf::Shelf;
+use zi_storing::{add, list, manifest, verify_tree};
 use zi_text::Text;
 use zi_words::{Request, WordsFault};
 
 /// Does all that the program does: reads the words, does what they ask for, and writes the line of how that ended.
 ///
-/// `select` finds out which digests are stored, loads the universe that its words ask for, and writes the document of the best
+/// Trees are stored in several stores: `shelf` is the one that is written, and `others` are read besides, in the order in which
+/// they are searched, behind it.
+///
+/// `select` finds out which digests are in which store, loads the universe that its words ask for, and writes the document of the best
 /// choice, a certificate of it, or a proof that there is none; `refute` loads it too, and says whether a proof shows that there
 /// is none, and `check` whether selections are the best choice; `download` chooses as `select` does, fetches from the web what is
-/// selected and isn't there, and writes the document; `run` fetches as `download` does and starts the program, and `launch` starts
+/// selected and no store has, and writes the document; `run` fetches as `download` does and starts the program, and `launch` starts
 /// that of a document of selections, each once every stored tree in it was read and found to be what its name says;
-/// `manifest`, `store verify` and `store list` read the store and write what they say of it, and `store add` puts files there as
-/// a tree; `demo` counts what the best choice of a demonstration selects, whose feeds it makes itself; `--help` and `--version`
+/// `manifest` and `store verify` read the first store that has the tree, and `store list` reads all; `store add` puts files into the
+/// one that is written, as a tree; `demo` counts what the best choice of a demonstration selects, whose feeds it makes itself; `--help` and `--version`
 /// write their texts.
-pub fn run<F: Feeds, K: Shelf, W: Web, P: Spawner, O: Sink, E: Sink>(
+pub fn run<F: Feeds, K: Shelf, R: Shelf, W: Web, P: Spawner, O: Sink, E: Sink>(
     alloc: Global,
     words: &[Text],
     vars: &Vars,
     feeds: &mut F,
     shelf: &mut K,
+    others: &mut [R],
     web: &mut W,
     spawner: &mut P,
     out: &mut O,
     err: &mut E,
 ) -> Outcome
     ensures { Runs words.now vars.now
-        (record { feeds = F.seen feeds.old; shelf = K.seen shelf.old; web = W.seen web.old; spawner = P.seen spawner.old; out = O.seen out.old })
-        (record { feeds = F.seen feeds.new; shelf = K.seen shelf.new; web = W.seen web.new; spawner = P.seen spawner.new; out = O.seen out.new })
+        (record { feeds = F.seen feeds.old; shelf = K.seen shelf.old; others = map R.seen others.old; web = W.seen web.old; spawner = P.seen spawner.old; out = O.seen out.old })
+        (record { feeds = F.seen feeds.new; shelf = K.seen shelf.new; others = map R.seen others.new; web = W.seen web.new; spawner = P.seen spawner.new; out = O.seen out.new })
         (E.seen err.old) (E.seen err.new) result }
 {
-    let outcome = work(alloc, words, vars, feeds, shelf, web, spawner, out);
+    let outcome = work(alloc, words, vars, feeds, shelf, others, web, spawner, out);
     told(outcome, err)
 }
 
@@ -62,23 +63,26 @@ pub fn refuse<E: Sink>(alloc: Global, words: &[Text], err: &mut E) -> Outcome
 
 // The work of any words.
 #[tactic(auto, using(crate::proofs::RunLemmas::in_form))]
-fn work<F: Feeds, K: Shelf, W: Web, P: Spawner, O: Sink>(
+fn work<F: Feeds, K: Shelf, R: Shelf, W: Web, P: Spawner, O: Sink>(
     alloc: Global,
     words: &[Text],
     vars: &Vars,
     feeds: &mut F,
     shelf: &mut K,
+    others: &mut [R],
     web: &mut W,
     spawner: &mut P,
     out: &mut O,
 ) -> Outcome
     ensures { Works words.now vars.now
-        (record { feeds = F.seen feeds.old; shelf = K.seen shelf.old; web = W.seen web.old; spawner = P.seen spawner.old; out = O.seen out.old })
-        (record { feeds = F.seen feeds.new; shelf = K.seen shelf.new; web = W.seen web.new; spawner = P.seen spawner.new; out = O.seen out.new })
+        (record { feeds = F.seen feeds.old; shelf = K.seen shelf.old; others = map R.seen others.old; web = W.seen web.old; spawner = P.seen spawner.old; out = O.seen out.old })
+        (record { feeds = F.seen feeds.new; shelf = K.seen shelf.new; others = map R.seen others.new; web = W.seen web.new; spawner = P.seen spawner.new; out = O.seen out.new })
         result }
 {
     match Request::read(alloc, words) {
-        Ok(request) => answer(alloc, request, vars, feeds, shelf, web, spawner, out),
+        Ok(request) => answer(
+            alloc, request, vars, feeds, shelf, others, web, spawner, out,
+        ),
         Err(fault) => unread(fault),
     }
 }
@@ -95,38 +99,52 @@ fn unread(fault: WordsFault) -> Outcome
 
 // The work of a request.
 #[tactic(auto, using(crate::proofs::RunLemmas::answering))]
-fn answer<F: Feeds, K: Shelf, W: Web, P: Spawner, O: Sink>(
+fn answer<F: Feeds, K: Shelf, R: Shelf, W: Web, P: Spawner, O: Sink>(
     alloc: Global,
     request: Request,
     vars: &Vars,
     feeds: &mut F,
     shelf: &mut K,
+    others: &mut [R],
     web: &mut W,
     spawner: &mut P,
     out: &mut O,
 ) -> Outcome
     requires { IsInForm request }
     ensures { Does request vars.now
-        (record { feeds = F.seen feeds.old; shelf = K.seen shelf.old; web = W.seen web.old; spawner = P.seen spawner.old; out = O.seen out.old })
-        (record { feeds = F.seen feeds.new; shelf = K.seen shelf.new; web = W.seen web.new; spawner = P.seen spawner.new; out = O.seen out.new })
+        (record { feeds = F.seen feeds.old; shelf = K.seen shelf.old; others = map R.seen others.old; web = W.seen web.old; spawner = P.seen spawner.old; out = O.seen out.old })
+        (record { feeds = F.seen feeds.new; shelf = K.seen shelf.new; others = map R.seen others.new; web = W.seen web.new; spawner = P.seen spawner.new; out = O.seen out.new })
         result }
 {
     match request {
-        Request::Select { ask, proof } => select(alloc, ask, proof, feeds, shelf, out),
-        Request::Refute { ask, proof } => refute(alloc, ask, proof, feeds, shelf, out),
-        Request::Download { ask } => download(alloc, ask, feeds, shelf, web, out),
+        Request::Select { ask, proof } => select(alloc, ask, proof, feeds, shelf, others, out),
+        Request::Refute { ask, proof } => refute(alloc, ask, proof, feeds, shelf, others, out),
+        Request::Download { ask } => download(alloc, ask, feeds, shelf, others, web, out),
         Request::Run { ask, user } => {
             let user = user.as_slice();
-            zi_launching::run(alloc, ask, user, vars, feeds, shelf, web, spawner)
+            zi_launching::run(alloc, ask, user, vars, feeds, shelf, others, web, spawner)
         }
         Request::Launch { file, user } => {
-            launch(alloc, file, user.as_slice(), vars, feeds, shelf, spawner)
+            launch(
+                alloc,
+                file,
+                user.as_slice(),
+                vars,
+                feeds,
+                shelf,
+                others,
+                spawner,
+            )
         }
-        Request::Check { ask, sels, proof } => check(alloc, ask, sels, proof, feeds, shelf, out),
-        Request::Manifest { algorithm, name } => manifest(alloc, algorithm, name, shelf, out),
+        Request::Check { ask, sels, proof } => check(
+            alloc, ask, sels, proof, feeds, shelf, others, out,
+        ),
+        Request::Manifest { algorithm, name } => manifest(
+            alloc, algorithm, name, shelf, others, out,
+        ),
         Request::Add { name, files } => add(alloc, name, files, feeds, shelf, out),
-        Request::Verify { name } => verify_tree(alloc, name, shelf, out),
-        Request::Names => list(alloc, shelf, out),
+        Request::Verify { name } => verify_tree(alloc, name, shelf, others, out),
+        Request::Names => list(alloc, shelf, others, out),
         Request::Demo { n } => demonstrate(alloc, n, out),
         Request::Help => put_text(HELP.as_bytes(), out),
         Request::Version => put_text(VERSION.as_bytes(), out),

@@ -1,6 +1,5 @@
 -- The check of selections, and what it means for the words that asked for it.
 use Rattle.std.proofs.Common.{◌≡◌, ◌≢◌, ℕ, ◌⊎◌, inl, inr, Bool, true, false, List, refl, sym, ap, subst, ◌∙◌, Decides}
-use Rattle.zi_digest.specs.declared.DigestName.{DigestName}
 use Rattle.zi_outside.specs.Views.{Feeding, Sinking}
 use Rattle.zi_words.specs.declared.request.Ask.{Ask}
 use Rattle.zi_universe.specs.declared.types.Interface.{Interface}
@@ -29,6 +28,7 @@ use Rattle.zi_outcome.specs.Writing.{Prints}
 use Rattle.std.proofs.lemmas.Bool.{false≢true}
 use Rattle.zi_world.specs.Asking.{FeedsStay}
 use Rattle.zi_world.proofs.AskingLemmas.{asks_stay, unasked_stay}
+use Rattle.zi_choosing.specs.declared.known.Known.{Known}
 use Rattle.zi_choosing.specs.Wanted.{requirement_of}
 use Rattle.zi_choosing.specs.Loaded.{Lent, IsLoaded, IsRefused, AreFew, build_outcome}
 use Rattle.zi_choosing.specs.Refute.{proof_limit, yes_line, Loads, AsksFor, Gets, IsAbsent, IsUnread}
@@ -262,12 +262,12 @@ are_not u req sels c Memory why = inr (inr refl)
 are_not u req sels c (Child status) why = absurd why
 
 -- Behind the loading.
-module _ (ask : Ask) (name proof : List ℕ) (stored : List DigestName) (before after : Lent) where
+module _ (ask : Ask) (name proof : List ℕ) (known : Known) (before after : Lent) where
   abbrev Over : Outcome → Type 0
-  Over outcome = ChecksOver ask name proof stored before after outcome
+  Over outcome = ChecksOver ask name proof known before after outcome
 
   -- behind the selections
-  module _ (read : ReadsSels stored ask name before.feeds) where
+  module _ (read : ReadsSels known ask name before.feeds) where
     module _ (c : Certificate) (bytes : List ℕ) (got : Gets proof read.feeds after.feeds bytes) (text : IsProofText bytes c) where
       yes_as : (outcome : Outcome) → AreRight read.there.universe (requirement_of ask) read.sels c → Prints yes_line before.out after.out outcome → Over outcome
       yes_as outcome right (inl (w, e)) =
@@ -302,7 +302,7 @@ module _ (ask : Ask) (name proof : List ℕ) (stored : List DigestName) (before 
     by_as outcome (inl (bytes, got, inr (why, w))) = bad_as bytes outcome got (unreadable bytes outcome why) w
     by_as outcome (inr (why, w)) = no_proof_as outcome (missing proof_limit proof read.feeds after.feeds outcome why) w
 
-  module _ (there : Loads stored ask before.feeds) where
+  module _ (there : Loads known ask before.feeds) where
     unsaid_as : (mid : Feeding) (bytes : List ℕ) (outcome : Outcome) → GetsWithin sels_limit name there.feeds mid bytes → Unsaid bytes outcome → after ≡ record { feeds = mid; out = before.out } → Over outcome
     unsaid_as mid bytes outcome got (inl (f, (e, bad))) same =
         let now : GetsWithin sels_limit name there.feeds after.feeds bytes = subst (λ g. GetsWithin sels_limit name there.feeds g bytes) (sym (ap (λ l. l.feeds) same)) got in
@@ -324,10 +324,10 @@ module _ (ask : Ask) (name proof : List ℕ) (stored : List DigestName) (before 
     file_as outcome (inr (why, w)) = no_sels_as outcome (missing sels_limit name there.feeds after.feeds outcome why) w
 
   -- what a loading that was refused comes to
-  pub check_refused : (e : LoadFault) (outcome : Outcome) → IsRefused stored ask before.feeds after.feeds e → after.out ≡ before.out → outcome ≡ outcome_of e → Over outcome
+  pub check_refused : (e : LoadFault) (outcome : Outcome) → IsRefused known ask before.feeds after.feeds e → after.out ≡ before.out → outcome ≡ outcome_of e → Over outcome
   check_refused e outcome r w is = subst Over (sym is) (by e r)
     where
-      by : (e : LoadFault) → IsRefused stored ask before.feeds after.feeds e → Over (outcome_of e)
+      by : (e : LoadFault) → IsRefused known ask before.feeds after.feeds e → Over (outcome_of e)
       by (load.FeedRead uri) r = inl (r, w)
       by load.NoRootFeed r = (r, w)
       by (load.BadFeed uri fault) r = (r, w)
@@ -338,15 +338,15 @@ module _ (ask : Ask) (name proof : List ℕ) (stored : List DigestName) (before 
       by load.Memory r = inr (inl (r, w))
 
   -- the check over the universe that was loaded
-  pub checked : (req : Requirement) (mid : Feeding) (u : List Interface) (outcome : Outcome) → req ≡ requirement_of ask → IsLoaded stored ask before.feeds mid u
+  pub checked : (req : Requirement) (mid : Feeding) (u : List Interface) (outcome : Outcome) → req ≡ requirement_of ask → IsLoaded known ask before.feeds mid u
       → ChecksFile u req name proof (record { feeds = mid; out = before.out }) after outcome → Over outcome
   checked req mid u outcome at_req loaded checks =
       file_as (record { universe = u; feeds = mid; loaded = loaded }) outcome
       (subst (λ r. ChecksFile u r name proof (record { feeds = mid; out = before.out }) after outcome) at_req checks)
 
 -- there was no memory for the task
-pub check_no_task : (ask : Ask) (name proof : List ℕ) (stored : List DigestName) (lent : Lent) → ChecksOver ask name proof stored lent lent Memory
-check_no_task ask name proof stored lent = inl refl
+pub check_no_task : (ask : Ask) (name proof : List ℕ) (known : Known) (lent : Lent) → ChecksOver ask name proof known lent lent Memory
+check_no_task ask name proof known lent = inl refl
 
 -- The feeds hold what they held.
 stay_then : (before mid after : Feeding) → FeedsStay before mid → FeedsStay mid after → FeedsStay before after

@@ -27,7 +27,7 @@ use Rattle.zi_outcome.specs.Refused.{outcome_of}
 use Rattle.zi_outcome.specs.Writing.{Prints}
 use Rattle.zi_choosing.specs.Wanted.{requirement_of}
 use Rattle.zi_choosing.specs.Loaded.{Lent, IsLoaded, IsRefused, AreFew, build_outcome}
-use Rattle.zi_choosing.specs.Demo.{demo_ask, counts_of, lines, IsCounted, CountsOver, Demos}
+use Rattle.zi_choosing.specs.Demo.{demo_ask, none_known, counts_of, lines, IsCounted, CountsOver, Demos}
 use Rattle.zi_choosing.specs.DemoParts.{budget, CountsNothing, CountsBest, CountsFrom}
 
 -- the address of the root is one
@@ -78,7 +78,7 @@ unfolding demo_ask
 unfolded_budget = refl
 
 module _ (before after : Lent) where
-  counted_as : (u : List Interface) (outcome : Outcome) → IsLoaded [] demo_ask before.feeds after.feeds u → CountsBest (requirement_of demo_ask) u before.out after.out outcome
+  counted_as : (u : List Interface) (outcome : Outcome) → IsLoaded none_known demo_ask before.feeds after.feeds u → CountsBest (requirement_of demo_ask) u before.out after.out outcome
       → CountsOver before after outcome
   counted_as u outcome loaded b = by b.printed
     where
@@ -93,7 +93,7 @@ module _ (before after : Lent) where
       by (inr (inl (w, e))) = subst (λ x. CountsOver before after x) (sym e) (text, is, w)
       by (inr (inr (w, e))) = subst (λ x. CountsOver before after x) (sym e) (inr (inr (inr (text, is, w))))
 
-  uncounted_as : (u : List Interface) (outcome : Outcome) → IsLoaded [] demo_ask before.feeds after.feeds u → CountsNothing (requirement_of demo_ask) u outcome
+  uncounted_as : (u : List Interface) (outcome : Outcome) → IsLoaded none_known demo_ask before.feeds after.feeds u → CountsNothing (requirement_of demo_ask) u outcome
       → after.out ≡ before.out → CountsOver before after outcome
   uncounted_as u Done loaded why w = absurd why
   uncounted_as u (Usage index) loaded why w = absurd why
@@ -136,22 +136,22 @@ module _ (before after : Lent) where
   uncounted_as u SinkFault loaded why w = absurd why
   uncounted_as u Memory loaded why w = inr (inr (inl ((u, loaded, tt), w)))
 
-  counted_over : (u : List Interface) (outcome : Outcome) → IsLoaded [] demo_ask before.feeds after.feeds u
+  counted_over : (u : List Interface) (outcome : Outcome) → IsLoaded none_known demo_ask before.feeds after.feeds u
       → CountsFrom (requirement_of demo_ask) u before.out after.out outcome → CountsOver before after outcome
   counted_over u outcome loaded (inl b) = counted_as u outcome loaded b
   counted_over u outcome loaded (inr (why, w)) = uncounted_as u outcome loaded why w
 
   -- the counting of the universe that was loaded
-  pub over_loaded : (req : Requirement) (u : List Interface) (outcome : Outcome) → req ≡ requirement_of demo_ask → IsLoaded [] demo_ask before.feeds after.feeds u
+  pub over_loaded : (req : Requirement) (u : List Interface) (outcome : Outcome) → req ≡ requirement_of demo_ask → IsLoaded none_known demo_ask before.feeds after.feeds u
       → CountsFrom req u before.out after.out outcome → CountsOver before after outcome
   over_loaded req u outcome e loaded c = counted_over u outcome loaded (subst (λ r. CountsFrom r u before.out after.out outcome) e c)
 
   -- what a loading that was refused comes to
-  pub over_refused : (e : LoadFault) (outcome : Outcome) → IsRefused [] demo_ask before.feeds after.feeds e → after.out ≡ before.out → outcome ≡ outcome_of e
+  pub over_refused : (e : LoadFault) (outcome : Outcome) → IsRefused none_known demo_ask before.feeds after.feeds e → after.out ≡ before.out → outcome ≡ outcome_of e
       → CountsOver before after outcome
   over_refused e outcome r w is = subst (λ x. CountsOver before after x) (sym is) (by e r)
     where
-      by : (e : LoadFault) → IsRefused [] demo_ask before.feeds after.feeds e → CountsOver before after (outcome_of e)
+      by : (e : LoadFault) → IsRefused none_known demo_ask before.feeds after.feeds e → CountsOver before after (outcome_of e)
       by (load.FeedRead uri) r = (r, w)
       by load.NoRootFeed r = (r, w)
       by (load.BadFeed uri fault) r = (r, w)

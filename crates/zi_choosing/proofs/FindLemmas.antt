@@ -1,6 +1,5 @@
 -- The best choice before anything is done with it, and why there is none.
 use Rattle.std.proofs.Common.{◌≡◌, ℕ, inl, inr, List, refl, sym, subst, ◌∙◌, Result, Ok, Err, MatchResult}
-use Rattle.zi_digest.specs.declared.DigestName.{DigestName}
 use Rattle.zi_outside.specs.Views.{Feeding}
 use Rattle.zi_words.specs.declared.request.Ask.{Ask}
 use Rattle.zi_universe.specs.declared.types.Interface.{Interface}
@@ -15,8 +14,9 @@ use Rattle.zi_sels.specs.Chosen.{AreSelected}
 use Rattle.zi_outcome.specs.declared.outcome.Outcome.{Outcome}
 use Rattle.zi_outcome.specs.declared.outcome.Outcome.TheVariants.{Done, Usage, FeedRead, NoRootFeed, BadFeed, FeedTooLong, TooManyFeeds, TooManyInterfaces, TooManyCandidates, TooLarge, NoSolution, Spent, NoFile, BadSels, BadProof, Rejected, Plan, FetchRead, NoRemote, WrongSize, Overlap, NoPath, Mismatch, MissingTree, DamagedTree, BadName, TreeTooLarge, StoreFault, Crowded, SpawnFault, SinkFault, Memory, Child}
 use Rattle.zi_outcome.specs.Refused.{outcome_of}
-use Rattle.zi_world.specs.StoreRead.{AreStored}
+use Rattle.zi_choosing.specs.declared.known.Known.{Known}
 use Rattle.zi_choosing.specs.declared.chosen.Chosen.{Chosen}
+use Rattle.zi_choosing.specs.Knowing.{IsKnown}
 use Rattle.zi_choosing.specs.Wanted.{requirement_of}
 use Rattle.zi_choosing.specs.Loaded.{IsLoaded, IsRefused, AreFew, build_outcome}
 use Rattle.zi_choosing.specs.Finding.{Sources, SolvesNot, IsChosen, FindsNot, FindsOver}
@@ -28,8 +28,8 @@ formula_lacks req budget u build.Memory outcome means e = subst (λ x. SolvesNot
 
 pub ruleset solving = (formula_lacks)
 
-module _ (ask : Ask) (stored : List DigestName) (before after : Feeding) where
-  unsolved_as : (u : List Interface) (outcome : Outcome) → IsLoaded stored ask before after u → SolvesNot (requirement_of ask) ask.search u outcome → FindsNot stored ask before after outcome
+module _ (ask : Ask) (known : Known) (before after : Feeding) where
+  unsolved_as : (u : List Interface) (outcome : Outcome) → IsLoaded known ask before after u → SolvesNot (requirement_of ask) ask.search u outcome → FindsNot known ask before after outcome
   unsolved_as u Done loaded why = absurd why
   unsolved_as u (Usage index) loaded why = absurd why
   unsolved_as u (FeedRead uri) loaded why = absurd why
@@ -65,10 +65,10 @@ module _ (ask : Ask) (stored : List DigestName) (before after : Feeding) where
   unsolved_as u Memory loaded why = inr (inr (u, loaded, tt))
 
   -- what a loading that was refused comes to
-  pub refused_find : (e : LoadFault) (outcome : Outcome) → IsRefused stored ask before after e → outcome ≡ outcome_of e → FindsNot stored ask before after outcome
-  refused_find e outcome r is = subst (λ x. FindsNot stored ask before after x) (sym is) (by e r)
+  pub refused_find : (e : LoadFault) (outcome : Outcome) → IsRefused known ask before after e → outcome ≡ outcome_of e → FindsNot known ask before after outcome
+  refused_find e outcome r is = subst (λ x. FindsNot known ask before after x) (sym is) (by e r)
     where
-      by : (e : LoadFault) → IsRefused stored ask before after e → FindsNot stored ask before after (outcome_of e)
+      by : (e : LoadFault) → IsRefused known ask before after e → FindsNot known ask before after (outcome_of e)
       by (load.FeedRead uri) r = r
       by load.NoRootFeed r = r
       by (load.BadFeed uri fault) r = r
@@ -79,16 +79,16 @@ module _ (ask : Ask) (stored : List DigestName) (before after : Feeding) where
       by load.Memory r = inr (inl r)
 
   -- no choice from the universe that was loaded
-  pub unsolved : (req : Requirement) (budget : ℕ) (u : List Interface) (outcome : Outcome) → req ≡ requirement_of ask → budget ≡ ask.search → IsLoaded stored ask before after u
-      → SolvesNot req budget u outcome → FindsNot stored ask before after outcome
+  pub unsolved : (req : Requirement) (budget : ℕ) (u : List Interface) (outcome : Outcome) → req ≡ requirement_of ask → budget ≡ ask.search → IsLoaded known ask before after u
+      → SolvesNot req budget u outcome → FindsNot known ask before after outcome
   unsolved req budget u outcome at_req at_budget loaded why =
       unsolved_as u outcome loaded (subst (λ n. SolvesNot (requirement_of ask) n u outcome) at_budget (subst (λ r. SolvesNot r budget u outcome) at_req why))
 
   -- memory was refused behind the loading
-  pub loaded_alone : (u : List Interface) (outcome : Outcome) → IsLoaded stored ask before after u → outcome ≡ Memory → FindsNot stored ask before after outcome
-  loaded_alone u outcome loaded e = subst (λ x. FindsNot stored ask before after x) (sym e) (inr (inr (u, loaded, tt)))
+  pub loaded_alone : (u : List Interface) (outcome : Outcome) → IsLoaded known ask before after u → outcome ≡ Memory → FindsNot known ask before after outcome
+  loaded_alone u outcome loaded e = subst (λ x. FindsNot known ask before after x) (sym e) (inr (inr (u, loaded, tt)))
 
-  pub found : (c : Chosen) (req : Requirement) → req ≡ requirement_of ask → c.req ≡ req → c.stored ≡ stored → IsLoaded stored ask before after c.universe → AreFew c.universe req → IsBest c.universe req c.choice.picks
+  pub found : (c : Chosen) (req : Requirement) → req ≡ requirement_of ask → c.req ≡ req → c.known ≡ known → IsLoaded known ask before after c.universe → AreFew c.universe req → IsBest c.universe req c.choice.picks
       → AreSelected c.universe req c.choice.picks c.sels → IsChosen ask before c after
   found c req at_req is at loaded few best selected = record {
     req = is ∙ at_req;
@@ -99,11 +99,11 @@ module _ (ask : Ask) (stored : List DigestName) (before after : Feeding) where
   }
 
 -- there was no memory for the task
-pub no_job : (ask : Ask) (stored : List DigestName) (feeds : Feeding) (outcome : Outcome) → outcome ≡ Memory → FindsNot stored ask feeds feeds outcome
-no_job ask stored feeds outcome e = subst (λ x. FindsNot stored ask feeds feeds x) (sym e) (inl refl)
+pub no_job : (ask : Ask) (known : Known) (feeds : Feeding) (outcome : Outcome) → outcome ≡ Memory → FindsNot known ask feeds feeds outcome
+no_job ask known feeds outcome e = subst (λ x. FindsNot known ask feeds feeds x) (sym e) (inl refl)
 
--- over the names in the store
-pub finds_over : (ask : Ask) (stored : List DigestName) (before after : Sources) (result : Result Chosen Outcome) → after.shelf.faults ≡ before.shelf.faults → AreStored before.shelf stored
-    → MatchResult result (λ c. (c.stored ≡ stored) × IsChosen ask before.feeds c after.feeds) (FindsNot stored ask before.feeds after.feeds) → FindsOver ask before after result
-finds_over ask stored before after (Ok c) calm names (e, is) = (calm, subst (λ n. AreStored before.shelf n) (sym e) names, is)
-finds_over ask stored before after (Err outcome) calm names why = inr (calm, (stored, names, why))
+-- over the names in the stores
+pub finds_over : (ask : Ask) (known : Known) (before after : Sources) (result : Result Chosen Outcome) → IsKnown before.stores after.stores (Ok known)
+    → MatchResult result (λ c. (c.known ≡ known) × IsChosen ask before.feeds c after.feeds) (FindsNot known ask before.feeds after.feeds) → FindsOver ask before after result
+finds_over ask known before after (Ok c) is (e, chosen) = (subst (λ k. IsKnown before.stores after.stores (Ok k)) (sym e) is, chosen)
+finds_over ask known before after (Err outcome) is why = inr (known, is, why)

@@ -7,3 +7,4 @@ pub mod SameLaws
 pub mod OwnLaws
 pub mod NamedLemmas
 pub mod CheckLemmas
+pub mod KnownLemmas

@@ -26,6 +26,8 @@ use Rattle.zi_sels.specs.declared.types.Selections.{Selections}
 use Rattle.zi_sels.specs.Chosen.{AreSelected}
 use Rattle.zi_sels.specs.Written.{tree}
 use Rattle.zi_sels_laws.specs.Rows.{IsRightRow, HasRightRows}
+use Rattle.zi_choosing.specs.declared.known.Known.{Known}
+use Rattle.zi_choosing.specs.Knowing.{all_names}
 use Rattle.zi_choosing.specs.Wanted.{requirement_of}
 use Rattle.zi_choosing.specs.Loaded.{no_packages, task_of, IsLoaded, IsRefused}
 use Rattle.zi_choosing.specs.SelectParts.{CanBeWritten}
@@ -62,18 +64,18 @@ pub all_written : (before after : Feeding) (req : Requirement) (policy : Policy)
 all_written before after req policy stored packages u law none root loads choice valid sels are =
     law (holding before) req policy (names_of stored packages) u choice sels root (no_rows packages none) loads.loads valid are
 
-task_is : (stored : List DigestName) (packages : Packages) (ask : Ask) (req : Requirement) (policy : Policy) → packages ≡ no_packages → req ≡ requirement_of ask → policy ≡ ask.policy
-    → ◌≡◌ {A = Task} (record { req = req; policy = policy; stored = names_of stored packages }) (task_of stored ask)
-task_is stored packages ask req policy none at_req at_policy =
-    let task : Packages → Requirement → Policy → Task = λ t r p. record { req = r; policy = p; stored = names_of stored t } in
+task_is : (known : Known) (packages : Packages) (ask : Ask) (req : Requirement) (policy : Policy) → packages ≡ no_packages → req ≡ requirement_of ask → policy ≡ ask.policy
+    → ◌≡◌ {A = Task} (record { req = req; policy = policy; stored = names_of (all_names known.each) packages }) (task_of known ask)
+task_is known packages ask req policy none at_req at_policy =
+    let task : Packages → Requirement → Policy → Task = λ t r p. record { req = r; policy = p; stored = names_of (all_names known.each) t } in
     ap (λ t. task t req policy) none ∙ (ap (λ r. task no_packages r policy) at_req ∙ ap (λ p. task no_packages (requirement_of ask) p) at_policy)
 
-pub loaded_as : (stored : List DigestName) (packages : Packages) (ask : Ask) (req : Requirement) (policy : Policy) (before after : Feeding) (u : List Interface) → packages ≡ no_packages
-    → req ≡ requirement_of ask → policy ≡ ask.policy → LoadsAsking (record { req = req; policy = policy; stored = names_of stored packages }) before u after → IsLoaded stored ask before after u
-loaded_as stored packages ask req policy before after u none at_req at_policy loads =
-    subst (λ t. LoadsAsking t before u after) (task_is stored packages ask req policy none at_req at_policy) loads
+pub loaded_as : (known : Known) (packages : Packages) (ask : Ask) (req : Requirement) (policy : Policy) (before after : Feeding) (u : List Interface) → packages ≡ no_packages
+    → req ≡ requirement_of ask → policy ≡ ask.policy → LoadsAsking (record { req = req; policy = policy; stored = names_of (all_names known.each) packages }) before u after → IsLoaded known ask before after u
+loaded_as known packages ask req policy before after u none at_req at_policy loads =
+    subst (λ t. LoadsAsking t before u after) (task_is known packages ask req policy none at_req at_policy) loads
 
-pub refused_as : (stored : List DigestName) (packages : Packages) (ask : Ask) (req : Requirement) (policy : Policy) (before after : Feeding) (e : LoadFault) → packages ≡ no_packages
-    → req ≡ requirement_of ask → policy ≡ ask.policy → RefusesAsking (record { req = req; policy = policy; stored = names_of stored packages }) before e after → IsRefused stored ask before after e
-refused_as stored packages ask req policy before after e none at_req at_policy refuses =
-    subst (λ t. RefusesAsking t before e after) (task_is stored packages ask req policy none at_req at_policy) refuses
+pub refused_as : (known : Known) (packages : Packages) (ask : Ask) (req : Requirement) (policy : Policy) (before after : Feeding) (e : LoadFault) → packages ≡ no_packages
+    → req ≡ requirement_of ask → policy ≡ ask.policy → RefusesAsking (record { req = req; policy = policy; stored = names_of (all_names known.each) packages }) before e after → IsRefused known ask before after e
+refused_as known packages ask req policy before after e none at_req at_policy refuses =
+    subst (λ t. RefusesAsking t before e after) (task_is known packages ask req policy none at_req at_policy) refuses

@@ -1,6 +1,5 @@
 -- The check of a proof, and what it means for the words that asked for it.
 use Rattle.std.proofs.Common.{◌≡◌, ◌≢◌, ℕ, inl, inr, List, [], refl, sym, subst, ◌∙◌}
-use Rattle.zi_digest.specs.declared.DigestName.{DigestName}
 use Rattle.zi_outside.specs.Views.{Feeding, Sinking}
 use Rattle.zi_words.specs.declared.request.Ask.{Ask}
 use Rattle.zi_universe.specs.declared.types.Interface.{Interface}
@@ -19,6 +18,7 @@ use Rattle.zi_outcome.specs.Refused.{outcome_of}
 use Rattle.zi_outcome.specs.Writing.{Prints}
 use Rattle.zi_world.specs.Asking.{FeedsStay}
 use Rattle.zi_world.proofs.AskingLemmas.{asks_stay, unasked_stay}
+use Rattle.zi_choosing.specs.declared.known.Known.{Known}
 use Rattle.zi_choosing.specs.Wanted.{requirement_of}
 use Rattle.zi_choosing.specs.Loaded.{Lent, IsLoaded, IsRefused, AreFew, build_outcome}
 use Rattle.zi_choosing.specs.Refute.{yes_line, Loads, Gets, Reads, IsRight, RefutesOver}
@@ -46,18 +46,18 @@ no_formula req u c (build.TooLarge limit) out outcome h means e = subst (λ x. C
 no_formula req u c build.Memory out outcome h means e = subst (λ x. ChecksRead req u c out out x) (sym e) (inr (tt, refl))
 
 -- Behind the loading.
-module _ (ask : Ask) (name : List ℕ) (stored : List DigestName) (before after : Lent) (there : Loads stored ask before.feeds) where
+module _ (ask : Ask) (name : List ℕ) (known : Known) (before after : Lent) (there : Loads known ask before.feeds) where
   yes_as : (c : Certificate) (outcome : Outcome) → Reads name there.feeds after.feeds c → IsRight there.universe (requirement_of ask) c → Prints yes_line before.out after.out outcome
-      → RefutesOver ask name stored before after outcome
+      → RefutesOver ask name known before after outcome
   yes_as c outcome reads right (inl (w, e)) =
-      subst (λ x. RefutesOver ask name stored before after x) (sym e) (record { there = there; certificate = c; reads = reads; is = right }, w)
+      subst (λ x. RefutesOver ask name known before after x) (sym e) (record { there = there; certificate = c; reads = reads; is = right }, w)
   yes_as c outcome reads right (inr (inl (w, e))) =
-      subst (λ x. RefutesOver ask name stored before after x) (sym e) (record { there = there; certificate = c; reads = reads; is = right }, w)
+      subst (λ x. RefutesOver ask name known before after x) (sym e) (record { there = there; certificate = c; reads = reads; is = right }, w)
   yes_as c outcome reads right (inr (inr (w, e))) =
-      subst (λ x. RefutesOver ask name stored before after x) (sym e) (inr (inr (inr (record { there = there; certificate = c; reads = reads; is = right }, w))))
+      subst (λ x. RefutesOver ask name known before after x) (sym e) (inr (inr (inr (record { there = there; certificate = c; reads = reads; is = right }, w))))
 
   none_as : (c : Certificate) (outcome : Outcome) → Reads name there.feeds after.feeds c → IsNone (requirement_of ask) there.universe c outcome → after.out ≡ before.out
-      → RefutesOver ask name stored before after outcome
+      → RefutesOver ask name known before after outcome
   none_as c Done reads why w = absurd why
   none_as c (Usage index) reads why w = absurd why
   none_as c (FeedRead uri) reads why w = absurd why
@@ -93,7 +93,7 @@ module _ (ask : Ask) (name : List ℕ) (stored : List DigestName) (before after 
   none_as c Memory reads why w = inr (inr (inl ((there, inr reads.got.asked), w)))
 
   bad_as : (bytes : List ℕ) (outcome : Outcome) → Gets name there.feeds after.feeds bytes → IsUnreadable bytes outcome → after.out ≡ before.out
-      → RefutesOver ask name stored before after outcome
+      → RefutesOver ask name known before after outcome
   bad_as bytes Done got why w = absurd why
   bad_as bytes (Usage index) got why w = absurd why
   bad_as bytes (FeedRead uri) got why w = absurd why
@@ -128,7 +128,7 @@ module _ (ask : Ask) (name : List ℕ) (stored : List DigestName) (before after 
   bad_as bytes SinkFault got why w = absurd why
   bad_as bytes Memory got why w = inr (inr (inl ((there, inr got.asked), w)))
 
-  no_file_as : (outcome : Outcome) → IsNoFile name there.feeds after.feeds outcome → after.out ≡ before.out → RefutesOver ask name stored before after outcome
+  no_file_as : (outcome : Outcome) → IsNoFile name there.feeds after.feeds outcome → after.out ≡ before.out → RefutesOver ask name known before after outcome
   no_file_as Done why w = absurd why
   no_file_as (Usage index) why w = absurd why
   no_file_as (FeedRead uri) why w = inr (why.0, (there, why.1), w)
@@ -164,18 +164,18 @@ module _ (ask : Ask) (name : List ℕ) (stored : List DigestName) (before after 
   no_file_as Memory why w = inr (inr (inl ((there, inl why), w)))
 
   pub file_as : (outcome : Outcome) → ChecksFile (requirement_of ask) there.universe name (record { feeds = there.feeds; out = before.out }) after outcome
-      → RefutesOver ask name stored before after outcome
+      → RefutesOver ask name known before after outcome
   file_as outcome (inl (bytes, got, inl (c, text, inl (right, w)))) = yes_as c outcome (record { bytes = bytes; got = got; text = text }) right w
   file_as outcome (inl (bytes, got, inl (c, text, inr (why, w)))) = none_as c outcome (record { bytes = bytes; got = got; text = text }) why w
   file_as outcome (inl (bytes, got, inr (why, w))) = bad_as bytes outcome got why w
   file_as outcome (inr (why, w)) = no_file_as outcome why w
 
 -- what a loading that was refused comes to
-pub refused_over : (ask : Ask) (name : List ℕ) (stored : List DigestName) (before after : Lent) (e : LoadFault) (outcome : Outcome) → IsRefused stored ask before.feeds after.feeds e
-    → after.out ≡ before.out → outcome ≡ outcome_of e → RefutesOver ask name stored before after outcome
-refused_over ask name stored before after e outcome r w is = subst (λ x. RefutesOver ask name stored before after x) (sym is) (by e r)
+pub refused_over : (ask : Ask) (name : List ℕ) (known : Known) (before after : Lent) (e : LoadFault) (outcome : Outcome) → IsRefused known ask before.feeds after.feeds e
+    → after.out ≡ before.out → outcome ≡ outcome_of e → RefutesOver ask name known before after outcome
+refused_over ask name known before after e outcome r w is = subst (λ x. RefutesOver ask name known before after x) (sym is) (by e r)
   where
-    by : (e : LoadFault) → IsRefused stored ask before.feeds after.feeds e → RefutesOver ask name stored before after (outcome_of e)
+    by : (e : LoadFault) → IsRefused known ask before.feeds after.feeds e → RefutesOver ask name known before after (outcome_of e)
     by (load.FeedRead uri) r = inl (r, w)
     by load.NoRootFeed r = (r, w)
     by (load.BadFeed uri fault) r = (r, w)
@@ -186,14 +186,14 @@ refused_over ask name stored before after e outcome r w is = subst (λ x. Refute
     by load.Memory r = inr (inl (r, w))
 
 -- there was no memory for the task
-pub no_task : (ask : Ask) (name : List ℕ) (stored : List DigestName) (lent : Lent) → RefutesOver ask name stored lent lent Memory
-no_task ask name stored lent = inl refl
+pub no_task : (ask : Ask) (name : List ℕ) (known : Known) (lent : Lent) → RefutesOver ask name known lent lent Memory
+no_task ask name known lent = inl refl
 
 -- the check of the universe that was loaded
-pub refuted : (ask : Ask) (name : List ℕ) (stored : List DigestName) (req : Requirement) (before after : Lent) (mid : Feeding) (u : List Interface) (outcome : Outcome) → req ≡ requirement_of ask
-    → IsLoaded stored ask before.feeds mid u → ChecksFile req u name (record { feeds = mid; out = before.out }) after outcome → RefutesOver ask name stored before after outcome
-refuted ask name stored req before after mid u outcome at_req loaded checks =
-    file_as ask name stored before after (record { universe = u; feeds = mid; loaded = loaded }) outcome
+pub refuted : (ask : Ask) (name : List ℕ) (known : Known) (req : Requirement) (before after : Lent) (mid : Feeding) (u : List Interface) (outcome : Outcome) → req ≡ requirement_of ask
+    → IsLoaded known ask before.feeds mid u → ChecksFile req u name (record { feeds = mid; out = before.out }) after outcome → RefutesOver ask name known before after outcome
+refuted ask name known req before after mid u outcome at_req loaded checks =
+    file_as ask name known before after (record { universe = u; feeds = mid; loaded = loaded }) outcome
     (subst (λ r. ChecksFile r u name (record { feeds = mid; out = before.out }) after outcome) at_req checks)
 
 -- The feeds hold what they held.

@@ -1,6 +1,5 @@
 -- The choice, and what it means for the words that asked for it.
 use Rattle.std.proofs.Common.{◌≡◌, ◌≢◌, ℕ, inl, inr, Bool, true, false, List, refl, sym, subst, ◌∙◌}
-use Rattle.zi_digest.specs.declared.DigestName.{DigestName}
 use Rattle.zi_outside.specs.Views.{Sinking}
 use Rattle.zi_words.specs.declared.request.Ask.{Ask}
 use Rattle.zi_universe.specs.declared.types.Interface.{Interface}
@@ -24,6 +23,7 @@ use Rattle.zi_outcome.specs.declared.outcome.Outcome.TheVariants.{Done, Usage, F
 use Rattle.zi_outcome.specs.Refused.{outcome_of}
 use Rattle.zi_outcome.specs.Writing.{Prints}
 use Rattle.zi_outcome.proofs.WritingLemmas.{nothing_put}
+use Rattle.zi_choosing.specs.declared.known.Known.{Known}
 use Rattle.zi_choosing.specs.Wanted.{requirement_of}
 use Rattle.zi_choosing.specs.Loaded.{Lent, IsLoaded, IsRefused, AreFew, build_outcome}
 use Rattle.zi_choosing.specs.Select.{refutation_text, Chooses, HasNone, SelectsOver}
@@ -82,37 +82,37 @@ no_formula s u build.Memory out outcome means e = subst (λ x. ChoosesFrom s u o
 abbrev search_of : Ask → Bool → Search
 search_of ask proof = record { req = requirement_of ask; budget = ask.search; proof = proof }
 
-module _ (ask : Ask) (proof : Bool) (stored : List DigestName) (before after : Lent) where
-  chosen_as : (text : List ℕ) (outcome : Outcome) → Chooses stored ask proof before.feeds after.feeds text → Prints text before.out after.out outcome
-      → SelectsOver ask proof stored before after outcome
-  chosen_as text outcome chooses (inl (w, e)) = subst (λ x. SelectsOver ask proof stored before after x) (sym e) (text, chooses, w)
-  chosen_as text outcome chooses (inr (inl (w, e))) = subst (λ x. SelectsOver ask proof stored before after x) (sym e) (inl (text, chooses, w))
+module _ (ask : Ask) (proof : Bool) (known : Known) (before after : Lent) where
+  chosen_as : (text : List ℕ) (outcome : Outcome) → Chooses known ask proof before.feeds after.feeds text → Prints text before.out after.out outcome
+      → SelectsOver ask proof known before after outcome
+  chosen_as text outcome chooses (inl (w, e)) = subst (λ x. SelectsOver ask proof known before after x) (sym e) (text, chooses, w)
+  chosen_as text outcome chooses (inr (inl (w, e))) = subst (λ x. SelectsOver ask proof known before after x) (sym e) (inl (text, chooses, w))
   chosen_as text outcome chooses (inr (inr (w, e))) =
-      subst (λ x. SelectsOver ask proof stored before after x) (sym e) (inr (inr (inr (inl (text, chooses, w)))))
+      subst (λ x. SelectsOver ask proof known before after x) (sym e) (inr (inr (inr (inl (text, chooses, w)))))
 
-  best_as : (u : List Interface) (outcome : Outcome) → IsLoaded stored ask before.feeds after.feeds u → ChoosesBest (search_of ask proof) u before.out after.out outcome
-      → SelectsOver ask proof stored before after outcome
+  best_as : (u : List Interface) (outcome : Outcome) → IsLoaded known ask before.feeds after.feeds u → ChoosesBest (search_of ask proof) u before.out after.out outcome
+      → SelectsOver ask proof known before after outcome
   best_as u outcome loaded b = by b.printed
     where
-      by : PrintsChoice proof u (requirement_of ask) b.choice before.out after.out outcome → SelectsOver ask proof stored before after outcome
+      by : PrintsChoice proof u (requirement_of ask) b.choice before.out after.out outcome → SelectsOver ask proof known before after outcome
       by (inl (text, shown, w)) =
           chosen_as text outcome (record { there = record { universe = u; loaded = loaded; few = b.few }; choice = b.choice; best = b.best; shown = shown }) w
-      by (inr (e, w)) = subst (λ x. SelectsOver ask proof stored before after x) (sym e) (inr (inr (inl ((u, loaded, tt), w))))
+      by (inr (e, w)) = subst (λ x. SelectsOver ask proof known before after x) (sym e) (inr (inr (inl ((u, loaded, tt), w))))
 
-  none_as : (u : List Interface) (outcome : Outcome) → IsLoaded stored ask before.feeds after.feeds u → ChoosesNone (search_of ask proof) u before.out after.out outcome
-      → SelectsOver ask proof stored before after outcome
+  none_as : (u : List Interface) (outcome : Outcome) → IsLoaded known ask before.feeds after.feeds u → ChoosesNone (search_of ask proof) u before.out after.out outcome
+      → SelectsOver ask proof known before after outcome
   none_as u outcome loaded n = by n.printed
     where
-      has : HasNone stored ask before.feeds after.feeds n.refutation
+      has : HasNone known ask before.feeds after.feeds n.refutation
       has = record { there = record { universe = u; loaded = loaded; few = n.few }; refutes = n.refutes; none = n.none }
 
-      by : PrintsRefutation n.refutation before.out after.out outcome → SelectsOver ask proof stored before after outcome
-      by (inl (w, e)) = subst (λ x. SelectsOver ask proof stored before after x) (sym e) (has, w)
-      by (inr (inl (w, e))) = subst (λ x. SelectsOver ask proof stored before after x) (sym e) (inr (n.refutation, has, w))
-      by (inr (inr (w, e))) = subst (λ x. SelectsOver ask proof stored before after x) (sym e) (inr (inr (inr (inr (n.refutation, has, w)))))
+      by : PrintsRefutation n.refutation before.out after.out outcome → SelectsOver ask proof known before after outcome
+      by (inl (w, e)) = subst (λ x. SelectsOver ask proof known before after x) (sym e) (has, w)
+      by (inr (inl (w, e))) = subst (λ x. SelectsOver ask proof known before after x) (sym e) (inr (n.refutation, has, w))
+      by (inr (inr (w, e))) = subst (λ x. SelectsOver ask proof known before after x) (sym e) (inr (inr (inr (inr (n.refutation, has, w)))))
 
-  nothing_as : (u : List Interface) (outcome : Outcome) → IsLoaded stored ask before.feeds after.feeds u → ChoosesNothing (search_of ask proof) u outcome
-      → after.out ≡ before.out → SelectsOver ask proof stored before after outcome
+  nothing_as : (u : List Interface) (outcome : Outcome) → IsLoaded known ask before.feeds after.feeds u → ChoosesNothing (search_of ask proof) u outcome
+      → after.out ≡ before.out → SelectsOver ask proof known before after outcome
   nothing_as u Done loaded why w = absurd why
   nothing_as u (Usage index) loaded why w = absurd why
   nothing_as u (FeedRead uri) loaded why w = absurd why
@@ -147,18 +147,18 @@ module _ (ask : Ask) (proof : Bool) (stored : List DigestName) (before after : L
   nothing_as u SinkFault loaded why w = absurd why
   nothing_as u Memory loaded why w = inr (inr (inl ((u, loaded, tt), w)))
 
-  pub chosen_over : (u : List Interface) (outcome : Outcome) → IsLoaded stored ask before.feeds after.feeds u
-      → ChoosesFrom (search_of ask proof) u before.out after.out outcome → SelectsOver ask proof stored before after outcome
+  pub chosen_over : (u : List Interface) (outcome : Outcome) → IsLoaded known ask before.feeds after.feeds u
+      → ChoosesFrom (search_of ask proof) u before.out after.out outcome → SelectsOver ask proof known before after outcome
   chosen_over u outcome loaded (inl b) = best_as u outcome loaded b
   chosen_over u outcome loaded (inr (inl n)) = none_as u outcome loaded n
   chosen_over u outcome loaded (inr (inr (why, w))) = nothing_as u outcome loaded why w
 
   -- what a loading that was refused comes to
-  pub refused_over : (e : LoadFault) (outcome : Outcome) → IsRefused stored ask before.feeds after.feeds e → after.out ≡ before.out → outcome ≡ outcome_of e
-      → SelectsOver ask proof stored before after outcome
-  refused_over e outcome r w is = subst (λ x. SelectsOver ask proof stored before after x) (sym is) (by e r)
+  pub refused_over : (e : LoadFault) (outcome : Outcome) → IsRefused known ask before.feeds after.feeds e → after.out ≡ before.out → outcome ≡ outcome_of e
+      → SelectsOver ask proof known before after outcome
+  refused_over e outcome r w is = subst (λ x. SelectsOver ask proof known before after x) (sym is) (by e r)
     where
-      by : (e : LoadFault) → IsRefused stored ask before.feeds after.feeds e → SelectsOver ask proof stored before after (outcome_of e)
+      by : (e : LoadFault) → IsRefused known ask before.feeds after.feeds e → SelectsOver ask proof known before after (outcome_of e)
       by (load.FeedRead uri) r = (r, w)
       by load.NoRootFeed r = (r, w)
       by (load.BadFeed uri fault) r = (r, w)
@@ -169,15 +169,15 @@ module _ (ask : Ask) (proof : Bool) (stored : List DigestName) (before after : L
       by load.Memory r = inr (inl (r, w))
 
 -- there was no memory for the task
-pub no_task : (ask : Ask) (proof : Bool) (stored : List DigestName) (lent : Lent) → SelectsOver ask proof stored lent lent Memory
-no_task ask proof stored lent = inl refl
+pub no_task : (ask : Ask) (proof : Bool) (known : Known) (lent : Lent) → SelectsOver ask proof known lent lent Memory
+no_task ask proof known lent = inl refl
 
 -- the choice from the universe that was loaded
-pub selected : (ask : Ask) (proof : Bool) (stored : List DigestName) (req : Requirement) (budget : ℕ) (before after : Lent) (u : List Interface) (outcome : Outcome) → req ≡ requirement_of ask
-    → budget ≡ ask.search → IsLoaded stored ask before.feeds after.feeds u
-    → ChoosesFrom (record { req = req; budget = budget; proof = proof }) u before.out after.out outcome → SelectsOver ask proof stored before after outcome
-selected ask proof stored req budget before after u outcome at_req at_budget loaded chooses =
+pub selected : (ask : Ask) (proof : Bool) (known : Known) (req : Requirement) (budget : ℕ) (before after : Lent) (u : List Interface) (outcome : Outcome) → req ≡ requirement_of ask
+    → budget ≡ ask.search → IsLoaded known ask before.feeds after.feeds u
+    → ChoosesFrom (record { req = req; budget = budget; proof = proof }) u before.out after.out outcome → SelectsOver ask proof known before after outcome
+selected ask proof known req budget before after u outcome at_req at_budget loaded chooses =
     let S : Requirement → ℕ → Search = λ r n. record { req = r; budget = n; proof = proof } in
-    chosen_over ask proof stored before after u outcome loaded
+    chosen_over ask proof known before after u outcome loaded
     (subst (λ n. ChoosesFrom (S (requirement_of ask) n) u before.out after.out outcome) at_budget
     (subst (λ r. ChoosesFrom (S r budget) u before.out after.out outcome) at_req chooses))

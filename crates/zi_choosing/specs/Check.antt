@@ -1,6 +1,5 @@
 -- `check`: whether selections are those of the best choice, by a certificate.
 use Rattle.std.specs.Prelude.{◌≡◌, ℕ, ◌<◌, ◌≤◌, ◌⊎◌, List, length, Some, None, IfSome, IsSomeAnd}
-use Rattle.zi_digest.specs.declared.DigestName.{DigestName}
 use Rattle.zi_outside.specs.Views.{Feeding, holding}
 use Rattle.zi_outside.specs.Outside.{Writes, WritesFront}
 use Rattle.zi_words.specs.declared.request.Ask.{Ask}
@@ -15,11 +14,12 @@ use Rattle.zi_sels.specs.declared.types.Selections.{Selections}
 use Rattle.zi_sels.specs.declared.fault.SelsFault.{SelsFault}
 use Rattle.zi_sels.specs.Reading.{Says, HasFault}
 use Rattle.zi_outcome.specs.declared.outcome.Outcome.{Outcome}
-use Rattle.zi_outcome.specs.declared.outcome.Outcome.TheVariants.{Done, FeedRead, NoRootFeed, BadFeed, FeedTooLong, TooManyFeeds, TooManyInterfaces, TooManyCandidates, TooLarge, NoFile, BadSels, BadProof, Rejected, SinkFault, Memory}
+use Rattle.zi_outcome.specs.declared.outcome.Outcome.TheVariants.{Done, FeedRead, FeedTooLong, TooLarge, NoFile, BadSels, BadProof, Rejected, SinkFault, Memory}
 use Rattle.zi_outcome.specs.Writing.{StopsShort}
 use Rattle.zi_world.specs.World.{World}
+use Rattle.zi_choosing.specs.declared.known.Known.{Known}
 use Rattle.zi_choosing.specs.Wanted.{requirement_of}
-use Rattle.zi_choosing.specs.Loaded.{Lent, IsRefused, Refused, AreFew, AreMany, DoesOver}
+use Rattle.zi_choosing.specs.Loaded.{Lent, IsRefused, Refused, AreFew, AreMany, DoesOver, IsUnloaded}
 use Rattle.zi_choosing.specs.Refute.{proof_limit, yes_line, Loads, AsksFor, IsAbsent, IsUnread, Reads, IsBad, Then}
 use Rattle.zi_choosing.specs.Named.{AreCandidates, choice_of, AreAskedFor, AreOwn}
 
@@ -39,8 +39,8 @@ IsLonger most name before after limit =
     AsksFor name before after × (limit ≡ most) × IfSome (holding before) (λ holds. IsSomeAnd (holds name) (λ bytes. most < length bytes))
 
 -- The universe that the words ask for is loaded, the selections of this name are read, and then the feeds are as they are seen here.
-pub record ReadsSels (stored : List DigestName) (ask : Ask) (name : List ℕ) (before : Feeding) : Type 0 where
-  pub there : Loads stored ask before
+pub record ReadsSels (known : Known) (ask : Ask) (name : List ℕ) (before : Feeding) : Type 0 where
+  pub there : Loads known ask before
   pub sels : Selections
   pub bytes : List ℕ
   pub feeds : Feeding
@@ -87,57 +87,53 @@ abbrev pub AreTooLarge : List Interface → Requirement → Selections → ℕ �
 AreTooLarge universe req sels limit = AreFound universe req sels × AreMany universe req limit
 
 -- the certificate is read behind the selections, and this is so of both
-pub record AreJudged (stored : List DigestName) (ask : Ask) (name proof : List ℕ) (before after : Feeding) (Are : List Interface → Requirement → Selections → Certificate → Type 0) : Type 0 where
-  pub read : ReadsSels stored ask name before
+pub record AreJudged (known : Known) (ask : Ask) (name proof : List ℕ) (before after : Feeding) (Are : List Interface → Requirement → Selections → Certificate → Type 0) : Type 0 where
+  pub read : ReadsSels known ask name before
   pub certificate : Certificate
   pub reads : Reads proof read.feeds after certificate
   pub are : Are read.there.universe (requirement_of ask) read.sels certificate
 
 -- behind the selections this is so of the file
-abbrev pub Next : List DigestName → Ask → List ℕ → Feeding → (Feeding → Type 0) → Type 0
-Next stored ask name before Is = (read : ReadsSels stored ask name before) × Is read.feeds
+abbrev pub Next : Known → Ask → List ℕ → Feeding → (Feeding → Type 0) → Type 0
+Next known ask name before Is = (read : ReadsSels known ask name before) × Is read.feeds
 
 -- one of the two files isn't to be had, and nothing is written: the selections behind the loading, or the certificate behind these
-abbrev pub AtFile : List DigestName → Ask → List ℕ → List ℕ → Lent → Lent → List ℕ → (ℕ → List ℕ → Feeding → Feeding → Type 0) → Type 0
-AtFile stored ask sels proof before after name Is =
-    (((name ≡ sels) × Then stored ask before.feeds (λ feeds. Is sels_limit sels feeds after.feeds))
-    ⊎ ((name ≡ proof) × Next stored ask sels before.feeds (λ feeds. Is proof_limit proof feeds after.feeds))) × (after.out ≡ before.out)
+abbrev pub AtFile : Known → Ask → List ℕ → List ℕ → Lent → Lent → List ℕ → (ℕ → List ℕ → Feeding → Feeding → Type 0) → Type 0
+AtFile known ask sels proof before after name Is =
+    (((name ≡ sels) × Then known ask before.feeds (λ feeds. Is sels_limit sels feeds after.feeds))
+    ⊎ ((name ≡ proof) × Next known ask sels before.feeds (λ feeds. Is proof_limit proof feeds after.feeds))) × (after.out ≡ before.out)
 
--- over a store with these names
-abbrev pub ChecksOver : Ask → List ℕ → List ℕ → List DigestName → Lent → Lent → Outcome → Type 0
+-- over stores with these names
+abbrev pub ChecksOver : Ask → List ℕ → List ℕ → Known → Lent → Lent → Outcome → Type 0
 -- all tests hold, and that was written
-ChecksOver ask sels proof stored before after Done =
-    AreJudged stored ask sels proof before.feeds after.feeds AreRight × Writes before.out yes_line after.out
-ChecksOver ask sels proof stored before after (FeedRead uri) =
-    Refused stored ask before after (load.FeedRead uri) ⊎ AtFile stored ask sels proof before after uri (λ most name old new. IsUnread name old new)
-ChecksOver ask sels proof stored before after NoRootFeed = Refused stored ask before after load.NoRootFeed
-ChecksOver ask sels proof stored before after (BadFeed uri fault) = Refused stored ask before after (load.BadFeed uri fault)
-ChecksOver ask sels proof stored before after (FeedTooLong uri limit) =
-    Refused stored ask before after (load.FeedTooLong uri limit)
-    ⊎ AtFile stored ask sels proof before after uri (λ most name old new. IsLonger most name old new limit)
-ChecksOver ask sels proof stored before after (TooManyFeeds limit) = Refused stored ask before after (load.TooManyFeeds limit)
-ChecksOver ask sels proof stored before after (TooManyInterfaces limit) = Refused stored ask before after (load.TooManyInterfaces limit)
-ChecksOver ask sels proof stored before after (TooManyCandidates limit) = Refused stored ask before after (load.TooManyCandidates limit)
-ChecksOver ask sels proof stored before after (NoFile absent) = AtFile stored ask sels proof before after absent (λ most name old new. IsAbsent name old new)
-ChecksOver ask sels proof stored before after (BadSels fault) =
-    Then stored ask before.feeds (λ feeds. AreUnlike sels feeds after.feeds fault) × (after.out ≡ before.out)
-ChecksOver ask sels proof stored before after (BadProof line) =
-    Next stored ask sels before.feeds (λ feeds. IsBad proof feeds after.feeds line) × (after.out ≡ before.out)
-ChecksOver ask sels proof stored before after (TooLarge limit) =
-    AreJudged stored ask sels proof before.feeds after.feeds (λ universe req s c. AreTooLarge universe req s limit) × (after.out ≡ before.out)
-ChecksOver ask sels proof stored before after Rejected =
-    AreJudged stored ask sels proof before.feeds after.feeds AreWrong × (after.out ≡ before.out)
+ChecksOver ask sels proof known before after Done =
+    AreJudged known ask sels proof before.feeds after.feeds AreRight × Writes before.out yes_line after.out
+ChecksOver ask sels proof known before after (FeedRead uri) =
+    Refused known ask before after (load.FeedRead uri) ⊎ AtFile known ask sels proof before after uri (λ most name old new. IsUnread name old new)
+ChecksOver ask sels proof known before after (FeedTooLong uri limit) =
+    Refused known ask before after (load.FeedTooLong uri limit)
+    ⊎ AtFile known ask sels proof before after uri (λ most name old new. IsLonger most name old new limit)
+ChecksOver ask sels proof known before after (NoFile absent) = AtFile known ask sels proof before after absent (λ most name old new. IsAbsent name old new)
+ChecksOver ask sels proof known before after (BadSels fault) =
+    Then known ask before.feeds (λ feeds. AreUnlike sels feeds after.feeds fault) × (after.out ≡ before.out)
+ChecksOver ask sels proof known before after (BadProof line) =
+    Next known ask sels before.feeds (λ feeds. IsBad proof feeds after.feeds line) × (after.out ≡ before.out)
+ChecksOver ask sels proof known before after (TooLarge limit) =
+    AreJudged known ask sels proof before.feeds after.feeds (λ universe req s c. AreTooLarge universe req s limit) × (after.out ≡ before.out)
+ChecksOver ask sels proof known before after Rejected =
+    AreJudged known ask sels proof before.feeds after.feeds AreWrong × (after.out ≡ before.out)
 -- the output failed in the line
-ChecksOver ask sels proof stored before after SinkFault =
-    AreJudged stored ask sels proof before.feeds after.feeds AreRight × WritesFront before.out yes_line after.out
+ChecksOver ask sels proof known before after SinkFault =
+    AreJudged known ask sels proof before.feeds after.feeds AreRight × WritesFront before.out yes_line after.out
 -- memory was refused before the loading, in it, behind it, behind the selections, or in the line
-ChecksOver ask sels proof stored before after Memory =
+ChecksOver ask sels proof known before after Memory =
     (after ≡ before)
-    ⊎ (Refused stored ask before after load.Memory
-    ⊎ ((Then stored ask before.feeds (λ feeds. (after.feeds ≡ feeds) ⊎ AsksFor sels feeds after.feeds) × (after.out ≡ before.out))
-    ⊎ ((Next stored ask sels before.feeds (λ feeds. AsksFor proof feeds after.feeds) × (after.out ≡ before.out))
-    ⊎ (AreJudged stored ask sels proof before.feeds after.feeds AreRight × StopsShort before.out yes_line after.out))))
-ChecksOver ask sels proof stored before after other = ⊥
+    ⊎ (Refused known ask before after load.Memory
+    ⊎ ((Then known ask before.feeds (λ feeds. (after.feeds ≡ feeds) ⊎ AsksFor sels feeds after.feeds) × (after.out ≡ before.out))
+    ⊎ ((Next known ask sels before.feeds (λ feeds. AsksFor proof feeds after.feeds) × (after.out ≡ before.out))
+    ⊎ (AreJudged known ask sels proof before.feeds after.feeds AreRight × StopsShort before.out yes_line after.out))))
+-- the loading was refused
+ChecksOver ask sels proof known before after other = IsUnloaded (Refused known ask before after) other
 
 -- The universe that the words ask for is loaded, and the selections of the first name are checked by the certificate of the second.
 abbrev pub ChecksBest : Ask → List ℕ → List ℕ → World → World → Outcome → Type 0

@@ -13,11 +13,12 @@ use Rattle.zi_choice.specs.Best.{IsBest}
 use Rattle.zi_proof.specs.declared.proof.Certificate.{Certificate}
 use Rattle.zi_certificate.specs.Certificates.{Excludes}
 use Rattle.zi_outcome.specs.declared.outcome.Outcome.{Outcome}
-use Rattle.zi_outcome.specs.declared.outcome.Outcome.TheVariants.{Done, FeedRead, NoRootFeed, BadFeed, FeedTooLong, TooManyFeeds, TooManyInterfaces, TooManyCandidates, TooLarge, NoSolution, Spent, SinkFault, Memory}
+use Rattle.zi_outcome.specs.declared.outcome.Outcome.TheVariants.{Done, TooLarge, NoSolution, Spent, SinkFault, Memory}
 use Rattle.zi_outcome.specs.Writing.{StopsShort}
+use Rattle.zi_choosing.specs.declared.known.Known.{Known}
 use Rattle.zi_choosing.specs.declared.counting.Counts.{Counts}
 use Rattle.zi_choosing.specs.Wanted.{requirement_of}
-use Rattle.zi_choosing.specs.Loaded.{Lent, Refused, AreMany}
+use Rattle.zi_choosing.specs.Loaded.{Lent, Refused, AreMany, IsUnloaded}
 use Rattle.zi_choosing.specs.Select.{IsThere, HasNone, WasSpent, OfLoaded}
 
 -- what is asked for: what the words ask without options, but no command, and 20,000 lemmas at most
@@ -51,9 +52,13 @@ lines counts =
     ++ (count_line (codes "first") counts.first
     ++ codes "checked yes\n")))
 
+-- no store is asked
+abbrev pub none_known : Known
+none_known = record { each = [] }
+
 -- The universe is there, a choice is the best one from it, a certificate shows that of every other, and these are the lines of it.
 pub record IsCounted (before after : Feeding) (text : List ℕ) : Type 0 where
-  pub there : IsThere [] demo_ask before after
+  pub there : IsThere none_known demo_ask before after
   pub choice : Choice
   pub best : IsBest there.universe (requirement_of demo_ask) choice
   pub checked : (c : Certificate) × Excludes there.universe (requirement_of demo_ask) choice c
@@ -63,28 +68,22 @@ pub record IsCounted (before after : Feeding) (text : List ℕ) : Type 0 where
 abbrev pub CountsOver : Lent → Lent → Outcome → Type 0
 -- the best choice was found and checked, and its lines were written
 CountsOver before after Done = (text : List ℕ) × IsCounted before.feeds after.feeds text × Writes before.out text after.out
-CountsOver before after (FeedRead uri) = Refused [] demo_ask before after (load.FeedRead uri)
-CountsOver before after NoRootFeed = Refused [] demo_ask before after load.NoRootFeed
-CountsOver before after (BadFeed uri fault) = Refused [] demo_ask before after (load.BadFeed uri fault)
-CountsOver before after (FeedTooLong uri limit) = Refused [] demo_ask before after (load.FeedTooLong uri limit)
-CountsOver before after (TooManyFeeds limit) = Refused [] demo_ask before after (load.TooManyFeeds limit)
-CountsOver before after (TooManyInterfaces limit) = Refused [] demo_ask before after (load.TooManyInterfaces limit)
-CountsOver before after (TooManyCandidates limit) = Refused [] demo_ask before after (load.TooManyCandidates limit)
 CountsOver before after (TooLarge limit) =
-    OfLoaded [] demo_ask before.feeds after.feeds (λ universe. AreMany universe (requirement_of demo_ask) limit) × (after.out ≡ before.out)
+    OfLoaded none_known demo_ask before.feeds after.feeds (λ universe. AreMany universe (requirement_of demo_ask) limit) × (after.out ≡ before.out)
 -- no choice is valid
-CountsOver before after (NoSolution p) = HasNone [] demo_ask before.feeds after.feeds p × (after.out ≡ before.out)
+CountsOver before after (NoSolution p) = HasNone none_known demo_ask before.feeds after.feeds p × (after.out ≡ before.out)
 -- the 20,000 lemmas are spent
-CountsOver before after (Spent p count) = WasSpent [] demo_ask before.feeds after.feeds p count × (after.out ≡ before.out)
+CountsOver before after (Spent p count) = WasSpent none_known demo_ask before.feeds after.feeds p count × (after.out ≡ before.out)
 -- the output failed in the lines
 CountsOver before after SinkFault = (text : List ℕ) × IsCounted before.feeds after.feeds text × WritesFront before.out text after.out
 -- memory was refused before the loading, in it, behind it, or in the lines
 CountsOver before after Memory =
     (after ≡ before)
-    ⊎ (Refused [] demo_ask before after load.Memory
-    ⊎ ((OfLoaded [] demo_ask before.feeds after.feeds (λ universe. Unit {0}) × (after.out ≡ before.out))
+    ⊎ (Refused none_known demo_ask before after load.Memory
+    ⊎ ((OfLoaded none_known demo_ask before.feeds after.feeds (λ universe. Unit {0}) × (after.out ≡ before.out))
     ⊎ ((text : List ℕ) × IsCounted before.feeds after.feeds text × StopsShort before.out text after.out)))
-CountsOver before after other = ⊥
+-- the loading was refused
+CountsOver before after other = IsUnloaded (Refused none_known demo_ask before after) other
 
 -- feeds that hold those of the demonstration of this number and nothing else, none of them asked for yet, and never fail
 abbrev pub AreDemo : ℕ → Feeding → Type 0

@@ -1,9 +1,9 @@
 -- The best choice from what the words ask for, and what it selects, before anything is done with it.
-use Rattle.std.specs.Prelude.{◌≡◌, ℕ, ◌⊎◌, List, [], Result, Ok, Err}
-use Rattle.zi_digest.specs.declared.DigestName.{DigestName}
+use Rattle.std.specs.Prelude.{◌≡◌, ℕ, ◌⊎◌, List, Result, Ok, Err}
 use Rattle.zi_outside.specs.Views.{Feeding}
 use Rattle.zi_shelf.specs.Shelving.{Shelving}
 use Rattle.zi_store.specs.Keeping.{Keeps, is_names}
+use Rattle.zi_store.specs.Stores.{Each}
 use Rattle.zi_words.specs.declared.request.Ask.{Ask}
 use Rattle.zi_universe.specs.declared.types.Requirement.{Requirement}
 use Rattle.zi_universe.specs.declared.types.Interface.{Interface}
@@ -14,66 +14,53 @@ use Rattle.zi_certificate.specs.Certificates.{Refutes}
 use Rattle.zi_solve.specs.Answers.{IsSpent}
 use Rattle.zi_sels.specs.Chosen.{AreSelected}
 use Rattle.zi_outcome.specs.declared.outcome.Outcome.{Outcome}
-use Rattle.zi_outcome.specs.declared.outcome.Outcome.TheVariants.{FeedRead, NoRootFeed, BadFeed, FeedTooLong, TooManyFeeds, TooManyInterfaces, TooManyCandidates, TooLarge, NoSolution, Spent, StoreFault, Memory}
+use Rattle.zi_outcome.specs.declared.outcome.Outcome.TheVariants.{TooLarge, NoSolution, Spent, Memory}
 use Rattle.zi_world.specs.Asking.{FeedsStay}
-use Rattle.zi_world.specs.Shelves.{ShelfFailed}
-use Rattle.zi_world.specs.StoreRead.{AreStored}
+use Rattle.zi_choosing.specs.declared.known.Known.{Known}
 use Rattle.zi_choosing.specs.declared.chosen.Chosen.{Chosen}
+use Rattle.zi_choosing.specs.Knowing.{IsKnown}
 use Rattle.zi_choosing.specs.Wanted.{requirement_of}
-use Rattle.zi_choosing.specs.Loaded.{IsLoaded, IsRefused, AreFew, AreMany}
+use Rattle.zi_choosing.specs.Loaded.{IsLoaded, IsRefused, AreFew, AreMany, IsUnloaded}
 use Rattle.zi_choosing.specs.Select.{HasNone, WasSpent, OfLoaded}
 
 -- what the choosing is lent
 pub record Sources : Type 1 where
   pub feeds : Feeding
-  pub shelf : Shelving
+  -- the one that is written first, then those that are read besides
+  pub stores : List Shelving
 
--- The universe that the words ask for was loaded over the names in the store, this is the best choice from it, and these are its selections.
+-- The universe that the words ask for was loaded over the names in the stores, this is the best choice from it, and these are its selections.
 pub record IsChosen (ask : Ask) (before : Feeding) (c : Chosen) (after : Feeding) : Type 0 where
   pub req : c.req ≡ requirement_of ask
-  pub loaded : IsLoaded c.stored ask before after c.universe
+  pub loaded : IsLoaded c.known ask before after c.universe
   pub few : AreFew c.universe (requirement_of ask)
   pub best : IsBest c.universe (requirement_of ask) c.choice.picks
   pub selected : AreSelected c.universe (requirement_of ask) c.choice.picks c.sels
 
--- Over a store with these names there is no choice, and this is why.
-abbrev pub FindsNot : List DigestName → Ask → Feeding → Feeding → Outcome → Type 0
-FindsNot stored ask before after (FeedRead uri) = IsRefused stored ask before after (load.FeedRead uri)
-FindsNot stored ask before after NoRootFeed = IsRefused stored ask before after load.NoRootFeed
-FindsNot stored ask before after (BadFeed uri fault) = IsRefused stored ask before after (load.BadFeed uri fault)
-FindsNot stored ask before after (FeedTooLong uri limit) = IsRefused stored ask before after (load.FeedTooLong uri limit)
-FindsNot stored ask before after (TooManyFeeds limit) = IsRefused stored ask before after (load.TooManyFeeds limit)
-FindsNot stored ask before after (TooManyInterfaces limit) = IsRefused stored ask before after (load.TooManyInterfaces limit)
-FindsNot stored ask before after (TooManyCandidates limit) = IsRefused stored ask before after (load.TooManyCandidates limit)
-FindsNot stored ask before after (TooLarge limit) = OfLoaded stored ask before after (λ universe. AreMany universe (requirement_of ask) limit)
+-- Over stores with these names there is no choice, and this is why.
+abbrev pub FindsNot : Known → Ask → Feeding → Feeding → Outcome → Type 0
+FindsNot known ask before after (TooLarge limit) = OfLoaded known ask before after (λ universe. AreMany universe (requirement_of ask) limit)
 -- no choice is valid
-FindsNot stored ask before after (NoSolution p) = HasNone stored ask before after p
+FindsNot known ask before after (NoSolution p) = HasNone known ask before after p
 -- the search was spent
-FindsNot stored ask before after (Spent p count) = WasSpent stored ask before after p count
+FindsNot known ask before after (Spent p count) = WasSpent known ask before after p count
 -- memory was refused before the loading, in it, or behind it
-FindsNot stored ask before after Memory =
-    (after ≡ before) ⊎ (IsRefused stored ask before after load.Memory ⊎ OfLoaded stored ask before after (λ universe. Unit {0}))
-FindsNot stored ask before after other = ⊥
+FindsNot known ask before after Memory =
+    (after ≡ before) ⊎ (IsRefused known ask before after load.Memory ⊎ OfLoaded known ask before after (λ universe. Unit {0}))
+-- the loading was refused
+FindsNot known ask before after other = IsUnloaded (IsRefused known ask before after) other
 
--- the names in the store aren't found out: the shelf failed, or memory was refused
-abbrev pub HasNoNames : Shelving → Shelving → Outcome → Type 0
-HasNoNames before after (StoreFault name) = (name ≡ []) × ShelfFailed before after
-HasNoNames before after Memory = after.faults ≡ before.faults
-HasNoNames before after other = ⊥
-
--- The names in the store are found out; where the shelf doesn't answer, the feeds are asked for nothing. Over the names the choice is made.
+-- The names in the stores are found out, and over them the choice is made; where they aren't, the feeds are asked for nothing.
 abbrev pub FindsOver : Ask → Sources → Sources → Result Chosen Outcome → Type 0
-FindsOver ask before after (Ok c) =
-    (after.shelf.faults ≡ before.shelf.faults) × AreStored before.shelf c.stored × IsChosen ask before.feeds c after.feeds
+FindsOver ask before after (Ok c) = IsKnown before.stores after.stores (Ok c.known) × IsChosen ask before.feeds c after.feeds
 FindsOver ask before after (Err outcome) =
-    (HasNoNames before.shelf after.shelf outcome × (after.feeds ≡ before.feeds))
-    ⊎ ((after.shelf.faults ≡ before.shelf.faults)
-    × ((stored : List DigestName) × AreStored before.shelf stored × FindsNot stored ask before.feeds after.feeds outcome))
+    (IsKnown before.stores after.stores (Err outcome) × (after.feeds ≡ before.feeds))
+    ⊎ ((known : Known) × IsKnown before.stores after.stores (Ok known) × FindsNot known ask before.feeds after.feeds outcome)
 
--- The shelf is asked for its names alone.
+-- The stores are asked for their names alone.
 pub record FindsBest (ask : Ask) (before after : Sources) (result : Result Chosen Outcome) : Type 0 where
   pub feeds : FeedsStay before.feeds after.feeds
-  pub shelf : Keeps is_names before.shelf after.shelf
+  pub stores : Each (Keeps is_names) before.stores after.stores
   pub answer : FindsOver ask before after result
 
 -- Parts of the work.

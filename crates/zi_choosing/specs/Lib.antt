@@ -1,4 +1,5 @@
 pub mod Wanted
+pub mod Knowing
 pub mod Loaded
 pub mod Refute
 pub mod RefuteParts

@@ -1,6 +1,5 @@
 -- `refute`: whether a proof shows that no choice is valid.
 use Rattle.std.specs.Prelude.{◌≡◌, ◌≢◌, ℕ, ◌<◌, ◌≤◌, ◌⊎◌, List, [], ◌∷◌, length, codes, None, Some, IfSome, IsSomeAnd}
-use Rattle.zi_digest.specs.declared.DigestName.{DigestName}
 use Rattle.zi_text.specs.Count.{Rose}
 use Rattle.zi_outside.specs.Views.{Feeding, holding}
 use Rattle.zi_outside.specs.Outside.{Asks, Writes, WritesFront}
@@ -14,11 +13,12 @@ use Rattle.zi_proof.specs.declared.fault.ProofFault.TheVariants.{Bad}
 use Rattle.zi_proof.specs.ProofText.{IsProofText, FaultMeans}
 use Rattle.zi_certificate.specs.Certificates.{Refutes}
 use Rattle.zi_outcome.specs.declared.outcome.Outcome.{Outcome}
-use Rattle.zi_outcome.specs.declared.outcome.Outcome.TheVariants.{Done, FeedRead, NoRootFeed, BadFeed, FeedTooLong, TooManyFeeds, TooManyInterfaces, TooManyCandidates, TooLarge, NoFile, BadProof, Rejected, SinkFault, Memory}
+use Rattle.zi_outcome.specs.declared.outcome.Outcome.TheVariants.{Done, FeedRead, FeedTooLong, TooLarge, NoFile, BadProof, Rejected, SinkFault, Memory}
 use Rattle.zi_outcome.specs.Writing.{StopsShort}
 use Rattle.zi_world.specs.World.{World}
+use Rattle.zi_choosing.specs.declared.known.Known.{Known}
 use Rattle.zi_choosing.specs.Wanted.{requirement_of}
-use Rattle.zi_choosing.specs.Loaded.{Lent, IsLoaded, Refused, AreFew, AreMany, DoesOver}
+use Rattle.zi_choosing.specs.Loaded.{Lent, IsLoaded, Refused, AreFew, AreMany, DoesOver, IsUnloaded}
 
 -- so many bytes a proof may have: 64 MiB
 abbrev pub proof_limit : ℕ
@@ -29,10 +29,10 @@ abbrev pub yes_line : List ℕ
 yes_line = codes "yes\n"
 
 -- The universe that the words ask for is loaded, and then the feeds are as they are seen here.
-pub record Loads (stored : List DigestName) (ask : Ask) (before : Feeding) : Type 0 where
+pub record Loads (known : Known) (ask : Ask) (before : Feeding) : Type 0 where
   pub universe : List Interface
   pub feeds : Feeding
-  pub loaded : IsLoaded stored ask before feeds universe
+  pub loaded : IsLoaded known ask before feeds universe
 
 -- a file was asked for, and no call failed
 pub record AsksFor (name : List ℕ) (before after : Feeding) : Type 0 where
@@ -86,49 +86,45 @@ abbrev pub IsTooLarge : List Interface → Requirement → Certificate → ℕ �
 IsTooLarge universe req c limit = (c.blocks ≡ []) × AreMany universe req limit
 
 -- the proof is read behind the loading, and this is so of it
-pub record IsChecked (stored : List DigestName) (ask : Ask) (name : List ℕ) (before after : Feeding) (Is : List Interface → Requirement → Certificate → Type 0) : Type 0 where
-  pub there : Loads stored ask before
+pub record IsChecked (known : Known) (ask : Ask) (name : List ℕ) (before after : Feeding) (Is : List Interface → Requirement → Certificate → Type 0) : Type 0 where
+  pub there : Loads known ask before
   pub certificate : Certificate
   pub reads : Reads name there.feeds after certificate
   pub is : Is there.universe (requirement_of ask) certificate
 
 -- behind the loading this is so of the file
-abbrev pub Then : List DigestName → Ask → Feeding → (Feeding → Type 0) → Type 0
-Then stored ask before Is = (there : Loads stored ask before) × Is there.feeds
+abbrev pub Then : Known → Ask → Feeding → (Feeding → Type 0) → Type 0
+Then known ask before Is = (there : Loads known ask before) × Is there.feeds
 
--- over a store with these names
-abbrev pub RefutesOver : Ask → List ℕ → List DigestName → Lent → Lent → Outcome → Type 0
+-- over stores with these names
+abbrev pub RefutesOver : Ask → List ℕ → Known → Lent → Lent → Outcome → Type 0
 -- the proof refutes, and that was written
-RefutesOver ask name stored before after Done =
-    IsChecked stored ask name before.feeds after.feeds IsRight × Writes before.out yes_line after.out
-RefutesOver ask name stored before after (FeedRead uri) =
-    Refused stored ask before after (load.FeedRead uri)
-    ⊎ ((uri ≡ name) × Then stored ask before.feeds (λ feeds. IsUnread name feeds after.feeds) × (after.out ≡ before.out))
-RefutesOver ask name stored before after NoRootFeed = Refused stored ask before after load.NoRootFeed
-RefutesOver ask name stored before after (BadFeed uri fault) = Refused stored ask before after (load.BadFeed uri fault)
-RefutesOver ask name stored before after (FeedTooLong uri limit) =
-    Refused stored ask before after (load.FeedTooLong uri limit)
-    ⊎ ((uri ≡ name) × Then stored ask before.feeds (λ feeds. IsTooLong name feeds after.feeds limit) × (after.out ≡ before.out))
-RefutesOver ask name stored before after (TooManyFeeds limit) = Refused stored ask before after (load.TooManyFeeds limit)
-RefutesOver ask name stored before after (TooManyInterfaces limit) = Refused stored ask before after (load.TooManyInterfaces limit)
-RefutesOver ask name stored before after (TooManyCandidates limit) = Refused stored ask before after (load.TooManyCandidates limit)
-RefutesOver ask name stored before after (NoFile absent) =
-    (absent ≡ name) × Then stored ask before.feeds (λ feeds. IsAbsent name feeds after.feeds) × (after.out ≡ before.out)
-RefutesOver ask name stored before after (BadProof line) =
-    Then stored ask before.feeds (λ feeds. IsBad name feeds after.feeds line) × (after.out ≡ before.out)
-RefutesOver ask name stored before after Rejected = IsChecked stored ask name before.feeds after.feeds IsWrong × (after.out ≡ before.out)
-RefutesOver ask name stored before after (TooLarge limit) =
-    IsChecked stored ask name before.feeds after.feeds (λ universe req c. IsTooLarge universe req c limit) × (after.out ≡ before.out)
+RefutesOver ask name known before after Done =
+    IsChecked known ask name before.feeds after.feeds IsRight × Writes before.out yes_line after.out
+RefutesOver ask name known before after (FeedRead uri) =
+    Refused known ask before after (load.FeedRead uri)
+    ⊎ ((uri ≡ name) × Then known ask before.feeds (λ feeds. IsUnread name feeds after.feeds) × (after.out ≡ before.out))
+RefutesOver ask name known before after (FeedTooLong uri limit) =
+    Refused known ask before after (load.FeedTooLong uri limit)
+    ⊎ ((uri ≡ name) × Then known ask before.feeds (λ feeds. IsTooLong name feeds after.feeds limit) × (after.out ≡ before.out))
+RefutesOver ask name known before after (NoFile absent) =
+    (absent ≡ name) × Then known ask before.feeds (λ feeds. IsAbsent name feeds after.feeds) × (after.out ≡ before.out)
+RefutesOver ask name known before after (BadProof line) =
+    Then known ask before.feeds (λ feeds. IsBad name feeds after.feeds line) × (after.out ≡ before.out)
+RefutesOver ask name known before after Rejected = IsChecked known ask name before.feeds after.feeds IsWrong × (after.out ≡ before.out)
+RefutesOver ask name known before after (TooLarge limit) =
+    IsChecked known ask name before.feeds after.feeds (λ universe req c. IsTooLarge universe req c limit) × (after.out ≡ before.out)
 -- the output failed in the line
-RefutesOver ask name stored before after SinkFault =
-    IsChecked stored ask name before.feeds after.feeds IsRight × WritesFront before.out yes_line after.out
+RefutesOver ask name known before after SinkFault =
+    IsChecked known ask name before.feeds after.feeds IsRight × WritesFront before.out yes_line after.out
 -- memory was refused before the loading, in it, behind it, or in the line
-RefutesOver ask name stored before after Memory =
+RefutesOver ask name known before after Memory =
     (after ≡ before)
-    ⊎ (Refused stored ask before after load.Memory
-    ⊎ ((Then stored ask before.feeds (λ feeds. (after.feeds ≡ feeds) ⊎ AsksFor name feeds after.feeds) × (after.out ≡ before.out))
-    ⊎ (IsChecked stored ask name before.feeds after.feeds IsRight × StopsShort before.out yes_line after.out)))
-RefutesOver ask name stored before after other = ⊥
+    ⊎ (Refused known ask before after load.Memory
+    ⊎ ((Then known ask before.feeds (λ feeds. (after.feeds ≡ feeds) ⊎ AsksFor name feeds after.feeds) × (after.out ≡ before.out))
+    ⊎ (IsChecked known ask name before.feeds after.feeds IsRight × StopsShort before.out yes_line after.out)))
+-- the loading was refused
+RefutesOver ask name known before after other = IsUnloaded (Refused known ask before after) other
 
 -- The universe that the words ask for is loaded, and the proof of this name is checked.
 abbrev pub ChecksNone : Ask → List ℕ → World → World → Outcome → Type 0

@@ -1,5 +1,5 @@
 //! The work of `check`.
-ghost use Rattle.std.specs.Prelude.{◌≡◌, ◌↔◌, IsTrue, MatchResult};
+ghost use Rattle.std.specs.Prelude.{◌≡◌, ◌↔◌, map, IsTrue, MatchResult};
 ghost use Rattle.zi_universe.specs.Whole.{BeginsWith};
 ghost use Rattle.zi_world.specs.Asking.{FeedsStay};
 ghost use Rattle.zi_choosing.specs.Named.{AreAskedFor};
@@ -7,6 +7,7 @@ ghost use Rattle.zi_choosing.specs.Check.{ChecksOver, ChecksBest};
 ghost use Rattle.zi_choosing.specs.CheckParts.{Judges, JudgesNot, SaysOf, SaysBy, ChecksBy, ChecksText, ChecksFile};
 
 use crate::formula::without_formula;
+use crate::known::{Known, known_of, load_over};
 use crate::named::{are_candidates, choice_of};
 use crate::own::are_own;
 use crate::wanted::into_job;
@@ -14,16 +15,13 @@ use std::alloc::Global;
 use zi_build::BuildFault;
 use zi_check::check_best;
 use zi_choice::Names;
-use zi_digest::DigestName;
 use zi_outcome::{Outcome, put_text, refused};
 use zi_outside::{Feeds, FeedsFault, Got, Sink};
-use zi_packages::Packages;
 use zi_proof::{Certificate, ProofFault};
 use zi_sels::{Selections, SelsFault};
-use zi_shelf::{Shelf, ShelfFault};
-use zi_store::stored_names;
+use zi_shelf::Shelf;
 use zi_text::Text;
-use zi_universe::{Requirement, Universe, load};
+use zi_universe::{Requirement, Universe};
 use zi_words::Ask;
 
 // How many bytes selections may have: 4 MiB.
@@ -185,17 +183,17 @@ fn check_file<F: Feeds, O: Sink>(
     }
 }
 
-// Loads what is asked for over a store with these names, and checks the selections.
+// Loads what is asked for over what is known, and checks the selections.
 fn check_over<F: Feeds, O: Sink>(
     alloc: Global,
     ask: Ask,
     sels: Text,
     proof: Text,
-    stored: &[DigestName],
+    known: &Known,
     feeds: &mut F,
     out: &mut O,
 ) -> Outcome
-    ensures over { ChecksOver ask sels proof stored.now
+    ensures over { ChecksOver ask sels proof known.now
         (record { feeds = F.seen feeds.old; out = O.seen out.old })
         (record { feeds = F.seen feeds.new; out = O.seen out.new })
         result }
@@ -204,36 +202,33 @@ fn check_over<F: Feeds, O: Sink>(
     let Ok(job) = into_job(alloc, ask) else {
         return Outcome::Memory;
     };
-    let packages = Packages::nothing(alloc);
-    match load(alloc, &job.req, &job.policy, stored, &packages, feeds) {
+    match load_over(alloc, &job, known, feeds) {
         Ok(universe) => check_file(alloc, &universe, &job.req, sels, proof, feeds, out),
         Err(fault) => refused(fault),
     }
 }
 
-/// Finds out which digests are stored, loads what is asked for, gets the selections and the certificate of these names, and writes
+/// Finds out which digests are in which store, loads what is asked for, gets the selections and the certificate of these names, and writes
 /// `yes` where the selections are those of the best choice. `Rejected` comes at the first test that fails: each selection is a
 /// candidate, found by interface, feed and id; root and command are those asked for; the certificate shows their choice the best; and
 /// the selections, with their items in byte order of the interface, are those of that choice.
-pub fn check<F: Feeds, K: Shelf, O: Sink>(
+pub fn check<F: Feeds, K: Shelf, R: Shelf, O: Sink>(
     alloc: Global,
     ask: Ask,
     sels: Text,
     proof: Text,
     feeds: &mut F,
     shelf: &mut K,
+    others: &mut [R],
     out: &mut O,
 ) -> Outcome
     ensures { ChecksBest ask sels proof
-        (record { feeds = F.seen feeds.old; shelf = K.seen shelf.old; out = O.seen out.old })
-        (record { feeds = F.seen feeds.new; shelf = K.seen shelf.new; out = O.seen out.new })
+        (record { feeds = F.seen feeds.old; shelf = K.seen shelf.old; others = map R.seen others.old; out = O.seen out.old })
+        (record { feeds = F.seen feeds.new; shelf = K.seen shelf.new; others = map R.seen others.new; out = O.seen out.new })
         result }
 {
-    match stored_names(alloc, shelf) {
-        Ok(stored) => check_over(alloc, ask, sels, proof, stored.as_slice(), feeds, out),
-        Err(ShelfFault::Failed) => Outcome::StoreFault {
-            name: Text::new(alloc),
-        },
-        Err(ShelfFault::Memory) => Outcome::Memory,
+    match known_of(alloc, shelf, others) {
+        Ok(known) => check_over(alloc, ask, sels, proof, &known, feeds, out),
+        Err(outcome) => outcome,
     }
 }

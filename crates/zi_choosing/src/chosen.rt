@@ -3,18 +3,17 @@ ghost use Rattle.std.specs.Prelude.{◌≡◌, None};
 ghost use Rattle.zi_docout.specs.Amiss.{first_amiss};
 ghost use Rattle.zi_sels.specs.Written.{tree};
 
+use crate::known::Known;
 use zi_choice::Choice;
-use zi_digest::DigestName;
 use zi_sels::Selections;
-use zi_text::List;
 use zi_universe::{Requirement, Universe};
 
 /// The best choice, and from what it was chosen.
 pub struct Chosen {
     /// What was asked for.
     pub req: Requirement,
-    /// The digest names that were in the store, in byte order of their spellings.
-    pub stored: List<DigestName>,
+    /// What was known before: the digest names that were in each store.
+    pub known: Known,
     /// The interfaces that may be needed, each with its candidates.
     pub universe: Universe,
     /// The best choice from them.
@@ -30,7 +29,7 @@ impl Drop for Chosen {
     fn drop(self) {
         let Chosen {
             req: _,
-            stored: _,
+            known: _,
             universe: _,
             choice: _,
             sels: _,

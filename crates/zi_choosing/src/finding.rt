@@ -1,5 +1,5 @@
 //! The best choice from what words ask for, before anything is done with it.
-ghost use Rattle.std.specs.Prelude.{◌≡◌, ◌≤◌, MatchResult};
+ghost use Rattle.std.specs.Prelude.{◌≡◌, ◌≤◌, ◌∷◌, map, MatchResult};
 ghost use Rattle.zi_universe.specs.Whole.{BeginsWith};
 ghost use Rattle.zi_choice.specs.Best.{IsBest};
 ghost use Rattle.zi_world.specs.Asking.{FeedsStay};
@@ -8,20 +8,17 @@ ghost use Rattle.zi_choosing.specs.Finding.{SolvesNot, IsChosen, FindsNot, Finds
 
 use crate::chosen::Chosen;
 use crate::formula::without_formula;
+use crate::known::{Known, known_of, load_over};
 use crate::selecting::spent;
 use crate::wanted::{Job, into_job};
 use std::alloc::Global;
 use zi_choice::Choice;
-use zi_digest::DigestName;
 use zi_outcome::{Outcome, refused};
 use zi_outside::Feeds;
-use zi_packages::Packages;
 use zi_sels::from_choice;
-use zi_shelf::{Shelf, ShelfFault};
+use zi_shelf::Shelf;
 use zi_solve::{Answer, solve};
-use zi_store::stored_names;
-use zi_text::{List, Text};
-use zi_universe::{Requirement, Universe, load};
+use zi_universe::{Requirement, Universe};
 use zi_words::Ask;
 use zi_written_laws::what_is_chosen_can_be_written;
 
@@ -50,30 +47,22 @@ fn solved(
     }
 }
 
-// Loads what is asked for over a store with these names, and chooses.
+// Loads what is asked for over what is known, and chooses.
 fn find_over<F: Feeds>(
     alloc: Global,
     ask: Ask,
-    stored: List<DigestName>,
+    known: Known,
     feeds: &mut F,
 ) -> Result<Chosen, Outcome>
     requires { ask.search ≤ 4000000000 }
     ensures chooses { MatchResult result
-        (λ c. (c.stored ≡ stored) × IsChosen ask (F.seen feeds.old) c (F.seen feeds.new))
-        (FindsNot stored ask (F.seen feeds.old) (F.seen feeds.new)) }
+        (λ c. (c.known ≡ known) × IsChosen ask (F.seen feeds.old) c (F.seen feeds.new))
+        (FindsNot known ask (F.seen feeds.old) (F.seen feeds.new)) }
     ensures feeds { FeedsStay (F.seen feeds.old) (F.seen feeds.new) }
 {
     let budget = ask.search;
     let job = into_job(alloc, ask)?;
-    let packages = Packages::nothing(alloc);
-    let universe = match load(
-        alloc,
-        &job.req,
-        &job.policy,
-        stored.as_slice(),
-        &packages,
-        feeds,
-    ) {
+    let universe = match load_over(alloc, &job, &known, feeds) {
         Ok(universe) => universe,
         Err(fault) => return Err(refused(fault)),
     };
@@ -83,30 +72,29 @@ fn find_over<F: Feeds>(
     let Job { req, policy: _ } = job;
     Ok(Chosen {
         req,
-        stored,
+        known,
         universe,
         choice,
         sels,
     })
 }
 
-/// Finds out which digests are stored, loads what is asked for, and finds the best choice and what it selects. Nothing is written:
+/// Finds out which digests are in which store, loads what is asked for, and finds the best choice and what it selects. Nothing is written:
 /// where no choice is valid the outcome is `NoSolution` with a refutation, and `Spent` where the search learned as many lemmas as
 /// it was let; the other refusals are those of the store's names, of the loading and of the formula.
-pub fn find_best<F: Feeds, K: Shelf>(
+pub fn find_best<F: Feeds, K: Shelf, R: Shelf>(
     alloc: Global,
     ask: Ask,
     feeds: &mut F,
     shelf: &mut K,
+    others: &mut [R],
 ) -> Result<Chosen, Outcome>
     requires { ask.search ≤ 4000000000 }
-    ensures { FindsBest ask (record { feeds = F.seen feeds.old; shelf = K.seen shelf.old }) (record { feeds = F.seen feeds.new; shelf = K.seen shelf.new }) result }
+    ensures { FindsBest ask
+        (record { feeds = F.seen feeds.old; stores = K.seen shelf.old ∷ map R.seen others.old })
+        (record { feeds = F.seen feeds.new; stores = K.seen shelf.new ∷ map R.seen others.new })
+        result }
 {
-    match stored_names(alloc, shelf) {
-        Ok(stored) => find_over(alloc, ask, stored, feeds),
-        Err(ShelfFault::Failed) => Err(Outcome::StoreFault {
-            name: Text::new(alloc),
-        }),
-        Err(ShelfFault::Memory) => Err(Outcome::Memory),
-    }
+    let known = known_of(alloc, shelf, others)?;
+    find_over(alloc, ask, known, feeds)
 }

@@ -7,9 +7,10 @@
 //! Each command has a file of its own: `selecting`, `checking` (with `named`, the choice that selections name, and `own`,
 //! whether selections are those of a choice), `refuting`, `demonstrating` (with `counting`), `finding` (`find_best`,
 //! which gives a `chosen`).
-//! `wanted` takes the requirement and the policy out of what the words ask for. Read specs/Loaded.antt, which has what they
-//! have in common, then Select.antt, Check.antt, Refute.antt, Demo.antt and Finding.antt, each a case for each outcome with
-//! its cause; the `..Parts` are what the functions inside promise one another.
+//! `wanted` takes the requirement and the policy out of what the words ask for, `known` finds out which digests are in which store
+//! and loads over these. Read specs/Knowing.antt and Loaded.antt, which have what they have in common, then Select.antt, Check.antt,
+//! Refute.antt, Demo.antt and Finding.antt, each a case for each outcome with its cause; the `..Parts` are what the functions inside
+//! promise one another.
 #![tactic(auto)]
 
 mod checking;
@@ -18,6 +19,7 @@ mod counting;
 mod demonstrating;
 mod finding;
 mod formula;
+mod known;
 mod named;
 mod own;
 mod refuting;
@@ -28,5 +30,6 @@ pub use checking::check;
 pub use chosen::Chosen;
 pub use demonstrating::demonstrate;
 pub use finding::find_best;
+pub use known::{Known, known_of};
 pub use refuting::refute;
 pub use selecting::{put_document, select};

@@ -1,22 +1,21 @@
 //! The work of `refute`.
+ghost use Rattle.std.specs.Prelude.{map};
 ghost use Rattle.zi_universe.specs.Whole.{BeginsWith};
 ghost use Rattle.zi_world.specs.Asking.{FeedsStay};
 ghost use Rattle.zi_choosing.specs.Refute.{RefutesOver, ChecksNone};
 ghost use Rattle.zi_choosing.specs.RefuteParts.{ChecksRead, ChecksText, ChecksFile};
 
 use crate::formula::without_formula;
+use crate::known::{Known, known_of, load_over};
 use crate::wanted::into_job;
 use std::alloc::Global;
 use zi_check::check_none;
-use zi_digest::DigestName;
 use zi_outcome::{Outcome, put_text, refused};
 use zi_outside::{Feeds, FeedsFault, Got, Sink};
-use zi_packages::Packages;
 use zi_proof::{Certificate, ProofFault, read};
-use zi_shelf::{Shelf, ShelfFault};
-use zi_store::stored_names;
+use zi_shelf::Shelf;
 use zi_text::Text;
-use zi_universe::{Requirement, Universe, load};
+use zi_universe::{Requirement, Universe};
 use zi_words::Ask;
 
 // How many bytes a proof may have: 64 MiB.
@@ -90,16 +89,16 @@ fn check_file<F: Feeds, O: Sink>(
     }
 }
 
-// Loads what is asked for over a store with these names, and checks the proof.
+// Loads what is asked for over what is known, and checks the proof.
 fn refute_over<F: Feeds, O: Sink>(
     alloc: Global,
     ask: Ask,
     name: Text,
-    stored: &[DigestName],
+    known: &Known,
     feeds: &mut F,
     out: &mut O,
 ) -> Outcome
-    ensures over { RefutesOver ask name stored.now
+    ensures over { RefutesOver ask name known.now
         (record { feeds = F.seen feeds.old; out = O.seen out.old })
         (record { feeds = F.seen feeds.new; out = O.seen out.new })
         result }
@@ -108,33 +107,30 @@ fn refute_over<F: Feeds, O: Sink>(
     let Ok(job) = into_job(alloc, ask) else {
         return Outcome::Memory;
     };
-    let packages = Packages::nothing(alloc);
-    match load(alloc, &job.req, &job.policy, stored, &packages, feeds) {
+    match load_over(alloc, &job, known, feeds) {
         Ok(universe) => check_file(alloc, &job.req, &universe, name, feeds, out),
         Err(fault) => refused(fault),
     }
 }
 
-/// Finds out which digests are stored, loads what is asked for, gets the proof of this name, and writes `yes` where it shows that
+/// Finds out which digests are in which store, loads what is asked for, gets the proof of this name, and writes `yes` where it shows that
 /// no choice is valid. A proof with a block doesn't, nor does one that isn't accepted: `Rejected`.
-pub fn refute<F: Feeds, K: Shelf, O: Sink>(
+pub fn refute<F: Feeds, K: Shelf, R: Shelf, O: Sink>(
     alloc: Global,
     ask: Ask,
     proof: Text,
     feeds: &mut F,
     shelf: &mut K,
+    others: &mut [R],
     out: &mut O,
 ) -> Outcome
     ensures { ChecksNone ask proof
-        (record { feeds = F.seen feeds.old; shelf = K.seen shelf.old; out = O.seen out.old })
-        (record { feeds = F.seen feeds.new; shelf = K.seen shelf.new; out = O.seen out.new })
+        (record { feeds = F.seen feeds.old; shelf = K.seen shelf.old; others = map R.seen others.old; out = O.seen out.old })
+        (record { feeds = F.seen feeds.new; shelf = K.seen shelf.new; others = map R.seen others.new; out = O.seen out.new })
         result }
 {
-    match stored_names(alloc, shelf) {
-        Ok(stored) => refute_over(alloc, ask, proof, stored.as_slice(), feeds, out),
-        Err(ShelfFault::Failed) => Outcome::StoreFault {
-            name: Text::new(alloc),
-        },
-        Err(ShelfFault::Memory) => Outcome::Memory,
+    match known_of(alloc, shelf, others) {
+        Ok(known) => refute_over(alloc, ask, proof, &known, feeds, out),
+        Err(outcome) => outcome,
     }
 }

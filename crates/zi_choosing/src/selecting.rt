@@ -1,5 +1,5 @@
 //! The work of `select`.
-ghost use Rattle.std.specs.Prelude.{◌≡◌, ◌≤◌, false, None};
+ghost use Rattle.std.specs.Prelude.{◌≡◌, ◌≤◌, false, None, map};
 ghost use Rattle.zi_docout.specs.Amiss.{first_amiss};
 ghost use Rattle.zi_universe.specs.Whole.{BeginsWith};
 ghost use Rattle.zi_choice.specs.Valid.{IsValid};
@@ -14,22 +14,20 @@ ghost use Rattle.zi_choosing.specs.SelectParts.{CanBeWritten, PrintsChoice, Prin
 
 use crate::chosen::Chosen;
 use crate::formula::without_formula;
+use crate::known::{Known, known_of, load_over};
 use crate::wanted::into_job;
 use std::alloc::Global;
 use std::mem;
 use zi_choice::Choice;
-use zi_digest::DigestName;
 use zi_docout::WriteFault;
 use zi_outcome::{Outcome, put_text, refused};
 use zi_outside::{Feeds, Sink};
-use zi_packages::Packages;
 use zi_proof::{Certificate, Proof};
 use zi_sels::{Selections, from_choice};
-use zi_shelf::{Shelf, ShelfFault};
+use zi_shelf::Shelf;
 use zi_solve::{Answer, solve};
-use zi_store::stored_names;
-use zi_text::{List, Memory, Text};
-use zi_universe::{Requirement, Universe, load};
+use zi_text::{List, Memory};
+use zi_universe::{Requirement, Universe};
 use zi_words::Ask;
 use zi_written_laws::what_is_chosen_can_be_written;
 
@@ -162,17 +160,17 @@ fn choose<O: Sink>(
     }
 }
 
-// Loads what is asked for over a store with these names, and chooses.
+// Loads what is asked for over what is known, and chooses.
 fn select_over<F: Feeds, O: Sink>(
     alloc: Global,
     ask: Ask,
     proof: bool,
-    stored: &[DigestName],
+    known: &Known,
     feeds: &mut F,
     out: &mut O,
 ) -> Outcome
     requires { ask.search ≤ 4000000000 }
-    ensures over { SelectsOver ask proof stored.now
+    ensures over { SelectsOver ask proof known.now
         (record { feeds = F.seen feeds.old; out = O.seen out.old })
         (record { feeds = F.seen feeds.new; out = O.seen out.new })
         result }
@@ -183,8 +181,7 @@ fn select_over<F: Feeds, O: Sink>(
         return Outcome::Memory;
     };
     what_is_chosen_can_be_written();
-    let packages = Packages::nothing(alloc);
-    match load(alloc, &job.req, &job.policy, stored, &packages, feeds) {
+    match load_over(alloc, &job, known, feeds) {
         Ok(universe) => {
             let outcome = choose(alloc, &job.req, &universe, budget, proof, out);
             // The program ends behind this, and to take all apart would take a tenth of its time.
@@ -195,28 +192,26 @@ fn select_over<F: Feeds, O: Sink>(
     }
 }
 
-/// Finds out which digests are stored, loads what is asked for, and chooses: the document of what the best choice selects is
+/// Finds out which digests are in which store, loads what is asked for, and chooses: the document of what the best choice selects is
 /// written, or with `proof` a certificate, by which every other valid choice is worse. Where no choice is valid a refutation is
 /// written, and the outcome is `NoSolution`; where the search learned as many lemmas as it was let, nothing is, and it is `Spent`.
-pub fn select<F: Feeds, K: Shelf, O: Sink>(
+pub fn select<F: Feeds, K: Shelf, R: Shelf, O: Sink>(
     alloc: Global,
     ask: Ask,
     proof: bool,
     feeds: &mut F,
     shelf: &mut K,
+    others: &mut [R],
     out: &mut O,
 ) -> Outcome
     requires { ask.search ≤ 4000000000 }
     ensures { Selects ask proof
-        (record { feeds = F.seen feeds.old; shelf = K.seen shelf.old; out = O.seen out.old })
-        (record { feeds = F.seen feeds.new; shelf = K.seen shelf.new; out = O.seen out.new })
+        (record { feeds = F.seen feeds.old; shelf = K.seen shelf.old; others = map R.seen others.old; out = O.seen out.old })
+        (record { feeds = F.seen feeds.new; shelf = K.seen shelf.new; others = map R.seen others.new; out = O.seen out.new })
         result }
 {
-    match stored_names(alloc, shelf) {
-        Ok(stored) => select_over(alloc, ask, proof, stored.as_slice(), feeds, out),
-        Err(ShelfFault::Failed) => Outcome::StoreFault {
-            name: Text::new(alloc),
-        },
-        Err(ShelfFault::Memory) => Outcome::Memory,
+    match known_of(alloc, shelf, others) {
+        Ok(known) => select_over(alloc, ask, proof, &known, feeds, out),
+        Err(outcome) => outcome,
     }
 }

@@ -1,3 +1,5 @@
 pub mod CommandLemmas
 pub mod EntryLemmas
+pub mod FeedsLemmas
+pub mod FileNameLaws
 pub mod ReadLemmas

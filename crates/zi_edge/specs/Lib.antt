@@ -1,8 +1,11 @@
 pub mod Commands
 pub mod Ends
 pub mod Entries
+pub mod FileName
 pub mod Fit
+pub mod Found
 pub mod Helped
+pub mod Paths
 pub mod Reads
 pub mod Seen
 pub mod Troubles

@@ -5,7 +5,7 @@ ghost use Rattle.zi_outside.specs.Outside.{Gets, Finds};
 ghost use Rattle.zi_outside.specs.Fetched.{as_get};
 ghost use Rattle.zi_edge.specs.Commands.{Starts, no_variables};
 ghost use Rattle.zi_edge.specs.Helped.{Answers, HasGiven, output};
-ghost use Rattle.zi_edge.specs.Seen.{web_seen};
+ghost use Rattle.zi_edge.specs.Seen.{feeding_seen};
 ghost use Rattle.zi_edge.specs.declared.trouble.Reason.TheVariants.{NoHelper as HasNone};
 ghost use Rattle.zi_outside.specs.declared.web.WebFault.TheVariants.{Failed as HasFailed};
 ghost use Rattle.zi_edge.specs.declared.trouble.Trouble.TheVariants.{Failed};
@@ -86,7 +86,7 @@ fn gather<P: OpenProcess>(
 impl<'a, R: Processes + AllocGlobal> HelperWeb<'a, R> {
     /// The web of a helper, or of none, without a fault.
     pub fn new(rt: &'a R, helper: Option<Text>) -> HelperWeb<'a, R>
-        ensures seen { web_seen result.faults ≡ web_seen 0 }
+        ensures seen { feeding_seen result.faults ≡ feeding_seen 0 }
         ensures helper { result.helper ≡ helper }
     {
         HelperWeb {
@@ -128,12 +128,12 @@ impl<'a, R: Processes + AllocGlobal> HelperWeb<'a, R> {
 }
 
 impl<R: Processes + AllocGlobal> Web for HelperWeb<'_, R> {
-    ghost use Rattle.zi_edge.specs.Seen.{web_seen};
+    ghost use Rattle.zi_edge.specs.Seen.{feeding_seen};
 
-    ghost seen = { λ web. web_seen web.faults };
+    ghost seen = { λ web. feeding_seen web.faults };
 
     fn get(&mut self, href: &str, limit: u64, into: &mut Vec<u8>) -> Result<Got, WebFault>
-        ensures gets { Gets (web_seen self.old.faults) (record { key = href.now; limit = limit; buffer = into.old.items }) (as_get result) into.new.items (web_seen self.new.faults) }
+        ensures gets { Gets (feeding_seen self.old.faults) (record { key = href.now; limit = limit; buffer = into.old.items }) (as_get result) into.new.items (feeding_seen self.new.faults) }
         ensures unhelped { self.old.helper ≡ None → result ≡ Err HasFailed }
     {
         match self.fetch(href, limit, into) {

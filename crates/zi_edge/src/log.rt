@@ -2,7 +2,9 @@
 
 use crate::trouble::Reason;
 use std::alloc::Global;
+use std::fs::File;
 use std::io::{self, Write};
+use zi_text::Text;
 
 /// Lines of failures, each the place of one and its reason.
 #[derive(Drop)]
@@ -37,4 +39,19 @@ impl Log {
     pub fn as_bytes(&self) -> &[u8] {
         self.lines.as_slice()
     }
+}
+
+/// Writes lines to the end of the file that a name says, or to standard error where it is `-`. Nothing is written where there
+/// are none.
+pub fn write_log(rt: &HostRuntime, name: &Text, lines: &[u8]) -> io::Result<()> {
+    if lines.is_empty() {
+        return Ok(());
+    }
+    if name.as_str() == "-" {
+        return rt.stderr().write_all(lines);
+    }
+    let mut options = File::options();
+    options.append(true).create(true);
+    let mut file = options.open(rt, name.as_str())?;
+    file.write_all(lines)
 }

@@ -1,6 +1,6 @@
 -- What a download comes to, stage by stage.
 use Rattle.std.proofs.Common.{◌≡◌, ℕ, suc, ◌⊎◌, inl, inr, Bool, true, false, ◌||◌, List, [], ◌∷◌, map, Option, Some, None, IsSome, is_some, refl, sym, ◌∙◌, ap, subst, arith, All, Contains, bytes_eq, Ok, Err}
-use Rattle.std.specs.List.{list_any}
+use Rattle.std.specs.List.{list_any, position_from}
 use Rattle.std.proofs.lemmas.List.Elements.{All-nil, All-cons}
 use Rattle.zi_digest.specs.declared.DigestName.{DigestName}
 use Rattle.zi_digest.specs.Name.{spelling}
@@ -9,9 +9,13 @@ use Rattle.zi_outside.specs.Views.{Feeding, Sinking}
 use Rattle.zi_policy.specs.Platform.{listed}
 use Rattle.zi_shelf.specs.Names.{Name, IsIn}
 use Rattle.zi_shelf.specs.Shelved.{Top, Shelved}
-use Rattle.zi_shelf.specs.Shelving.{Shelving}
+use Rattle.zi_shelf.specs.Shelving.{Shelving, Stays}
+use Rattle.zi_shelf.specs.Told.{Told}
+use Rattle.zi_shelf.specs.declared.call.CallKind.{CallKind}
 use Rattle.zi_store.specs.Keeping.{Keeps, is_names, is_reading}
-use Rattle.zi_store.specs.Stored.{NamesStored}
+use Rattle.zi_store.specs.Rising.{is_among}
+use Rattle.zi_store.specs.Stores.{Each, IsCalm, HaveNames}
+use Rattle.zi_store.specs.Finding.{spelled}
 use Rattle.zi_store.proofs.KeepingLemmas.{keeps_none}
 use Rattle.zi_words.specs.declared.request.Ask.{Ask}
 use Rattle.zi_universe.specs.Naming.{with_one, joined}
@@ -20,14 +24,17 @@ use Rattle.zi_reading.specs.Words.{first}
 use Rattle.zi_sels.specs.declared.types.Selection.{Selection}
 use Rattle.zi_sels.specs.Written.{document}
 use Rattle.zi_adding.specs.Trying.{Tried, IsDone, Adds, CostsAll}
-use Rattle.zi_adding.specs.Gains.{Uses, IsKept, Gains, GainsOnly}
+use Rattle.zi_adding.specs.Gains.{Uses, IsKept, GainsOnly}
 use Rattle.zi_adding.proofs.AddingLemmas.{adds_nothing}
 use Rattle.zi_adding.proofs.HistoryLaws.{AreDone, costs_from, uses_gain, names_only_read, reads_use, some_kept}
 use Rattle.zi_outcome.specs.declared.outcome.Outcome.{Outcome}
 use Rattle.zi_outcome.specs.Writing.{Prints}
-use Rattle.zi_world.specs.StoreRead.{AreStored}
+use Rattle.zi_world.specs.Places.{InStore, AreTold, place_by}
+use Rattle.zi_world.proofs.PlacesLemmas.{each_by}
+use Rattle.zi_world.proofs.StandLemmas.{Carries, keeps_carries, HasAt, in_no_list, stands_at, told_then, one_of_told}
 use Rattle.zi_choosing.specs.declared.chosen.Chosen.{Chosen}
-use Rattle.zi_choosing.specs.Finding.{Sources, FindsBest}
+use Rattle.zi_choosing.specs.Knowing.{all_names}
+use Rattle.zi_choosing.specs.Finding.{FindsBest}
 use Rattle.zi_fetching.specs.Known.{Names, is_known, is_there}
 use Rattle.zi_fetching.specs.Fetching.{From, from_chosen, IsFetched, tried_names, names_in, FetchesInTurn, Fetches, FetchesAll}
 use Rattle.zi_fetching.specs.Download.{HasChosen, StandsIn, AreThere, Downloads}
@@ -40,38 +47,45 @@ pub used : (tried : List Tried) (before mid after : Shelving) → Keeps is_names
 used tried before mid after k a = reads_use tried before mid after after (names_only_read before mid k) a (keeps_none is_reading after)
 
 -- Nothing was chosen.
-pub unfound : (ask : Ask) (before after : Sources) (web : Feeding) (out : Sinking) (outcome : Outcome) → FindsBest ask before after (Err outcome)
-    → Downloads ask (record { feeds = before.feeds; shelf = before.shelf; web = web; out = out }) (record { feeds = after.feeds; shelf = after.shelf; web = web; out = out }) outcome
-unfound ask before after web out outcome f =
-    let u = used [] before.shelf after.shelf after.shelf f.shelf (adds_nothing after.shelf) in
+pub unfound : (ask : Ask) (old new : Feeding) (shelf mid : Shelving) (others thens : List Shelving) (web : Feeding) (out : Sinking) (outcome : Outcome)
+    → FindsBest ask (record { feeds = old; stores = shelf ∷ others }) (record { feeds = new; stores = mid ∷ thens }) (Err outcome)
+    → Downloads ask (record { feeds = old; shelf = shelf; others = others; web = web; out = out }) (record { feeds = new; shelf = mid; others = thens; web = web; out = out }) outcome
+unfound ask old new shelf mid others thens web out outcome f =
+    let u = used [] shelf mid mid f.stores.0 (adds_nothing mid) in
     record {
       feeds = f.feeds;
       web = feeds_same web;
       tried = [];
       comes = inl (f.answer, (refl, refl), refl);
       shelf = u;
-      stored = uses_gain [] before.shelf after.shelf u;
+      stored = uses_gain [] shelf mid u;
+      others = f.stores.1;
     }
 
 -- One of the selections wasn't fetched.
-module _ (ask : Ask) (before mid : Sources) (c : Chosen) (f : FindsBest ask before mid (Ok c)) where
-  pub chosen_so : HasChosen ask before.shelf before.feeds c mid.feeds
-  chosen_so = record { stored = f.answer.1; chosen = f.answer.2 }
+module _ (ask : Ask) (old new : Feeding) (shelf mid : Shelving) (others thens : List Shelving) (c : Chosen)
+    (f : FindsBest ask (record { feeds = old; stores = shelf ∷ others }) (record { feeds = new; stores = mid ∷ thens }) (Ok c)) where
+  pub chosen_so : HasChosen ask (shelf ∷ others) old c new
+  chosen_so = record { names = f.answer.0.1; chosen = f.answer.1 }
 
-  pub cost_so : (tried : List Tried) (after : Shelving) → Adds tried mid.shelf after → CostsAll tried before.shelf after
-  cost_so tried after a = costs_from tried before.shelf mid.shelf after f.answer.0 f.shelf.stays.sure a.cost
+  pub cost_so : (tried : List Tried) (after : Shelving) → Adds tried mid after → CostsAll tried shelf after
+  cost_so tried after a = costs_from tried shelf mid after f.answer.0.0.0 f.stores.0.stays.sure a.cost
 
-  pub unfetched : (web then : Feeding) (after : Shelving) (out : Sinking) (outcome : Outcome) → FetchesAll c (record { web = web; shelf = mid.shelf }) (Err outcome) (record { web = then; shelf = after })
-      → Downloads ask (record { feeds = before.feeds; shelf = before.shelf; web = web; out = out }) (record { feeds = mid.feeds; shelf = after; web = then; out = out }) outcome
+  pub calm_so : Each IsCalm others thens
+  calm_so = f.answer.0.0.1
+
+  pub unfetched : (web then : Feeding) (after : Shelving) (out : Sinking) (outcome : Outcome) → FetchesAll c (record { web = web; shelf = mid }) (Err outcome) (record { web = then; shelf = after })
+      → Downloads ask (record { feeds = old; shelf = shelf; others = others; web = web; out = out }) (record { feeds = new; shelf = after; others = thens; web = then; out = out }) outcome
   unfetched web then after out outcome g =
-      let u = used g.tried before.shelf mid.shelf after f.shelf g.adds in
+      let u = used g.tried shelf mid after f.stores.0 g.adds in
       record {
         feeds = f.feeds;
         web = web_stays c web (Err outcome) g.tried then g.fetches;
         tried = g.tried;
-        comes = inr (c, chosen_so, cost_so g.tried after g.adds, inl (g.fetches, refl));
+        comes = inr (c, chosen_so, cost_so g.tried after g.adds, calm_so, inl (g.fetches, refl));
         shelf = u;
-        stored = uses_gain g.tried before.shelf after u;
+        stored = uses_gain g.tried shelf after u;
+        others = f.stores.1;
       }
 
 -- What is there at the end.
@@ -132,63 +146,91 @@ any_of p (x ∷ xs) h = by (p x) refl h (any_of p xs)
     by true e h go = (x, (0, omega arith, refl), e)
     by false e h go = let r = go h in (r.0, (suc r.1.0, omega (arith, r.1.1), r.1.2), r.2)
 
-module _ (c : Chosen) (tried : List Tried) (s t : Shelved Dir) (done : AreDone tried) (names : NamesStored (Ok c.stored) s) (g : Gains tried s t) where
-  name_there : (n : Name) → listed n (joined (names_in c) (tried_names tried)) ≡ true → IsSome (t.tops n)
-  name_there n h = by (joined_from n (names_in c) (tried_names tried) h)
-    where
-      by : (listed n (names_in c) ≡ true) ⊎ (listed n (tried_names tried) ≡ true) → IsSome (t.tops n)
-      by (inl h) =
-          let r = among spelling c.stored n (sym (listed-without_repeats n (map spelling c.stored)) ∙ h) in
-          let was : IsSome (s.tops (spelling r.0)) = ((names.1 r.0).0 r.1).1 in
-          subst (λ m. IsSome (t.tops m)) r.2 (some_kept (s.tops (spelling r.0)) (t.tops (spelling r.0)) was (g.kept (spelling r.0)))
-      by (inr h) =
-          let r = among (λ (a : Tried). spelling a.name) tried n h in
-          subst (λ m. IsSome (t.tops m)) r.2
-          (done_there t r.0 (in_all IsDone tried r.0 (all_done tried done) r.1) (in_all (λ (a : Tried). IsKept t a a.answer) tried r.0 g.there r.1))
-
-  pub stands : (x : Selection) → is_there (joined (names_in c) (tried_names tried)) x ≡ true → StandsIn t x
-  stands x h = by x.local refl h
-    where
-      by : (o : Option (List ℕ)) → x.local ≡ o → (is_some o || list_any (is_known (joined (names_in c) (tried_names tried))) x.digests) ≡ true → StandsIn t x
-      by (Some path) e h = inl (subst (λ p. IsSome p) (sym e) refl)
-      by None e h = let r = any_of (is_known (joined (names_in c) (tried_names tried))) x.digests h in inr (r.0, r.1, name_there (spelling r.0) r.2)
-
 all_more : {X : Type 0} (P Q : X → Type 0) (xs : List X) → ((x : X) → P x → Q x) → All P xs → All Q xs
 all_more P Q xs f a = λ k d lt. f _ (a k d lt)
 
-pub all_there : (c : Chosen) (tried : List Tried) (old new : Feeding) (stored : Names) (before after : Shelving) → AreStored before c.stored → Fetches c old stored tried new → GainsOnly tried before after
-    → AreThere before after c.sels.items
-all_there c tried old new stored before after names f g = λ s h e.
-    let r = g.gains s h e in
-    let done = turn_done (from_chosen c) c.sels.items (names_in c) old tried new f.in_turn in (
-      r.0,
-      r.1,
-      all_more (λ x. is_there (joined (names_in c) (tried_names tried)) x ≡ true) (StandsIn r.0.shelf) c.sels.items
-          (stands c tried s.shelf r.0.shelf done (names s h e) r.2) (turn_there (from_chosen c) c.sels.items (names_in c) old tried new f.in_turn),
-    )
+-- what no store has isn't among the names of all
+in_none : (n : Name) (j : ℕ) (each : List (List DigestName)) → position_from (λ ns. is_among ns n) j (spelled each) ≡ None → listed n (map spelling (all_names each)) ≡ true → ⊥
+in_none n j each none h = let r = among spelling (all_names each) n h in in_no_list r.0 n j each r.2 r.1 none
+
+-- It stands in the store of its place.
+module _ (c : Chosen) (tried : List Tried) (done : AreDone tried) (kinds : CallKind → Bool) (shelf after : Shelving) (others thens : List Shelving) (names : HaveNames (shelf ∷ others) c.known.each)
+    (gains : GainsOnly tried shelf after) (stays : Stays shelf after) (kept : Each (Keeps kinds) others thens) where
+  carries : Each Carries (shelf ∷ others) (after ∷ thens)
+  carries = (
+    record {
+      honest = λ h. stays.honest h;
+      holds = λ s h e. let r = gains.gains s h e in (r.0, r.1, λ n some. some_kept (s.shelf.tops n) (r.0.shelf.tops n) some (r.2.kept n));
+    },
+    each_by (Keeps kinds) Carries (keeps_carries kinds) others thens kept,
+  )
+
+  -- what was added, or whose name was there
+  tried_at : (n : Name) → listed n (tried_names tried) ≡ true → HasAt n shelf after
+  tried_at n h s honest told =
+      let r = gains.gains s honest told in
+      let a = among (λ (x : Tried). spelling x.name) tried n h in (
+        r.0,
+        r.1,
+        subst (λ m. IsSome (r.0.shelf.tops m)) a.2
+            (done_there r.0.shelf a.0 (in_all IsDone tried a.0 (all_done tried done) a.1) (in_all (λ (x : Tried). IsKept r.0.shelf x x.answer) tried a.0 r.2.there a.1)),
+      )
+
+  pub name_at : (n : Name) → listed n (joined (names_in c) (tried_names tried)) ≡ true
+      → InStore (place_by (position_from (λ ns. is_among ns n) 0 (spelled c.known.each))) (shelf ∷ others) (after ∷ thens) (HasAt n)
+  name_at n h = stands_at n shelf after others thens c.known.each names carries (λ none. by none (joined_from n (names_in c) (tried_names tried) h))
+    where
+      by : position_from (λ ns. is_among ns n) 0 (spelled c.known.each) ≡ None → (listed n (names_in c) ≡ true) ⊎ (listed n (tried_names tried) ≡ true) → HasAt n shelf after
+      by none (inl k) = absurd (in_none n 0 c.known.each none (sym (listed-without_repeats n (map spelling (all_names c.known.each))) ∙ k))
+      by none (inr k) = tried_at n k
+
+  -- so what is there has a tree in one of them
+  pub stands : (x : Selection) → is_there (joined (names_in c) (tried_names tried)) x ≡ true → (ss : List Told) → AreTold (shelf ∷ others) ss → (ts : List Told) → AreTold (after ∷ thens) ts
+      → StandsIn (map (λ (t : Told). t.shelf) ts) x
+  stands x h ss told ts then = by x.local refl h
+    where
+      by : (o : Option (List ℕ)) → x.local ≡ o → (is_some o || list_any (is_known (joined (names_in c) (tried_names tried))) x.digests) ≡ true → StandsIn (map (λ (t : Told). t.shelf) ts) x
+      by (Some path) e h = inl (subst (λ p. IsSome p) (sym e) refl)
+      by None e h =
+          let r = any_of (is_known (joined (names_in c) (tried_names tried))) x.digests h in
+          let s = one_of_told (λ (d : Shelved Dir). IsSome (d.tops (spelling r.0))) _ (shelf ∷ others) (after ∷ thens) (name_at (spelling r.0) r.2) ss told ts then in
+          inr (r.0, r.1, s.0, s.1, s.2)
+
+  pub all_there : (items : List Selection) → All (λ x. is_there (joined (names_in c) (tried_names tried)) x ≡ true) items → AreThere (shelf ∷ others) (after ∷ thens) items
+  all_there items there ss told =
+      let ts = told_then (shelf ∷ others) (after ∷ thens) carries ss told in (
+        ts.0,
+        ts.1,
+        all_more (λ x. is_there (joined (names_in c) (tried_names tried)) x ≡ true) (StandsIn (map (λ (t : Told). t.shelf) ts.0)) items (λ x h. stands x h ss told ts.0 ts.1) there,
+      )
 
 -- All were fetched, and the document is printed.
-pub fetched_and_printed : (ask : Ask) (before mid : Sources) (c : Chosen) (web then : Feeding) (after : Shelving) (out written : Sinking) (stored : Names) (outcome : Outcome) → FindsBest ask before mid (Ok c)
-    → FetchesAll c (record { web = web; shelf = mid.shelf }) (Ok stored) (record { web = then; shelf = after }) → Prints (document c.sels) out written outcome
-    → Downloads ask (record { feeds = before.feeds; shelf = before.shelf; web = web; out = out }) (record { feeds = mid.feeds; shelf = after; web = then; out = written }) outcome
-fetched_and_printed ask before mid c web then after out written stored outcome f g p =
-    let u = used g.tried before.shelf mid.shelf after f.shelf g.adds in
-    let gains = uses_gain g.tried before.shelf after u in
+pub fetched_and_printed : (ask : Ask) (old new : Feeding) (shelf mid : Shelving) (others thens : List Shelving) (c : Chosen)
+    (f : FindsBest ask (record { feeds = old; stores = shelf ∷ others }) (record { feeds = new; stores = mid ∷ thens }) (Ok c)) (web then : Feeding) (after : Shelving) (out written : Sinking) (stored : Names) (outcome : Outcome)
+    → FetchesAll c (record { web = web; shelf = mid }) (Ok stored) (record { web = then; shelf = after }) → Prints (document c.sels) out written outcome
+    → Downloads ask (record { feeds = old; shelf = shelf; others = others; web = web; out = out }) (record { feeds = new; shelf = after; others = thens; web = then; out = written }) outcome
+fetched_and_printed ask old new shelf mid others thens c f web then after out written stored outcome g p =
+    let u = used g.tried shelf mid after f.stores.0 g.adds in
+    let gains = uses_gain g.tried shelf after u in
+    let turn = g.fetches.in_turn in
     record {
       feeds = f.feeds;
       web = web_stays c web (Ok stored) g.tried then g.fetches;
       tried = g.tried;
       comes = inr (
         c,
-        chosen_so ask before mid c f,
-        cost_so ask before mid c f g.tried after g.adds,
+        chosen_so ask old new shelf mid others thens c f,
+        cost_so ask old new shelf mid others thens c f g.tried after g.adds,
+        calm_so ask old new shelf mid others thens c f,
         inr (record {
           stored = stored;
           fetched = g.fetches;
-          there = all_there c g.tried web then stored before.shelf after f.answer.1 g.fetches gains;
+          there = all_there c g.tried (turn_done (from_chosen c) c.sels.items (names_in c) web g.tried then turn) is_names shelf after others thens f.answer.0.1 gains u.stays f.stores.1
+              c.sels.items (turn_there (from_chosen c) c.sels.items (names_in c) web g.tried then turn);
           printed = p;
         }),
       );
       shelf = u;
       stored = gains;
+      others = f.stores.1;
     }

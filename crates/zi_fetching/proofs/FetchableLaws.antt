@@ -35,6 +35,7 @@ use Rattle.zi_sels.specs.Chosen.{selection_by, selected_at, selected_from, selec
 use Rattle.zi_choosing.specs.declared.chosen.Chosen.{Chosen}
 use Rattle.zi_choosing.specs.Loaded.{no_packages}
 use Rattle.zi_choosing.specs.Finding.{IsChosen}
+use Rattle.zi_choosing.specs.Knowing.{all_names}
 use Rattle.zi_fetching.specs.Known.{is_known}
 use Rattle.zi_fetching.specs.Fetching.{from_chosen, method_of, IsFetchable, names_in}
 use Rattle.zi_choice.proofs.Base.{all_at as get_all}
@@ -206,7 +207,7 @@ any_same p q [] h = refl
 any_same p q (x ∷ xs) h = ap (λ b. b || list_any p xs) (h x) ∙ ap (λ b. q x || b) (any_same p q xs h)
 
 selection_fetchable : (c : Chosen) (w : Walk) (k : ℕ) (i : Interface) (x : Candidate) → IsWhole c.universe → slice_get c.universe k ≡ Some i → chosen c.universe c.choice.picks k ≡ Some x
-    → IsObtainable (stored_names c.stored no_packages) x → IsFetchable (from_chosen c) (names_in c) (selection_by c.universe c.choice.picks w k i.uri x)
+    → IsObtainable (stored_names (all_names c.known.each) no_packages) x → IsFetchable (from_chosen c) (names_in c) (selection_by c.universe c.choice.picks w k i.uri x)
 unfolding selection_by
 selection_fetchable c w k i x whole at e o = record {
   way = λ h. let n = or_parts (is_some x.imp.local) (list_any (is_known (names_in c)) x.imp.digests) h in
@@ -214,8 +215,8 @@ selection_fetchable c w k i x whole at e o = record {
   named = λ h. let n = or_parts (is_some x.imp.local) (list_any (is_known (names_in c)) x.imp.digests) h in o.digests n.0 (unknown n.1);
 }
   where
-    unknown : list_any (is_known (names_in c)) x.imp.digests ≡ false → list_any (λ d. (stored_names c.stored no_packages).trees (spelling d)) x.imp.digests ≡ false
-    unknown h = any_same (λ d. (stored_names c.stored no_packages).trees (spelling d)) (is_known (names_in c)) x.imp.digests (λ d. sym (listed-without_repeats (spelling d) (map spelling c.stored))) ∙ h
+    unknown : list_any (is_known (names_in c)) x.imp.digests ≡ false → list_any (λ d. (stored_names (all_names c.known.each) no_packages).trees (spelling d)) x.imp.digests ≡ false
+    unknown h = any_same (λ d. (stored_names (all_names c.known.each) no_packages).trees (spelling d)) (is_known (names_in c)) x.imp.digests (λ d. sym (listed-without_repeats (spelling d) (map spelling (all_names c.known.each)))) ∙ h
 
     by_method : method_of (from_chosen c) i.uri ≡ first x.imp.methods
     by_method =
@@ -236,5 +237,5 @@ all_fetchable ask before after c whole is =
     let n = chosen_at c.universe c.choice.picks k i x at picked in
     subst (λ m. P (selection_by c.universe c.choice.picks w m i.uri x)) (sym z)
     (selection_fetchable c w k i x whole at picked
-    (get_all (IsObtainable (stored_names c.stored no_packages)) i.candidates n.0 x
-    (at_place loads.at _ _ (stored_names c.stored no_packages) loads.groups c.universe k i refl (reached_none _ _ loads.at loads.groups loads.read) come.each at) n.1))))
+    (get_all (IsObtainable (stored_names (all_names c.known.each) no_packages)) i.candidates n.0 x
+    (at_place loads.at _ _ (stored_names (all_names c.known.each) no_packages) loads.groups c.universe k i refl (reached_none _ _ loads.at loads.groups loads.read) come.each at) n.1))))

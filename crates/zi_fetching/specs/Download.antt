@@ -1,5 +1,5 @@
 -- `download`: what the best choice selects is fetched, and its document is written.
-use Rattle.std.specs.Prelude.{◌≡◌, ◌⊎◌, List, [], Some, IsSome, All, Contains, Err}
+use Rattle.std.specs.Prelude.{◌≡◌, ◌⊎◌, List, [], ◌∷◌, map, Some, IsSome, All, Contains, Err}
 use Rattle.zi_digest.specs.declared.DigestName.{DigestName}
 use Rattle.zi_digest.specs.Name.{spelling}
 use Rattle.zi_tree.specs.Dir.{Dir}
@@ -7,6 +7,8 @@ use Rattle.zi_outside.specs.Views.{Feeding}
 use Rattle.zi_shelf.specs.Shelved.{Shelved}
 use Rattle.zi_shelf.specs.Shelving.{Shelving}
 use Rattle.zi_shelf.specs.Told.{Told}
+use Rattle.zi_store.specs.Keeping.{Keeps, is_names}
+use Rattle.zi_store.specs.Stores.{Each, IsCalm, HaveNames}
 use Rattle.zi_words.specs.declared.request.Ask.{Ask}
 use Rattle.zi_sels.specs.declared.types.Selection.{Selection}
 use Rattle.zi_sels.specs.Written.{document}
@@ -16,38 +18,42 @@ use Rattle.zi_outcome.specs.declared.outcome.Outcome.{Outcome}
 use Rattle.zi_outcome.specs.Writing.{Prints}
 use Rattle.zi_world.specs.Asking.{FeedsStay}
 use Rattle.zi_world.specs.Meets.{Meets}
-use Rattle.zi_world.specs.StoreRead.{AreStored}
+use Rattle.zi_world.specs.Places.{AreTold}
 use Rattle.zi_choosing.specs.declared.chosen.Chosen.{Chosen}
 use Rattle.zi_choosing.specs.Finding.{Sources, IsChosen, FindsOver}
 use Rattle.zi_fetching.specs.Known.{Names}
 use Rattle.zi_fetching.specs.Fetching.{Fetches, FetchesNot}
 
+-- all stores, in the order in which they are searched
+abbrev pub stores_of : Meets → List Shelving
+stores_of m = m.shelf ∷ m.others
+
 -- what the choosing is lent of that
 abbrev pub sources : Meets → Sources
-sources m = record { feeds = m.feeds; shelf = m.shelf }
+sources m = record { feeds = m.feeds; stores = stores_of m }
 
 -- nothing was fetched
 abbrev pub NothingFetched : List Tried → Feeding → Feeding → Type 0
 NothingFetched tried before after = (tried ≡ []) × (after ≡ before)
 
--- The best choice was made over the names in the store.
-pub record HasChosen (ask : Ask) (shelf : Shelving) (before : Feeding) (c : Chosen) (after : Feeding) : Type 0 where
-  pub stored : AreStored shelf c.stored
+-- The best choice was made over the names in the stores.
+pub record HasChosen (ask : Ask) (stores : List Shelving) (before : Feeding) (c : Chosen) (after : Feeding) : Type 0 where
+  pub names : HaveNames stores c.known.each
   pub chosen : IsChosen ask before c after
 
--- what is selected has a path of its own, or a tree stands under one of its digests
-abbrev pub StandsIn : Shelved Dir → Selection → Type 0
-StandsIn s x = IsSome x.local ⊎ ((d : DigestName) × Contains x.digests d × IsSome (s.tops (spelling d)))
+-- what is selected has a path of its own, or in one of the stores a tree stands under one of its digests
+abbrev pub StandsIn : List (Shelved Dir) → Selection → Type 0
+StandsIn held x = IsSome x.local ⊎ ((d : DigestName) × Contains x.digests d × (s : Shelved Dir) × Contains held s × IsSome (s.tops (spelling d)))
 
--- so it is of all selections at the end, where an honest shelf told what it held
-abbrev pub AreThere : Shelving → Shelving → List Selection → Type 0
-AreThere before after items = (s : Told) → before.honest → before.told ≡ Some s → (t : Told) × (after.told ≡ Some t) × All (StandsIn t.shelf) items
+-- so it is of all selections at the end, where all stores are honest and told what they held
+abbrev pub AreThere : List Shelving → List Shelving → List Selection → Type 0
+AreThere before after items = (ss : List Told) → AreTold before ss → (ts : List Told) × AreTold after ts × All (StandsIn (map (λ (t : Told). t.shelf) ts)) items
 
 -- All that is selected was fetched, each is there at the end, and the document is printed.
 pub record FetchesAndPrints (c : Chosen) (tried : List Tried) (before after : Meets) (outcome : Outcome) : Type 0 where
   pub stored : Names
   pub fetched : Fetches c before.web stored tried after.web
-  pub there : AreThere before.shelf after.shelf c.sels.items
+  pub there : AreThere (stores_of before) (stores_of after) c.sels.items
   pub printed : Prints (document c.sels) before.out after.out outcome
 
 -- Behind the choice: one of the selections can't be fetched, and nothing is written; or the document is printed.
@@ -55,13 +61,15 @@ abbrev pub FetchesThen : Chosen → List Tried → Meets → Meets → Outcome �
 FetchesThen c tried before after outcome =
     (FetchesNot c before.web outcome tried after.web × (after.out ≡ before.out)) ⊎ FetchesAndPrints c tried before after outcome
 
--- how far it comes, to which outcome
+-- how far it comes, to which outcome; behind the choice no call of the other stores failed
 abbrev pub DownloadsTo : Ask → List Tried → Meets → Meets → Outcome → Type 0
 DownloadsTo ask tried before after outcome =
     (FindsOver ask (sources before) (sources after) (Err outcome) × NothingFetched tried before.web after.web × (after.out ≡ before.out))
-    ⊎ ((c : Chosen) × HasChosen ask before.shelf before.feeds c after.feeds × CostsAll tried before.shelf after.shelf × FetchesThen c tried before after outcome)
+    ⊎ ((c : Chosen) × HasChosen ask (stores_of before) before.feeds c after.feeds × CostsAll tried before.shelf after.shelf
+    × Each IsCalm before.others after.others × FetchesThen c tried before after outcome)
 
--- Whatever the outcome, feeds and web hold what they held, and the stored trees are as before but for those whose adding was begun.
+-- Whatever the outcome, feeds and web hold what they held, the stored trees are as before but for those whose adding was begun, which was in
+-- the store that is written, and the other stores were asked for their names alone.
 pub record Downloads (ask : Ask) (before after : Meets) (outcome : Outcome) : Type 0 where
   pub feeds : FeedsStay before.feeds after.feeds
   pub web : FeedsStay before.web after.web
@@ -69,3 +77,4 @@ pub record Downloads (ask : Ask) (before after : Meets) (outcome : Outcome) : Ty
   pub comes : DownloadsTo ask tried before after outcome
   pub shelf : Uses tried before.shelf after.shelf
   pub stored : GainsOnly tried before.shelf after.shelf
+  pub others : Each (Keeps is_names) before.others after.others

@@ -20,6 +20,7 @@ use Rattle.zi_adding.specs.Answers.{Ends}
 use Rattle.zi_outcome.specs.declared.outcome.Outcome.{Outcome}
 use Rattle.zi_outcome.specs.declared.outcome.Outcome.TheVariants.{Memory}
 use Rattle.zi_choosing.specs.declared.chosen.Chosen.{Chosen}
+use Rattle.zi_choosing.specs.Knowing.{all_names}
 use Rattle.zi_fetching.specs.Known.{Names, names_of, is_there}
 use Rattle.zi_fetching.specs.Outcomes.{unmade, unadded}
 
@@ -96,9 +97,9 @@ pub record FailsToFetch (on : From) (x : Selection) (old : Feeding) (outcome : O
 abbrev pub tried_names : List Tried → Names
 tried_names tried = map (λ (a : Tried). spelling a.name) tried
 
--- the names in the store that the choice was made over
+-- the names in the stores that the choice was made over
 abbrev pub names_in : Chosen → Names
-names_in c = names_of c.stored
+names_in c = names_of (all_names c.known.each)
 
 -- Selection by selection, in their order: what is there is passed over; what isn't is fetched, and its name is stored for all behind it.
 abbrev pub FetchesInTurn : From → Names → List Selection → Feeding → List Tried → Feeding → Type 0

@@ -1,5 +1,5 @@
 //! The work of `download`.
-ghost use Rattle.std.specs.Prelude.{◌≤◌};
+ghost use Rattle.std.specs.Prelude.{◌≤◌, map};
 ghost use Rattle.zi_fetching.specs.Download.{Downloads};
 
 use crate::fetching::fetch_all;
@@ -10,23 +10,24 @@ use zi_outside::{Feeds, Sink, Web};
 use zi_shelf::Shelf;
 use zi_words::Ask;
 
-/// Finds the best choice as `select` does, fetches what it selects and isn't there, and writes its document. Where there is no
-/// choice, or a selection can't be fetched, nothing is written.
-pub fn download<F: Feeds, K: Shelf, W: Web, O: Sink>(
+/// Finds the best choice as `select` does, fetches what it selects and no store has, and writes its document. What is fetched is
+/// added to the store that is written. Where there is no choice, or a selection can't be fetched, nothing is written.
+pub fn download<F: Feeds, K: Shelf, R: Shelf, W: Web, O: Sink>(
     alloc: Global,
     ask: Ask,
     feeds: &mut F,
     shelf: &mut K,
+    others: &mut [R],
     web: &mut W,
     out: &mut O,
 ) -> Outcome
     requires { ask.search ≤ 4000000000 }
     ensures { Downloads ask
-        (record { feeds = F.seen feeds.old; shelf = K.seen shelf.old; web = W.seen web.old; out = O.seen out.old })
-        (record { feeds = F.seen feeds.new; shelf = K.seen shelf.new; web = W.seen web.new; out = O.seen out.new })
+        (record { feeds = F.seen feeds.old; shelf = K.seen shelf.old; others = map R.seen others.old; web = W.seen web.old; out = O.seen out.old })
+        (record { feeds = F.seen feeds.new; shelf = K.seen shelf.new; others = map R.seen others.new; web = W.seen web.new; out = O.seen out.new })
         result }
 {
-    let chosen = match find_best(alloc, ask, feeds, shelf) {
+    let chosen = match find_best(alloc, ask, feeds, shelf, others) {
         Ok(chosen) => chosen,
         Err(outcome) => return outcome,
     };

@@ -27,7 +27,7 @@ pub fn fetch_all<W: Web, K: Shelf>(
 {
     let names = Names::of(alloc, &chosen.universe)?;
     let picks = chosen.choice.picks.as_slice();
-    let mut stored = Stored::of(alloc, chosen.stored.as_slice())?;
+    let mut stored = Stored::of(alloc, chosen.known.each.as_slice())?;
     let items = chosen.sels.items.as_slice();
     for item in items {
         fetch_item(alloc, &names, picks, item, &mut stored, web, shelf)?;

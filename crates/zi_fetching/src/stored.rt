@@ -1,8 +1,9 @@
 //! The digest names that are known to be stored.
-ghost use Rattle.std.specs.Prelude.{◌≡◌, IfOk, OnOk, OnErr};
+ghost use Rattle.std.specs.Prelude.{◌≡◌, map, IfOk, OnOk, OnErr};
 ghost use Rattle.std.specs.List.{list_any};
 ghost use Rattle.zi_digest.specs.Name.{spelling};
-ghost use Rattle.zi_universe.specs.Naming.{with_one};
+ghost use Rattle.zi_universe.specs.Naming.{with_one, joined};
+ghost use Rattle.zi_choosing.specs.Knowing.{all_names};
 ghost use Rattle.zi_fetching.specs.Known.{names_of, is_known, is_there};
 
 use indexmap::IndexSet;
@@ -10,7 +11,7 @@ use std::alloc::Global;
 use std::marker::Model;
 use zi_digest::DigestName;
 use zi_sels::Selection;
-use zi_text::{Memory, Text};
+use zi_text::{List, Memory, Text};
 
 /// Names of trees that are stored: those that were when a call began, and those that it added. Contracts see the list of their
 /// spellings; a name is found in constant time.
@@ -34,17 +35,27 @@ impl Model for Stored {
 }
 
 impl Stored {
-    /// The names of these digests. Memory is the one refusal.
-    pub fn of(alloc: Global, digests: &[DigestName]) -> Result<Stored, Memory>
-        ensures { IfOk result (λ s. s ≡ names_of digests.now) }
+    /// The names of the digests in each of some stores. Memory is the one refusal.
+    pub fn of(alloc: Global, each: &[List<DigestName>]) -> Result<Stored, Memory>
+        ensures { IfOk result (λ s. s ≡ names_of (all_names each.now)) }
     {
         let mut stored = Stored {
             names: IndexSet::new(alloc),
         };
-        for digest in digests {
-            stored.add(alloc, digest)?;
+        for digests in each {
+            stored.add_all(alloc, digests.as_slice())?;
         }
         Ok(stored)
+    }
+
+    /// The names of more digests.
+    fn add_all(&mut self, alloc: Global, digests: &[DigestName]) -> Result<(), Memory>
+        ensures { OnOk result (self.new ≡ joined self.old (map spelling digests.now)) }
+    {
+        for digest in digests {
+            self.add(alloc, digest)?;
+        }
+        Ok(())
     }
 
     /// One more. Where memory is refused nothing changes.

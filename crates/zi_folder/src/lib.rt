@@ -13,5 +13,4 @@ mod open_folders;
 mod trouble;
 
 pub use folder_shelf::FolderShelf;
-pub use log::{Log, write_log};
-pub use trouble::{Reason, Trouble};
+pub use log::Log;

@@ -1,17 +1,38 @@
 -- The folder of a selection, and the folders of all.
-use Rattle.std.proofs.Common.{◌≡◌, ℕ, ◌<◌, suc, zero, inl, inr, List, [], ◌∷◌, ◌++◌, ◌+◌, take, length, map, get_or, filter_map, find, is_some, Option, Some, None, option_map, refl, sym, ◌∙◌, ap, subst, arith, slice_get, Ok, Err, if◌then◌else◌, Bool, true, false, ◌||◌, cond, All}
+use Rattle.std.proofs.Common.{◌≡◌, ℕ, ◌-◌, ◌<◌, ◌≤◌, suc, zero, inl, inr, List, [], ◌∷◌, ◌++◌, ◌+◌, take, length, map, get_or, filter_map, find, is_some, Option, Some, None, option_map, refl, sym, ◌∙◌, ap, subst, arith, slice_get, Ok, Err, if◌then◌else◌, Bool, true, false, ◌||◌, cond, All}
 use Rattle.std.specs.List.{list_any, cons_option}
 use Rattle.std.proofs.lemmas.List.{map-append, take_more}
 use Rattle.zi_digest.specs.declared.DigestName.{DigestName}
+use Rattle.zi_shelf.specs.Shelving.{Shelving}
 use Rattle.zi_reading.specs.Words.{first}
 use Rattle.zi_sels.specs.declared.types.Selection.{Selection}
 use Rattle.zi_outcome.specs.declared.outcome.Outcome.{Outcome}
+use Rattle.zi_world.specs.Places.{root_at}
 use Rattle.zi_fetching.specs.Known.{Names, is_known, is_there}
-use Rattle.zi_launching.specs.Folders.{stored_of, tree_of, stored_folder, folder_by, folder, missing_by, missing, first_missing, LacksFolder, FindsFolder, FindsFolders}
+use Rattle.zi_launching.specs.Folders.{stored_of, tree_of, folder_by, folder, missing_by, missing, first_missing, LacksFolder, FindsFolder, FindsFolders}
 
-module _ (root : List ℕ) (stored : Names) (x : Selection) where
-  pub local_found : (path copy : List ℕ) → x.local ≡ Some path → copy ≡ path → FindsFolder root stored x (Ok (Some copy))
-  local_found path copy e f = (ap (missing_by (tree_of stored x) x.digests) e, ap (λ p. Some p) f ∙ sym (ap (folder_by root (tree_of stored x)) e))
+-- The path of a store: of one behind the first, and where there is none of that number.
+root_one : {X : Type 0} (seen : X → Shelving) (xs : List X) (i : ℕ) (x : X) → i < length xs → x ≡ get_or xs i x → (seen x).root ≡ root_at (map seen xs) i
+root_one seen [] i x lt is = absurd (omega (arith, lt))
+root_one seen (y ∷ xs) zero x lt is = ap (λ z. (seen z).root) is
+root_one seen (y ∷ xs) (suc i) x lt is = root_one seen xs i x (omega (arith, lt)) is
+
+pub root_behind : {X : Type 0} (seen : X → Shelving) (k : Shelving) (xs : List X) (i : ℕ) (x : X) → 0 < i → i - 1 < length xs → x ≡ get_or xs (i - 1) x → (seen x).root ≡ root_at (k ∷ map seen xs) i
+root_behind seen k xs zero x pos lt is = absurd (omega (arith, pos))
+root_behind seen k xs (suc i) x pos lt is = let e : suc i - 1 ≡ i = omega arith in root_one seen xs i x (subst (λ j. j < length xs) e lt) (is ∙ ap (λ j. get_or xs j x) e)
+
+root_none : {X : Type 0} (seen : X → Shelving) (xs : List X) (i : ℕ) → length xs ≤ i → [] ≡ root_at (map seen xs) i
+root_none seen [] i le = refl
+root_none seen (y ∷ xs) zero le = absurd (omega (arith, le))
+root_none seen (y ∷ xs) (suc i) le = root_none seen xs i (omega (arith, le))
+
+pub root_beyond : {X : Type 0} (seen : X → Shelving) (k : Shelving) (xs : List X) (i : ℕ) → 0 < i → length xs ≤ i - 1 → [] ≡ root_at (k ∷ map seen xs) i
+root_beyond seen k xs zero pos le = absurd (omega (arith, pos))
+root_beyond seen k xs (suc i) pos le = let e : suc i - 1 ≡ i = omega arith in root_none seen xs i (subst (λ j. length xs ≤ j) e le)
+
+module _ (path_of : DigestName → List ℕ) (stored : Names) (x : Selection) where
+  pub local_found : (path copy : List ℕ) → x.local ≡ Some path → copy ≡ path → FindsFolder path_of stored x (Ok (Some copy))
+  local_found path copy e f = (ap (missing_by (tree_of stored x) x.digests) e, ap (λ p. Some p) f ∙ sym (ap (folder_by path_of (tree_of stored x)) e))
 
   tree_is : (o : Option DigestName) → x.local ≡ None → find (is_known stored) x.digests ≡ o → tree_of stored x ≡ o
   tree_is o e f = ap (stored_of stored x.digests) e ∙ f
@@ -19,16 +40,16 @@ module _ (root : List ℕ) (stored : Names) (x : Selection) where
   missing_is : (o : Option DigestName) → x.local ≡ None → find (is_known stored) x.digests ≡ o → missing stored x ≡ (if is_some o then None else first x.digests)
   missing_is o e f = ap (missing_by (tree_of stored x) x.digests) e ∙ ap (λ t. if is_some t then None else first x.digests) (tree_is o e f)
 
-  folder_is : (o : Option DigestName) → x.local ≡ None → find (is_known stored) x.digests ≡ o → folder root stored x ≡ option_map (stored_folder root) o
-  folder_is o e f = ap (folder_by root (tree_of stored x)) e ∙ ap (option_map (stored_folder root)) (tree_is o e f)
+  folder_is : (o : Option DigestName) → x.local ≡ None → find (is_known stored) x.digests ≡ o → folder path_of stored x ≡ option_map path_of o
+  folder_is o e f = ap (folder_by path_of (tree_of stored x)) e ∙ ap (option_map path_of) (tree_is o e f)
 
-  pub stored_found : (name : DigestName) (text : List ℕ) → x.local ≡ None → find (is_known stored) x.digests ≡ Some name → text ≡ stored_folder root name → FindsFolder root stored x (Ok (Some text))
+  pub stored_found : (name : DigestName) (text : List ℕ) → x.local ≡ None → find (is_known stored) x.digests ≡ Some name → text ≡ path_of name → FindsFolder path_of stored x (Ok (Some text))
   stored_found name text e f g = (missing_is (Some name) e f, ap (λ p. Some p) g ∙ sym (folder_is (Some name) e f))
 
-  pub none_found : (path : Option (List ℕ)) → x.local ≡ None → find (is_known stored) x.digests ≡ None → path ≡ None → first x.digests ≡ None → FindsFolder root stored x (Ok path)
+  pub none_found : (path : Option (List ℕ)) → x.local ≡ None → find (is_known stored) x.digests ≡ None → path ≡ None → first x.digests ≡ None → FindsFolder path_of stored x (Ok path)
   none_found path e f g h = (missing_is None e f ∙ h, g ∙ sym (folder_is None e f))
 
-  pub missing_found : (outcome : Outcome) → x.local ≡ None → find (is_known stored) x.digests ≡ None → LacksFolder (first x.digests) outcome → FindsFolder root stored x (Err outcome)
+  pub missing_found : (outcome : Outcome) → x.local ≡ None → find (is_known stored) x.digests ≡ None → LacksFolder (first x.digests) outcome → FindsFolder path_of stored x (Err outcome)
   missing_found outcome e f h = subst (λ m. LacksFolder m outcome) (sym (missing_is None e f)) h
 
 pub ruleset finding = (local_found, stored_found, none_found, missing_found)
@@ -53,29 +74,29 @@ first_at {Y = Y} f (z ∷ zs) (suc i) x y e n g = by (f z) n (λ h. first_at f z
     by (Some w) n r = absurd cc
 
 -- of the first of them none is missing a tree, and these are their folders
-pub record AreFound (root : List ℕ) (stored : Names) (items : List Selection) (folders : List (Option (List ℕ))) : Type 0 where
+pub record AreFound (path_of : DigestName → List ℕ) (stored : Names) (items : List Selection) (folders : List (Option (List ℕ))) : Type 0 where
   pub none : filter_map (missing stored) items ≡ []
-  pub are : folders ≡ map (folder root stored) items
+  pub are : folders ≡ map (folder path_of stored) items
 
-pub found_none : (root : List ℕ) (stored : Names) (folders : List (Option (List ℕ))) → folders ≡ [] → AreFound root stored [] folders
-found_none root stored folders e = record { none = refl; are = e }
+pub found_none : (path_of : DigestName → List ℕ) (stored : Names) (folders : List (Option (List ℕ))) → folders ≡ [] → AreFound path_of stored [] folders
+found_none path_of stored folders e = record { none = refl; are = e }
 
-pub found_more : (root : List ℕ) (stored : Names) (items : List Selection) (i : ℕ) (x : Selection) (path : Option (List ℕ)) (old new : List (Option (List ℕ))) → i < length items → x ≡ get_or items i x
-    → AreFound root stored (take i items) old → FindsFolder root stored x (Ok path) → new ≡ old ++ path ∷ [] → AreFound root stored (take (i + 1) items) new
-found_more root stored items i x path old new lt at a (free, is) e =
+pub found_more : (path_of : DigestName → List ℕ) (stored : Names) (items : List Selection) (i : ℕ) (x : Selection) (path : Option (List ℕ)) (old new : List (Option (List ℕ))) → i < length items → x ≡ get_or items i x
+    → AreFound path_of stored (take i items) old → FindsFolder path_of stored x (Ok path) → new ≡ old ++ path ∷ [] → AreFound path_of stored (take (i + 1) items) new
+found_more path_of stored items i x path old new lt at a (free, is) e =
     let q = take_more items i x lt ∙ ap (λ y. take i items ++ y ∷ []) (sym at) in
-    subst (λ xs. AreFound root stored xs new) (sym q) (record {
+    subst (λ xs. AreFound path_of stored xs new) (sym q) (record {
       none = kept_more (missing stored) (take i items) x a.none free;
-      are = e ∙ ap (λ ps. ps ++ path ∷ []) a.are ∙ ap (λ p. map (folder root stored) (take i items) ++ p ∷ []) is ∙ sym (map-append (folder root stored) (take i items) (x ∷ []));
+      are = e ∙ ap (λ ps. ps ++ path ∷ []) a.are ∙ ap (λ p. map (folder path_of stored) (take i items) ++ p ∷ []) is ∙ sym (map-append (folder path_of stored) (take i items) (x ∷ []));
     })
 
-pub found_all : (root : List ℕ) (stored : Names) (items : List Selection) (folders : List (Option (List ℕ))) → AreFound root stored items folders → FindsFolders root stored items (Ok folders)
-found_all root stored items folders a = (ap first a.none, a.are)
+pub found_all : (path_of : DigestName → List ℕ) (stored : Names) (items : List Selection) (folders : List (Option (List ℕ))) → AreFound path_of stored items folders → FindsFolders path_of stored items (Ok folders)
+found_all path_of stored items folders a = (ap first a.none, a.are)
 
-pub lacks_at : (root : List ℕ) (stored : Names) (items : List Selection) (i : ℕ) (x : Selection) (outcome : Outcome) → slice_get items i ≡ Some x → filter_map (missing stored) (take i items) ≡ []
-    → FindsFolder root stored x (Err outcome) → FindsFolders root stored items (Err outcome)
-lacks_at root stored items i x outcome here none (inl (d, e, is)) = inl (d, first_at (missing stored) items i x d here none e, is)
-lacks_at root stored items i x outcome here none (inr e) = inr e
+pub lacks_at : (path_of : DigestName → List ℕ) (stored : Names) (items : List Selection) (i : ℕ) (x : Selection) (outcome : Outcome) → slice_get items i ≡ Some x → filter_map (missing stored) (take i items) ≡ []
+    → FindsFolder path_of stored x (Err outcome) → FindsFolders path_of stored items (Err outcome)
+lacks_at path_of stored items i x outcome here none (inl (d, e, is)) = inl (d, first_at (missing stored) items i x d here none e, is)
+lacks_at path_of stored items i x outcome here none (inr e) = inr e
 
 -- What is there isn't missing.
 find_any : (p : DigestName → Bool) (ds : List DigestName) → list_any p ds ≡ true → is_some (find p ds) ≡ true

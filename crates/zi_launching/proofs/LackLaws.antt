@@ -29,9 +29,11 @@ use Rattle.zi_plan.specs.Plans.{fault_by, said, launched, checked, of_chain, by_
 use Rattle.zi_outcome.specs.declared.outcome.Outcome.{Outcome}
 use Rattle.zi_outcome.specs.declared.outcome.Outcome.TheVariants.{Plan}
 use Rattle.zi_fetching.specs.Known.{Names}
+use Rattle.zi_world.specs.Places.{place}
+use Rattle.zi_world.proofs.StandLemmas.{never_in_store}
 use Rattle.zi_launching.specs.Folders.{folder}
 use Rattle.zi_launching.specs.Verifying.{Condemns, FailsToVerify}
-use Rattle.zi_launching.specs.Launching.{Task, PreparesNot, LaunchesOver, Starts}
+use Rattle.zi_launching.specs.Launching.{Task, tree_folder, PreparesNot, LaunchesOver, Starts}
 use Rattle.zi_launching.specs.Run.{IsNoLack, LacksNothing}
 use Rattle.zi_choice.proofs.Base.{if_some_at}
 
@@ -226,12 +228,12 @@ plan_lacks sels vars user folders reason whole placed plans =
         let asked : Asked = record { interface = sels.interface; command = name } in
         no_lack sels.command reason (by_chain_of asked chain (is_there sels.items folders placed asked h) leads is)
 
-folders_there : (root : List ℕ) (stored : Names) (items : List Selection) → All (λ x. IsSome (folder root stored x)) items → without_folder items (map (folder root stored) items) ≡ None
-folders_there root stored [] h = refl
-folders_there root stored (x ∷ items) h =
-    by (folder root stored x) (All-head (λ x. IsSome (folder root stored x)) x items h) (folders_there root stored items (All-tail (λ x. IsSome (folder root stored x)) x items h))
+folders_there : (path_of : DigestName → List ℕ) (stored : Names) (items : List Selection) → All (λ x. IsSome (folder path_of stored x)) items → without_folder items (map (folder path_of stored) items) ≡ None
+folders_there path_of stored [] h = refl
+folders_there path_of stored (x ∷ items) h =
+    by (folder path_of stored x) (All-head (λ x. IsSome (folder path_of stored x)) x items h) (folders_there path_of stored items (All-tail (λ x. IsSome (folder path_of stored x)) x items h))
   where
-    by : (o : Option (List ℕ)) → IsSome o → without_folder items (map (folder root stored) items) ≡ None → without_folder (x ∷ items) (o ∷ map (folder root stored) items) ≡ None
+    by : (o : Option (List ℕ)) → IsSome o → without_folder items (map (folder path_of stored) items) ≡ None → without_folder (x ∷ items) (o ∷ map (folder path_of stored) items) ≡ None
     by None h rest = absurd (cc h)
     by (Some path) h rest = rest
 
@@ -248,8 +250,8 @@ fails_plans d before after outcome reason is (inl (v, why, calm, held)) = verdic
 fails_plans d before after outcome reason is (inr (inl (e, failed))) = absurd cc
 fails_plans d before after outcome reason is (inr (inr (e, calm))) = absurd cc
 
-pub lacks_nothing : (task : Task) (before after : Shelving) (p q : Spawning) (outcome : Outcome) → AreWhole task.sels → All (λ x. IsSome (folder before.root task.stored x)) task.sels.items
-    → LaunchesOver task (record { shelf = before; spawner = p }) (record { shelf = after; spawner = q }) outcome → LacksNothing task.sels.command outcome
+pub lacks_nothing : (task : Task) (before after : List Shelving) (p q : Spawning) (outcome : Outcome) → AreWhole task.sels → All (λ x. IsSome (folder (tree_folder task before) task.stored x)) task.sels.items
+    → LaunchesOver task (record { stores = before; spawner = p }) (record { stores = after; spawner = q }) outcome → LacksNothing task.sels.command outcome
 lacks_nothing task before after p q outcome whole placed (inr (launch, ready, starts)) = λ reason is. absurd (subst (λ o. Starts launch p q o) is starts)
 lacks_nothing task before after p q outcome whole placed (inl (not, same)) = λ reason is. by reason is not
   where
@@ -259,6 +261,6 @@ lacks_nothing task before after p q outcome whole placed (inl (not, same)) = λ 
     by reason is (inr (inl (inl (f, e, plan), calm))) =
         let same_fault : f ≡ reason = cc in
         subst (IsNoLack task.sels.command) same_fault
-        (plan_lacks task.sels task.vars task.user (map (folder before.root task.stored) task.sels.items) f whole (folders_there before.root task.stored task.sels.items placed) plan.plan)
+        (plan_lacks task.sels task.vars task.user (map (folder (tree_folder task before) task.stored) task.sels.items) f whole (folders_there (tree_folder task before) task.stored task.sels.items placed) plan.plan)
     by reason is (inr (inl (inr e, calm))) = absurd cc
-    by reason is (inr (inr u)) = absurd (fails_plans u.stops.name before after outcome reason is u.stops.fails)
+    by reason is (inr (inr u)) = absurd (never_in_store (λ b a. FailsToVerify u.stops.name b outcome a) (λ b a f. fails_plans u.stops.name b a outcome reason is f) (place task.each u.stops.name) before after u.stops.fails)

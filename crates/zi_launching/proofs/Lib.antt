@@ -1,4 +1,5 @@
 pub mod FolderLaws
+pub mod PlacesLaws
 pub mod LaunchLaws
 pub mod ReadyLaws
 pub mod MissingLaws

@@ -1,5 +1,6 @@
 -- What a run comes to, stage by stage.
-use Rattle.std.proofs.Common.{◌≡◌, ℕ, inl, inr, List, [], Some, refl, true, sym, ◌∙◌, subst, All, Result, Ok, Err}
+use Rattle.std.proofs.Common.{◌≡◌, ℕ, zero, suc, ◌⊎◌, inl, inr, List, [], ◌∷◌, map, take, get_or, Some, refl, true, sym, ◌∙◌, subst, All, Result, Ok, Err}
+use Rattle.zi_digest.specs.Name.{spelling}
 use Rattle.zi_digest.specs.declared.DigestName.{DigestName}
 use Rattle.zi_tree.specs.Dir.{Dir}
 use Rattle.zi_outside.specs.Views.{Feeding, Sinking, holding}
@@ -15,26 +16,36 @@ use Rattle.zi_store.specs.Verdicts.{Verifies}
 use Rattle.zi_words.specs.declared.request.Ask.{Ask}
 use Rattle.zi_universe.specs.Loading.{names_of}
 use Rattle.zi_sels_laws.proofs.WholeLaws.{chosen_whole}
+use Rattle.zi_sels.specs.declared.types.Selection.{Selection}
+use Rattle.zi_plan.specs.Plans.{Plans}
 use Rattle.zi_plan.specs.declared.fault.PlanFault.{PlanFault}
 use Rattle.zi_adding.specs.Trying.{Tried, Adds}
 use Rattle.zi_adding.proofs.AddingLemmas.{adds_nothing}
 use Rattle.zi_adding.proofs.HistoryLaws.{AreDone, calm_done, uses_gain, names_only_read, reads_use}
 use Rattle.zi_outcome.specs.declared.outcome.Outcome.{Outcome}
+use Rattle.zi_outcome.specs.declared.outcome.Outcome.TheVariants.{StoreFault}
 use Rattle.zi_choosing.specs.Wanted.{requirement_of}
 use Rattle.zi_choosing.specs.declared.chosen.Chosen.{Chosen}
 use Rattle.zi_choosing.specs.Loaded.{no_packages}
-use Rattle.zi_choosing.specs.Finding.{Sources, FindsBest}
+use Rattle.zi_choosing.specs.Knowing.{all_names}
+use Rattle.zi_choosing.specs.Finding.{FindsBest}
 use Rattle.zi_fetching.specs.Known.{Names, is_there}
 use Rattle.zi_fetching.specs.Fetching.{from_chosen, names_in, FetchesAll}
 use Rattle.zi_fetching.proofs.FetchLaws.{turn_done}
 use Rattle.zi_world.proofs.AskingLemmas.{feeds_same}
 use Rattle.zi_fetching.proofs.WebLaws.{web_stays}
-use Rattle.zi_fetching.proofs.DownloadLaws.{used, chosen_so, cost_so, turn_there}
+use Rattle.zi_fetching.proofs.DownloadLaws.{used, chosen_so, cost_so, calm_so, turn_there}
+use Rattle.zi_store.specs.Stores.{Each, IsCalm, SomeFails}
+use Rattle.zi_world.specs.Shelves.{HeldThen}
+use Rattle.zi_world.specs.Places.{InStore, place, root_at}
+use Rattle.zi_world.proofs.PlacesLemmas.{each_by, each_then}
+use Rattle.zi_launching.proofs.LaunchLaws.{reads_then}
 use Rattle.zi_launching.proofs.FolderLaws.{none_missing}
 use Rattle.zi_launching.proofs.MissingLaws.{all_placed, never_missing}
 use Rattle.zi_launching.proofs.LackLaws.{lacks_nothing}
-use Rattle.zi_launching.specs.Verifying.{HeldThen, IsCalm, FailsToVerify, StopsVerifying}
-use Rattle.zi_launching.specs.Launching.{Task, IsPlan, IsReady, PreparesNot, LaunchesOver}
+use Rattle.zi_launching.specs.Folders.{stored_folder, folder}
+use Rattle.zi_launching.specs.Verifying.{IsSound, AreSound, FailsToVerify, StopsVerifying}
+use Rattle.zi_launching.specs.Launching.{Task, tree_folder, IsPlan, IsExposed, IsReady, PreparesNot, LaunchesOver}
 use Rattle.zi_launching.specs.Run.{RunsProgram}
 
 -- A shelf has come so from an earlier moment: no call failed, and an honest one that told what it held is honest and tells it.
@@ -44,42 +55,89 @@ pub record Reaches (before mid : Shelving) : Type 0 where
   pub sure : before.sure → mid.sure
   pub tells : (s : Told) → before.honest → before.told ≡ Some s → mid.honest × ((m : Told) × (mid.told ≡ Some m))
 
-module _ (before mid after : Shelving) (r : Reaches before mid) where
-  lift_held : (P : Shelved Dir → Type 0) → HeldThen mid after P → HeldThen before after P
-  lift_held P h = λ s honest e. let t = r.tells s honest e in h t.1.0 t.0 t.1.1
+lift_held : (before mid after : Shelving) (P : Shelved Dir → Type 0) → Reaches before mid → HeldThen mid after P → HeldThen before after P
+lift_held before mid after P r h = λ s honest e. let t = r.tells s honest e in h t.1.0 t.0 t.1.1
 
-  lift_plan : (task : Task) (result : Result Launch PlanFault) → IsPlan task mid.root result → IsPlan task before.root result
-  lift_plan task result p = subst (λ root. IsPlan task root result) r.root p
+lift_fails : (d : DigestName) (outcome : Outcome) (before mid after : Shelving) → Reaches before mid → FailsToVerify d mid outcome after → FailsToVerify d before outcome after
+lift_fails d outcome before mid after r (inl (v, c, calm, h)) = inl (v, c, calm ∙ r.calm, lift_held before mid after (λ s. Verifies d (Ok v) s) r h)
+lift_fails d outcome before mid after r (inr (inl (e, (rose, ne)))) = inr (inl (e, (subst (λ n. Rose n after.faults) r.calm rose, λ s. ne (r.sure s))))
+lift_fails d outcome before mid after r (inr (inr (e, calm))) = inr (inr (e, calm ∙ r.calm))
 
-  lift_fails : (d : DigestName) (outcome : Outcome) → FailsToVerify d mid outcome after → FailsToVerify d before outcome after
-  lift_fails d outcome (inl (v, c, calm, h)) = inl (v, c, calm ∙ r.calm, lift_held (λ s. Verifies d (Ok v) s) h)
-  lift_fails d outcome (inr (inl (e, (rose, ne)))) = inr (inl (e, (subst (λ n. Rose n after.faults) r.calm rose, λ s. ne (r.sure s))))
-  lift_fails d outcome (inr (inr (e, calm))) = inr (inr (e, calm ∙ r.calm))
+-- All stores have come so.
+in_lift : (P Q : Shelving → Shelving → Type 0) → ((b m a : Shelving) → Reaches b m → P m a → Q b a) → (i : ℕ) (before mid after : List Shelving) → Each Reaches before mid → InStore i mid after P → InStore i before after Q
+in_lift P Q by i before [] after r h = absurd h
+in_lift P Q by i before (m ∷ ms) [] r h = absurd h
+in_lift P Q by i [] (m ∷ ms) (a ∷ as_) r h = absurd r
+in_lift P Q by zero (b ∷ bs) (m ∷ ms) (a ∷ as_) r h = by b m a r.0 h
+in_lift P Q by (suc i) (b ∷ bs) (m ∷ ms) (a ∷ as_) r h = in_lift P Q by i bs ms as_ r.1 h
 
-  lift_stops : (names : List DigestName) (outcome : Outcome) → StopsVerifying names mid outcome after → StopsVerifying names before outcome after
-  lift_stops names outcome s = record {
+roots_stay : (i : ℕ) (before mid : List Shelving) → Each Reaches before mid → root_at mid i ≡ root_at before i
+roots_stay i [] [] r = refl
+roots_stay i [] (m ∷ ms) r = absurd r
+roots_stay i (b ∷ bs) [] r = absurd r
+roots_stay zero (b ∷ bs) (m ∷ ms) r = r.0.root
+roots_stay (suc i) (b ∷ bs) (m ∷ ms) r = roots_stay i bs ms r.1
+
+some_after : (before mid after : List Shelving) → Each Reaches before mid → SomeFails mid after → SomeFails before after
+some_after before [] [] r h = absurd h
+some_after before [] (a ∷ as_) r h = absurd h
+some_after before (m ∷ ms) [] r h = absurd h
+some_after [] (m ∷ ms) (a ∷ as_) r h = absurd r
+some_after (b ∷ bs) (m ∷ ms) (a ∷ as_) r (inl (rose, ne)) = inl (subst (λ n. Rose n a.faults) r.0.calm rose, λ s. ne (r.0.sure s))
+some_after (b ∷ bs) (m ∷ ms) (a ∷ as_) r (inr h) = inr (some_after bs ms as_ r.1 h)
+
+module _ (before mid after : List Shelving) (r : Each Reaches before mid) where
+  lift_calm : Each IsCalm mid after → Each IsCalm before after
+  lift_calm calm = each_then Reaches IsCalm IsCalm (λ b m a h c. c ∙ h.calm) before mid after r calm
+
+  lift_sound : (number : DigestName → ℕ) (names : List DigestName) → AreSound number mid after names → AreSound number before after names
+  lift_sound number names h = λ k d lt.
+      let name = get_or names k d in
+      in_lift (λ b a. HeldThen b a (λ s. IsSound s name)) (λ b a. HeldThen b a (λ s. IsSound s name)) (λ b m a reach held. lift_held b m a (λ s. IsSound s name) reach held) (number name) before mid after r (h k d lt)
+
+  folders_stay : (task : Task) → tree_folder task mid ≡ tree_folder task before
+  folders_stay task = λ j d. stored_folder (roots_stay (place task.each d) before mid r j) d
+
+  lift_plan : (task : Task) (result : Result Launch PlanFault) → IsPlan task mid result → IsPlan task before result
+  lift_plan task result p = record {
+    there = p.there;
+    plan = subst (λ path_of. Plans task.sels task.vars task.user (map (folder path_of task.stored) task.sels.items) result) (folders_stay task) p.plan;
+  }
+
+  lift_stops : (number : DigestName → ℕ) (names : List DigestName) (outcome : Outcome) → StopsVerifying number names mid outcome after → StopsVerifying number names before outcome after
+  lift_stops number names outcome s = record {
     place = s.place;
     name = s.name;
     here = s.here;
-    sound = lift_held _ s.sound;
-    fails = lift_fails s.name outcome s.fails;
+    sound = lift_sound number (take s.place names) s.sound;
+    fails = in_lift (λ b a. FailsToVerify s.name b outcome a) (λ b a. FailsToVerify s.name b outcome a) (λ b m a reach f. lift_fails s.name outcome b m a reach f) (number s.name) before mid after r s.fails;
+    calm = by s.calm;
   }
+    where
+      by : Each IsCalm mid after ⊎ ((outcome ≡ StoreFault (spelling s.name)) × SomeFails mid after) → Each IsCalm before after ⊎ ((outcome ≡ StoreFault (spelling s.name)) × SomeFails before after)
+      by (inl calm) = inl (lift_calm calm)
+      by (inr (e, h)) = inr (e, some_after before mid after r h)
 
   lift_not : (task : Task) (outcome : Outcome) → PreparesNot task mid outcome after → PreparesNot task before outcome after
-  lift_not task outcome (inl (lacks, calm)) = inl (lacks, calm ∙ r.calm)
-  lift_not task outcome (inr (inl (inl (fault, e, p), calm))) = inr (inl (inl (fault, e, lift_plan task (Err fault) p), calm ∙ r.calm))
-  lift_not task outcome (inr (inl (inr e, calm))) = inr (inl (inr e, calm ∙ r.calm))
-  lift_not task outcome (inr (inr u)) = inr (inr (record { launch = u.launch; planned = lift_plan task (Ok u.launch) u.planned; stops = lift_stops _ outcome u.stops }))
+  lift_not task outcome (inl (lacks, calm)) = inl (lacks, lift_calm calm)
+  lift_not task outcome (inr (inl (inl (fault, e, p), calm))) = inr (inl (inl (fault, e, lift_plan task (Err fault) p), lift_calm calm))
+  lift_not task outcome (inr (inl (inr e, calm))) = inr (inl (inr e, lift_calm calm))
+  lift_not task outcome (inr (inr u)) = inr (inr (record { launch = u.launch; planned = lift_plan task (Ok u.launch) u.planned; stops = lift_stops (place task.each) _ outcome u.stops }))
+
+  lift_exposed : (task : Task) (x : Selection) → IsExposed task mid after x → IsExposed task before after x
+  lift_exposed task x (inl h) = inl h
+  lift_exposed task x (inr (d, tree, has, sound)) =
+      inr (d, tree, has, in_lift (λ b a. HeldThen b a (λ s. IsSound s d)) (λ b a. HeldThen b a (λ s. IsSound s d)) (λ b m a reach held. lift_held b m a (λ s. IsSound s d) reach held) (place task.each d) before mid after r sound)
 
   lift_ready : (task : Task) (launch : Launch) → IsReady task mid launch after → IsReady task before launch after
   lift_ready task launch y = record {
     planned = lift_plan task (Ok launch) y.planned;
-    calm = y.calm ∙ r.calm;
-    exposed = lift_held _ y.exposed;
+    calm = lift_calm y.calm;
+    exposed = λ k d lt. lift_exposed task (get_or task.sels.items k d) (y.exposed k d lt);
   }
 
-  pub lift_over : (task : Task) (old new : Spawning) (outcome : Outcome) → LaunchesOver task (record { shelf = mid; spawner = old }) (record { shelf = after; spawner = new }) outcome
-      → LaunchesOver task (record { shelf = before; spawner = old }) (record { shelf = after; spawner = new }) outcome
+  pub lift_over : (task : Task) (old new : Spawning) (outcome : Outcome) → LaunchesOver task (record { stores = mid; spawner = old }) (record { stores = after; spawner = new }) outcome
+      → LaunchesOver task (record { stores = before; spawner = old }) (record { stores = after; spawner = new }) outcome
   lift_over task old new outcome (inl (not, nothing)) = inl (lift_not task outcome not, nothing)
   lift_over task old new outcome (inr (launch, ready, starts)) = inr (launch, lift_ready task launch ready, starts)
 
@@ -96,7 +154,7 @@ reaches tried before mid after done calm k a = record {
 }
 
 -- behind the names alone
-pub reaches_named : (before mid : Shelving) → IsCalm before mid → Keeps is_names before mid → Reaches before mid
+reaches_named : (before mid : Shelving) → IsCalm before mid → Keeps is_names before mid → Reaches before mid
 reaches_named before mid calm k = record {
   calm = calm;
   root = k.stays.root;
@@ -104,11 +162,21 @@ reaches_named before mid calm k = record {
   tells = λ s h e. let m = k.holds s h e in (k.stays.honest h, (m.0, m.1));
 }
 
+pub all_named : (before mid : List Shelving) → Each IsCalm before mid → Each (Keeps is_names) before mid → Each Reaches before mid
+all_named [] [] calm k = tt
+all_named [] (m ∷ ms) calm k = absurd k
+all_named (b ∷ bs) [] calm k = absurd k
+all_named (b ∷ bs) (m ∷ ms) calm k = (reaches_named b m calm.0 k.0, all_named bs ms calm.1 k.1)
+
+pub all_only_read : (before mid : List Shelving) → Each (Keeps is_names) before mid → Each (Keeps is_reading) before mid
+all_only_read before mid k = each_by (Keeps is_names) (Keeps is_reading) (λ b a h. names_only_read b a h) before mid k
+
 -- Nothing was chosen.
-pub unfound_run : (ask : Ask) (vars : List Var) (user : List (List ℕ)) (before after : Sources) (web : Feeding) (spawner : Spawning) (out : Sinking) (outcome : Outcome) → FindsBest ask before after (Err outcome)
-    → RunsProgram ask vars user (record { feeds = before.feeds; shelf = before.shelf; web = web; spawner = spawner; out = out }) (record { feeds = after.feeds; shelf = after.shelf; web = web; spawner = spawner; out = out }) outcome
-unfound_run ask vars user before after web spawner out outcome f =
-    let u = used [] before.shelf after.shelf after.shelf f.shelf (adds_nothing after.shelf) in
+pub unfound_run : (ask : Ask) (vars : List Var) (user : List (List ℕ)) (old new : Feeding) (shelf mid : Shelving) (others thens : List Shelving) (web : Feeding) (spawner : Spawning) (out : Sinking) (outcome : Outcome)
+    → FindsBest ask (record { feeds = old; stores = shelf ∷ others }) (record { feeds = new; stores = mid ∷ thens }) (Err outcome)
+    → RunsProgram ask vars user (record { feeds = old; shelf = shelf; others = others; web = web; spawner = spawner; out = out }) (record { feeds = new; shelf = mid; others = thens; web = web; spawner = spawner; out = out }) outcome
+unfound_run ask vars user old new shelf mid others thens web spawner out outcome f =
+    let u = used [] shelf mid mid f.stores.0 (adds_nothing mid) in
     record {
       feeds = f.feeds;
       web = feeds_same web;
@@ -116,41 +184,48 @@ unfound_run ask vars user before after web spawner out outcome f =
       tried = [];
       comes = inl (f.answer, (refl, refl), refl);
       shelf = u;
-      stored = uses_gain [] before.shelf after.shelf u;
+      stored = uses_gain [] shelf mid u;
+      others = all_only_read others thens f.stores.1;
     }
 
-module _ (ask : Ask) (vars : List Var) (user : List (List ℕ)) (before mid : Sources) (c : Chosen) (f : FindsBest ask before mid (Ok c)) where
+module _ (ask : Ask) (vars : List Var) (user : List (List ℕ)) (fed new : Feeding) (shelf mid : Shelving) (others thens : List Shelving) (c : Chosen)
+    (f : FindsBest ask (record { feeds = fed; stores = shelf ∷ others }) (record { feeds = new; stores = mid ∷ thens }) (Ok c)) where
   -- One of the selections wasn't fetched.
-  pub unfetched_run : (web then : Feeding) (after : Shelving) (spawner : Spawning) (out : Sinking) (outcome : Outcome) → FetchesAll c (record { web = web; shelf = mid.shelf }) (Err outcome) (record { web = then; shelf = after })
-      → RunsProgram ask vars user (record { feeds = before.feeds; shelf = before.shelf; web = web; spawner = spawner; out = out }) (record { feeds = mid.feeds; shelf = after; web = then; spawner = spawner; out = out }) outcome
+  pub unfetched_run : (web then : Feeding) (after : Shelving) (spawner : Spawning) (out : Sinking) (outcome : Outcome) → FetchesAll c (record { web = web; shelf = mid }) (Err outcome) (record { web = then; shelf = after })
+      → RunsProgram ask vars user (record { feeds = fed; shelf = shelf; others = others; web = web; spawner = spawner; out = out }) (record { feeds = new; shelf = after; others = thens; web = then; spawner = spawner; out = out }) outcome
   unfetched_run web then after spawner out outcome g =
-      let u = used g.tried before.shelf mid.shelf after f.shelf g.adds in
+      let u = used g.tried shelf mid after f.stores.0 g.adds in
       record {
         feeds = f.feeds;
         web = web_stays c web (Err outcome) g.tried then g.fetches;
         out = refl;
         tried = g.tried;
-        comes = inr (c, chosen_so ask before mid c f, inl (record { fetches = g.fetches; cost = cost_so ask before mid c f g.tried after g.adds; nothing = refl }));
+        comes = inr (c, chosen_so ask fed new shelf mid others thens c f, inl (record { fetches = g.fetches; cost = cost_so ask fed new shelf mid others thens c f g.tried after g.adds; calm = calm_so ask fed new shelf mid others thens c f; nothing = refl }));
         shelf = u;
-        stored = uses_gain g.tried before.shelf after u;
+        stored = uses_gain g.tried shelf after u;
+        others = all_only_read others thens f.stores.1;
       }
 
   -- All were fetched, and they are launched.
-  pub fetched_run : (web then : Feeding) (now after : Shelving) (old new : Spawning) (out : Sinking) (stored : Names) (outcome : Outcome) → FetchesAll c (record { web = web; shelf = mid.shelf }) (Ok stored) (record { web = then; shelf = now })
-      → LaunchesOver (record { sels = c.sels; stored = stored; vars = vars; user = user }) (record { shelf = now; spawner = old }) (record { shelf = after; spawner = new }) outcome → Keeps is_reading now after
-      → RunsProgram ask vars user (record { feeds = before.feeds; shelf = before.shelf; web = web; spawner = old; out = out }) (record { feeds = mid.feeds; shelf = after; web = then; spawner = new; out = out }) outcome
-  fetched_run web then now after old new out stored outcome g launches k =
-      let done = turn_done (from_chosen c) c.sels.items (names_in c) web g.tried then g.fetches.in_turn in
-      let r = reaches g.tried before.shelf mid.shelf now done f.answer.0 f.shelf g.adds in
-      let u = reads_use g.tried before.shelf mid.shelf now after (names_only_read before.shelf mid.shelf f.shelf) g.adds k in
-      let gains = uses_gain g.tried before.shelf after u in
-      let task : Task = record { sels = c.sels; stored = stored; vars = vars; user = user } in
-      let over = lift_over before.shelf now after r task old new outcome launches in
-      let there = subst (λ n. All (λ x. is_there n x ≡ true) c.sels.items) (sym g.fetches.names) (turn_there (from_chosen c) c.sels.items (names_in c) web g.tried then g.fetches.in_turn) in
+  pub fetched_run : (web then : Feeding) (now after : Shelving) (ends : List Shelving) (old next : Spawning) (out : Sinking) (stored : Names) (outcome : Outcome)
+      → FetchesAll c (record { web = web; shelf = mid }) (Ok stored) (record { web = then; shelf = now })
+      → LaunchesOver (record { sels = c.sels; each = c.known.each; stored = stored; vars = vars; user = user }) (record { stores = now ∷ thens; spawner = old }) (record { stores = after ∷ ends; spawner = next }) outcome
+      → Each (Keeps is_reading) (now ∷ thens) (after ∷ ends)
+      → RunsProgram ask vars user (record { feeds = fed; shelf = shelf; others = others; web = web; spawner = old; out = out }) (record { feeds = new; shelf = after; others = ends; web = then; spawner = next; out = out }) outcome
+  fetched_run web then now after ends old next out stored outcome g launches k =
+      let turn = g.fetches.in_turn in
+      let done = turn_done (from_chosen c) c.sels.items (names_in c) web g.tried then turn in
+      let r : Each Reaches (shelf ∷ others) (now ∷ thens) = (reaches g.tried shelf mid now done f.answer.0.0.0 f.stores.0 g.adds, all_named others thens f.answer.0.0.1 f.stores.1) in
+      let u = reads_use g.tried shelf mid now after (names_only_read shelf mid f.stores.0) g.adds k.0 in
+      let gains = uses_gain g.tried shelf after u in
+      let read = reads_then others thens ends (all_only_read others thens f.stores.1) k.1 in
+      let task : Task = record { sels = c.sels; each = c.known.each; stored = stored; vars = vars; user = user } in
+      let over = lift_over (shelf ∷ others) (now ∷ thens) (after ∷ ends) r task old next outcome launches in
+      let there = subst (λ n. All (λ x. is_there n x ≡ true) c.sels.items) (sym g.fetches.names) (turn_there (from_chosen c) c.sels.items (names_in c) web g.tried then turn) in
       let missed = none_missing stored c.sels.items there in
-      let placed = all_placed before.shelf.root stored c.sels.items there in
-      let is = (chosen_so ask before mid c f).chosen in
-      let whole = chosen_whole (holding before.feeds) (requirement_of ask) ask.policy (names_of c.stored no_packages) c.universe c.choice.picks c.sels is.loaded.loads is.best.valid is.selected in
+      let placed = all_placed (tree_folder task (shelf ∷ others)) stored c.sels.items there in
+      let is = f.answer.1 in
+      let whole = chosen_whole (holding fed) (requirement_of ask) ask.policy (names_of (all_names c.known.each) no_packages) c.universe c.choice.picks c.sels is.loaded.loads is.best.valid is.selected in
       record {
         feeds = f.feeds;
         web = web_stays c web (Ok stored) g.tried then g.fetches;
@@ -158,17 +233,18 @@ module _ (ask : Ask) (vars : List Var) (user : List (List ℕ)) (before mid : So
         tried = g.tried;
         comes = inr (
           c,
-          chosen_so ask before mid c f,
+          chosen_so ask fed new shelf mid others thens c f,
           inr (record {
             stored = stored;
             fetched = g.fetches;
             there = missed;
             placed = placed;
             launches = over;
-            found = never_missing c web then stored g.tried before.shelf after f.answer.1 g.fetches gains task old new outcome refl missed over;
-            whole = lacks_nothing task before.shelf after old new outcome whole placed over;
+            found = never_missing c web then stored g.tried shelf after others ends f.answer.0.1 g.fetches gains u.stays read task old next outcome refl refl missed over;
+            whole = lacks_nothing task (shelf ∷ others) (after ∷ ends) old next outcome whole placed over;
           }),
         );
         shelf = u;
         stored = gains;
+        others = read;
       }

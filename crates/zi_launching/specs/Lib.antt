@@ -1,4 +1,5 @@
 pub mod Folders
+pub mod Placing
 pub mod Verifying
 pub mod Launching
 pub mod Run

@@ -1,21 +1,22 @@
 -- `launch`: the selections of a document are launched.
 use Rattle.std.specs.Prelude.{◌≡◌, ◌⊎◌, ℕ, ◌≤◌, ◌<◌, List, ◌∷◌, [], length, Some, None, IfSome, IsSomeAnd, Result, Ok, Err}
-use Rattle.zi_digest.specs.declared.DigestName.{DigestName}
 use Rattle.zi_text.specs.Count.{Rose}
 use Rattle.zi_outside.specs.Views.{Feeding, holding}
 use Rattle.zi_outside.specs.Outside.{Asks}
 use Rattle.zi_outside.specs.declared.var.Var.{Var}
 use Rattle.zi_shelf.specs.Shelving.{Shelving}
 use Rattle.zi_store.specs.Keeping.{Keeps, is_names, is_reading}
+use Rattle.zi_store.specs.Stores.{Each, HaveNames}
 use Rattle.zi_sels.specs.declared.types.Selections.{Selections}
 use Rattle.zi_sels.specs.Reading.{Says, HasFault}
 use Rattle.zi_outcome.specs.declared.outcome.Outcome.{Outcome}
 use Rattle.zi_outcome.specs.declared.outcome.Outcome.TheVariants.{FeedRead, NoFile, FeedTooLong, BadSels, Memory}
 use Rattle.zi_world.specs.Asking.{FeedsStay}
 use Rattle.zi_world.specs.Surroundings.{Surroundings, NothingStarted}
-use Rattle.zi_world.specs.StoreRead.{AreStored}
-use Rattle.zi_choosing.specs.Finding.{HasNoNames}
-use Rattle.zi_fetching.specs.Known.{Names, names_of}
+use Rattle.zi_world.specs.Shelves.{Untouched}
+use Rattle.zi_choosing.specs.declared.known.Known.{Known}
+use Rattle.zi_choosing.specs.Knowing.{all_names, IsKnown}
+use Rattle.zi_fetching.specs.Known.{names_of}
 use Rattle.zi_launching.specs.Launching.{launching, LaunchesOver}
 
 -- so many bytes a document of selections may have: 4 MiB
@@ -48,31 +49,34 @@ abbrev pub GetsSelections : List ℕ → Feeding → Result Selections Outcome �
 GetsSelections file before (Ok sels) after = (bytes : List ℕ) × Gets file before after bytes × Says bytes sels
 GetsSelections file before (Err outcome) after = GetsNot file before outcome after
 
--- no call of the shelf was made, and no program was tried to be started
+-- all stores, in the order in which they are searched
+abbrev pub stores_of : Surroundings → List Shelving
+stores_of s = s.shelf ∷ s.others
+
+-- no call of a store was made, and no program was tried to be started
 pub record Leaves (before after : Surroundings) : Type 0 where
-  pub told : after.shelf.told ≡ before.shelf.told
-  pub faults : after.shelf.faults ≡ before.shelf.faults
+  pub stores : Each Untouched (stores_of before) (stores_of after)
   pub nothing : NothingStarted before after
 
--- Behind the document: the names in the store aren't found out, and nothing else was asked of it; or over them the selections are launched.
+-- Behind the document: the names in the stores aren't found out, and nothing else was asked of them; or over them the selections are launched.
 abbrev pub LaunchesRead : Selections → List Var → List (List ℕ) → Surroundings → Surroundings → Outcome → Type 0
 LaunchesRead sels vars user before after outcome =
-    (HasNoNames before.shelf after.shelf outcome × Keeps is_names before.shelf after.shelf × NothingStarted before after)
-    ⊎ ((stored : List DigestName) × AreStored before.shelf stored
-    × LaunchesOver (record { sels = sels; stored = names_of stored; vars = vars; user = user }) (launching before) (launching after) outcome)
+    (IsKnown (stores_of before) (stores_of after) (Err outcome) × Each (Keeps is_names) (stores_of before) (stores_of after) × NothingStarted before after)
+    ⊎ ((known : Known) × HaveNames (stores_of before) known.each
+    × LaunchesOver (record { sels = sels; each = known.each; stored = names_of (all_names known.each); vars = vars; user = user }) (launching before) (launching after) outcome)
 
 abbrev pub LaunchesTo : List ℕ → List Var → List (List ℕ) → Surroundings → Surroundings → Outcome → Type 0
 LaunchesTo file vars user before after outcome =
     (GetsNot file before.feeds outcome after.feeds × Leaves before after)
     ⊎ ((sels : Selections) × GetsSelections file before.feeds (Ok sels) after.feeds × LaunchesRead sels vars user before after outcome)
 
--- The web is asked for nothing, nothing is written, and the shelf is only read.
+-- The web is asked for nothing, nothing is written, and the stores are only read.
 pub record LaunchesFile (file : List ℕ) (vars : List Var) (user : List (List ℕ)) (before after : Surroundings) (outcome : Outcome) : Type 0 where
   pub feeds : FeedsStay before.feeds after.feeds
   pub web : after.web ≡ before.web
   pub out : after.out ≡ before.out
-  pub shelf : Keeps is_reading before.shelf after.shelf
   pub comes : LaunchesTo file vars user before after outcome
+  pub stores : Each (Keeps is_reading) (stores_of before) (stores_of after)
 
 -- Parts of the work.
 
@@ -81,8 +85,3 @@ abbrev pub IsUnread : List ℕ → Outcome → Type 0
 IsUnread bytes (BadSels fault) = HasFault bytes fault
 IsUnread bytes Memory = Unit {0}
 IsUnread bytes other = ⊥
-
--- the names in the store are found out, or they aren't
-abbrev pub FindsNames : Shelving → Result Names Outcome → Shelving → Type 0
-FindsNames before (Ok stored) after = (after.faults ≡ before.faults) × ((digests : List DigestName) × AreStored before digests × (stored ≡ names_of digests))
-FindsNames before (Err outcome) after = HasNoNames before after outcome

@@ -3,6 +3,8 @@ use Rattle.std.specs.Prelude.{◌≡◌, ◌≢◌, ◌⊎◌, ℕ, List, Option
 use Rattle.zi_outside.specs.declared.var.Var.{Var}
 use Rattle.zi_shelf.specs.Shelving.{Shelving}
 use Rattle.zi_shelf.specs.Told.{Told}
+use Rattle.zi_store.specs.Keeping.{Keeps, is_reading}
+use Rattle.zi_store.specs.Stores.{Each, IsCalm}
 use Rattle.zi_words.specs.declared.request.Ask.{Ask}
 use Rattle.zi_adding.specs.Trying.{Tried, CostsAll}
 use Rattle.zi_adding.specs.Gains.{Uses, GainsOnly}
@@ -12,23 +14,25 @@ use Rattle.zi_outcome.specs.declared.outcome.Outcome.{Outcome}
 use Rattle.zi_outcome.specs.declared.outcome.Outcome.TheVariants.{MissingTree, Plan}
 use Rattle.zi_world.specs.Asking.{FeedsStay}
 use Rattle.zi_world.specs.Surroundings.{Surroundings, meets_of, NothingStarted}
+use Rattle.zi_world.specs.Places.{AreTold, place}
 use Rattle.zi_choosing.specs.declared.chosen.Chosen.{Chosen}
 use Rattle.zi_choosing.specs.Finding.{FindsOver}
 use Rattle.zi_fetching.specs.Known.{Names}
 use Rattle.zi_fetching.specs.Fetching.{Fetches, FetchesNot}
 use Rattle.zi_fetching.specs.Download.{sources, NothingFetched, HasChosen}
-use Rattle.zi_launching.specs.Folders.{folder, first_missing}
+use Rattle.zi_launching.specs.Folders.{stored_at, folder, first_missing}
 use Rattle.zi_launching.specs.Launching.{launching, LaunchesOver}
 
--- Behind the choice: one of the selections can't be fetched, and nothing is launched.
+-- Behind the choice: one of the selections can't be fetched, and nothing is launched. No call of the other stores failed.
 pub record StopsBefore (c : Chosen) (tried : List Tried) (before after : Surroundings) (outcome : Outcome) : Type 0 where
   pub fetches : FetchesNot c before.web outcome tried after.web
   pub cost : CostsAll tried before.shelf after.shelf
+  pub calm : Each IsCalm before.others after.others
   pub nothing : NothingStarted before after
 
--- an honest shelf that told what it held doesn't lack a tree
-abbrev pub NoneMissing : Shelving → Outcome → Type 0
-NoneMissing shelf outcome = (s : Told) → shelf.honest → shelf.told ≡ Some s → (name : List ℕ) → outcome ≢ MissingTree name
+-- honest stores that told what they held don't lack a tree
+abbrev pub NoneMissing : List Shelving → Outcome → Type 0
+NoneMissing stores outcome = (ss : List Told) → AreTold stores ss → (name : List ℕ) → outcome ≢ MissingTree name
 
 -- a fault of a plan that isn't of a selection, a folder or a command that is missing, but where no command is asked for
 abbrev pub IsNoLack : Option (List ℕ) → PlanFault → Type 0
@@ -47,20 +51,20 @@ pub record FetchesAndLaunches (c : Chosen) (vars : List Var) (user : List (List 
   pub stored : Names
   pub fetched : Fetches c before.web stored tried after.web
   pub there : first_missing stored c.sels.items ≡ None
-  pub placed : All (λ x. IsSome (folder before.shelf.root stored x)) c.sels.items
-  pub launches : LaunchesOver (record { sels = c.sels; stored = stored; vars = vars; user = user }) (launching before) (launching after) outcome
-  pub found : NoneMissing before.shelf outcome
+  pub placed : All (λ x. IsSome (folder (stored_at (launching before).stores (place c.known.each)) stored x)) c.sels.items
+  pub launches : LaunchesOver (record { sels = c.sels; each = c.known.each; stored = stored; vars = vars; user = user }) (launching before) (launching after) outcome
+  pub found : NoneMissing (launching before).stores outcome
   pub whole : LacksNothing c.sels.command outcome
 
 -- how far it comes, to which outcome
 abbrev pub RunsTo : Ask → List Var → List (List ℕ) → List Tried → Surroundings → Surroundings → Outcome → Type 0
 RunsTo ask vars user tried before after outcome =
     (FindsOver ask (sources (meets_of before)) (sources (meets_of after)) (Err outcome) × NothingFetched tried before.web after.web × NothingStarted before after)
-    ⊎ ((c : Chosen) × HasChosen ask before.shelf before.feeds c after.feeds
+    ⊎ ((c : Chosen) × HasChosen ask (launching before).stores before.feeds c after.feeds
     × (StopsBefore c tried before after outcome ⊎ FetchesAndLaunches c vars user tried before after outcome))
 
--- Whatever the outcome, nothing is written, feeds and web hold what they held, and the stored trees are as before but for those whose
--- adding was begun.
+-- Whatever the outcome, nothing is written, feeds and web hold what they held, the stored trees are as before but for those whose adding was
+-- begun, which was in the store that is written, and the other stores are only read.
 pub record RunsProgram (ask : Ask) (vars : List Var) (user : List (List ℕ)) (before after : Surroundings) (outcome : Outcome) : Type 0 where
   pub feeds : FeedsStay before.feeds after.feeds
   pub web : FeedsStay before.web after.web
@@ -69,3 +73,4 @@ pub record RunsProgram (ask : Ask) (vars : List Var) (user : List (List ℕ)) (b
   pub comes : RunsTo ask vars user tried before after outcome
   pub shelf : Uses tried before.shelf after.shelf
   pub stored : GainsOnly tried before.shelf after.shelf
+  pub others : Each (Keeps is_reading) before.others after.others

@@ -1,15 +1,31 @@
 //! The folders of what is selected.
-ghost use Rattle.std.specs.Prelude.{◌≡◌, None, IfOk, MatchResult, find};
+ghost use Rattle.std.specs.Prelude.{◌≡◌, ◌∷◌, None, IfOk, MatchResult, find, map};
 ghost use Rattle.zi_reading.specs.Words.{first};
+ghost use Rattle.zi_world.specs.Places.{root_at};
 ghost use Rattle.zi_fetching.specs.Known.{is_known};
-ghost use Rattle.zi_launching.specs.Folders.{tree_of, trees_of, stored_folder, LacksFolder, FindsFolder, FindsFolders};
+ghost use Rattle.zi_launching.specs.Folders.{tree_of, trees_of, stored_folder, stored_at, place_in, LacksFolder, FindsFolder, FindsFolders};
 
+use crate::places::Places;
 use std::alloc::Global;
 use zi_digest::DigestName;
 use zi_fetching::Stored;
 use zi_outcome::Outcome;
 use zi_sels::Selection;
+use zi_shelf::Shelf;
 use zi_text::{List, Memory, Text};
+
+// The path of the store of a number.
+fn root_at<'s, K: Shelf, R: Shelf>(store: usize, shelf: &'s K, others: &'s [R]) -> &'s str
+    ensures { result.now ≡ root_at (K.seen shelf.now ∷ map R.seen others.now) store }
+{
+    if store == 0 {
+        return shelf.root();
+    }
+    match others.get(store - 1) {
+        Some(other) => other.root(),
+        None => "",
+    }
+}
 
 // The folder of a stored tree: the store's, `/` and the name.
 fn stored_folder(alloc: Global, root: &str, name: &DigestName) -> Result<Text, Memory>
@@ -50,38 +66,44 @@ fn first_stored(
     Ok(None)
 }
 
-// The folder of what is selected: its path where it is local, or that of the first of its digests that is stored.
+// The folder of what is selected: its path where it is local, or that of the first of its digests that is stored, in the store
+// in which it stands.
 #[tactic(auto, using(crate::proofs::FolderLaws::finding))]
-fn folder(
+fn folder<K: Shelf, R: Shelf>(
     alloc: Global,
     item: &Selection,
     stored: &Stored,
-    root: &str,
+    places: &Places,
+    shelf: &K,
+    others: &[R],
 ) -> Result<Option<Text>, Outcome>
-    ensures { FindsFolder root.now stored.now item.now result }
+    ensures { FindsFolder (stored_at (K.seen shelf.now ∷ map R.seen others.now) (place_in places.now.stores.entries)) stored.now item.now result }
 {
     if let Some(path) = &item.local {
         return Ok(Some(path.copy(alloc)?));
     }
-    match first_stored(alloc, item.digests.as_slice(), stored)? {
-        Some(name) => Ok(Some(stored_folder(alloc, root, &name)?)),
-        None => without_tree(alloc, item),
-    }
+    let Some(name) = first_stored(alloc, item.digests.as_slice(), stored)? else {
+        return without_tree(alloc, item);
+    };
+    let store = places.place(alloc, &name)?;
+    Ok(Some(stored_folder(alloc, root_at(store, shelf, others), &name)?))
 }
 
 /// The folders of what is selected, in its order. `MissingTree` names the first digest of the first that has digests and none of
 /// them stored; what has neither a path nor a digest has no folder.
-pub(crate) fn folders_of(
+pub(crate) fn folders_of<K: Shelf, R: Shelf>(
     alloc: Global,
     items: &[Selection],
     stored: &Stored,
-    root: &str,
+    places: &Places,
+    shelf: &K,
+    others: &[R],
 ) -> Result<List<Option<Text>>, Outcome>
-    ensures { FindsFolders root.now stored.now items.now result }
+    ensures { FindsFolders (stored_at (K.seen shelf.now ∷ map R.seen others.now) (place_in places.now.stores.entries)) stored.now items.now result }
 {
     let mut folders = List::new(alloc);
     for item in items {
-        folders.push(folder(alloc, item, stored, root)?)?;
+        folders.push(folder(alloc, item, stored, places, shelf, others)?)?;
     }
     Ok(folders)
 }

@@ -1,13 +1,16 @@
 //! Selections are launched: their folders, the plan, the trees, and the start.
-ghost use Rattle.std.specs.Prelude.{◌≡◌, length, Ok, MatchResult};
+ghost use Rattle.std.specs.Prelude.{◌≡◌, ◌+◌, ◌∷◌, map, length, Ok, MatchResult};
 ghost use Rattle.zi_store.specs.Keeping.{Keeps, is_reading};
+ghost use Rattle.zi_store.specs.Stores.{Each};
 ghost use Rattle.zi_plan.specs.Plans.{Plans};
 ghost use Rattle.zi_launching.specs.Launching.{PlansNot, Prepares, LaunchesOver};
 
 use crate::folders::{folders_of, trees_of};
+use crate::places::Places;
 use crate::starting::start;
 use crate::verifying::verify_all;
 use std::alloc::Global;
+use zi_choosing::Known;
 use zi_fetching::Stored;
 use zi_outcome::Outcome;
 use zi_outside::{Launch, Spawner, Vars};
@@ -35,42 +38,50 @@ fn planned(
 }
 
 // The launch that selections mean, once each stored tree in it is found to be what its name says.
-fn prepared<K: Shelf>(
+fn prepared<K: Shelf, R: Shelf>(
     alloc: Global,
     sels: &Selections,
+    known: &Known,
     stored: &Stored,
     vars: &Vars,
     user: &[Text],
     shelf: &mut K,
+    others: &mut [R],
 ) -> Result<Launch, Outcome>
-    ensures prepares { Prepares (record { sels = sels.now; stored = stored.now; vars = vars.now; user = user.now }) (K.seen shelf.old) result (K.seen shelf.new) }
-    ensures keeps { Keeps is_reading (K.seen shelf.old) (K.seen shelf.new) }
+    requires { length known.now.each ≡ length others.old + 1 }
+    ensures prepares { Prepares (record { sels = sels.now; each = known.now.each; stored = stored.now; vars = vars.now; user = user.now }) (K.seen shelf.old ∷ map R.seen others.old) result (K.seen shelf.new ∷ map R.seen others.new) }
+    ensures keeps { Each (Keeps is_reading) (K.seen shelf.old ∷ map R.seen others.old) (K.seen shelf.new ∷ map R.seen others.new) }
 {
     let items = sels.items.as_slice();
-    let folders = folders_of(alloc, items, stored, shelf.root())?;
+    let places = Places::of(alloc, known.each.as_slice())?;
+    let folders = folders_of(alloc, items, stored, &places, shelf, others)?;
     let launch = planned(alloc, sels, vars, user, folders.as_slice())?;
     let trees = trees_of(alloc, items, stored)?;
-    verify_all(alloc, trees.as_slice(), shelf)?;
+    verify_all(alloc, trees.as_slice(), &places, shelf, others)?;
     Ok(launch)
 }
 
-/// Launches selections over a store in which these digests are stored: their folders are found and the launch is planned; then
-/// each stored tree whose folder is exposed is read, and its digest is its name; and then the program is started.
-pub(crate) fn launch_over<K: Shelf, P: Spawner>(
+/// Launches selections over stores in which these digests are stored, `known` those that were in each when the call began: their
+/// folders are found and the launch is planned; then each stored tree whose folder is exposed is read in the store where it
+/// stands, and its digest is its name; and then the program is started.
+pub(crate) fn launch_over<K: Shelf, R: Shelf, P: Spawner>(
     alloc: Global,
     sels: &Selections,
+    known: &Known,
     stored: &Stored,
     vars: &Vars,
     user: &[Text],
     shelf: &mut K,
+    others: &mut [R],
     spawner: &mut P,
 ) -> Outcome
-    ensures launches { LaunchesOver (record { sels = sels.now; stored = stored.now; vars = vars.now; user = user.now })
-        (record { shelf = K.seen shelf.old; spawner = P.seen spawner.old })
-        (record { shelf = K.seen shelf.new; spawner = P.seen spawner.new }) result }
-    ensures keeps { Keeps is_reading (K.seen shelf.old) (K.seen shelf.new) }
+    requires { length known.now.each ≡ length others.old + 1 }
+    ensures launches { LaunchesOver (record { sels = sels.now; each = known.now.each; stored = stored.now; vars = vars.now; user = user.now })
+        (record { stores = K.seen shelf.old ∷ map R.seen others.old; spawner = P.seen spawner.old })
+        (record { stores = K.seen shelf.new ∷ map R.seen others.new; spawner = P.seen spawner.new }) result }
+    ensures keeps { Each (Keeps is_reading) (K.seen shelf.old ∷ map R.seen others.old) (K.seen shelf.new ∷ map R.seen others.new) }
 {
-    match prepared(alloc, sels, stored, vars, user, shelf) {
+    match prepared(alloc, sels, known, stored, vars, user, shelf, others) {
         Ok(launch) => start(&launch, spawner),
         Err(outcome) => outcome,
     }

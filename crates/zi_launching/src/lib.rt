@@ -2,14 +2,16 @@
 //! is started, last of all calls. `run` chooses and fetches first, `launch` reads a document of selections.
 //! Contracts say what each outcome means and what became of each object (specs/Launching.antt).
 //!
-//! `folders` finds the folders, `zi_plan` makes the plan, `verifying` reads each stored tree in it, `starting` starts the
-//! program; `launching` has these in their order, `running` and `opening` the commands `run` and `launch`.
-//! specs/Folders.antt, Verifying.antt and Launching.antt say the same stages; Run.antt and Opening.antt are the two commands.
+//! `places` says in which store a digest stands, `folders` finds the folders, `zi_plan` makes the plan, `verifying` reads each stored
+//! tree in it, `starting` starts the program; `launching` has these in their order, `running` and `opening` the commands `run` and
+//! `launch`. specs/Folders.antt, Verifying.antt and Launching.antt say the same stages; Run.antt and Opening.antt are the two
+//! commands, Placing.antt is what the finding out of the stores promises.
 #![tactic(auto)]
 
 mod folders;
 mod launching;
 mod opening;
+mod places;
 mod running;
 mod starting;
 mod verifying;

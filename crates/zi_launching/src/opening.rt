@@ -1,19 +1,23 @@
 //! The work of `launch`.
-ghost use Rattle.std.specs.Prelude.{MatchResult};
+ghost use Rattle.std.specs.Prelude.{◌≡◌, ◌+◌, ◌∷◌, map, length, MatchResult};
 ghost use Rattle.zi_outside.specs.Views.{Feeding, Sinking};
-ghost use Rattle.zi_store.specs.Keeping.{Keeps, is_names};
+ghost use Rattle.zi_store.specs.Keeping.{Keeps, is_reading};
+ghost use Rattle.zi_store.specs.Stores.{Each};
 ghost use Rattle.zi_sels.specs.Reading.{Says};
 ghost use Rattle.zi_world.specs.Asking.{FeedsStay};
-ghost use Rattle.zi_launching.specs.Opening.{IsUnread, GetsSelections, FindsNames, LaunchesFile};
+ghost use Rattle.zi_choosing.specs.Knowing.{all_names};
+ghost use Rattle.zi_fetching.specs.Known.{names_of};
+ghost use Rattle.zi_launching.specs.Launching.{LaunchesOver};
+ghost use Rattle.zi_launching.specs.Opening.{IsUnread, GetsSelections, LaunchesFile};
 
 use crate::launching::launch_over;
 use std::alloc::Global;
+use zi_choosing::{Known, known_of};
 use zi_fetching::Stored;
 use zi_outcome::Outcome;
 use zi_outside::{Feeds, FeedsFault, Got, Spawner, Vars};
 use zi_sels::{Selections, SelsFault, read};
-use zi_shelf::{Shelf, ShelfFault};
-use zi_store::stored_names;
+use zi_shelf::Shelf;
 use zi_text::Text;
 
 // How many bytes a document of selections may have: 4 MiB.
@@ -48,41 +52,53 @@ fn get_selections<F: Feeds>(alloc: Global, file: Text, feeds: &mut F) -> Result<
     }
 }
 
-// The digest names in the store.
-fn names_in<K: Shelf>(alloc: Global, shelf: &mut K) -> Result<Stored, Outcome>
-    ensures names { FindsNames (K.seen shelf.old) result (K.seen shelf.new) }
-    ensures keeps { Keeps is_names (K.seen shelf.old) (K.seen shelf.new) }
+// Launches selections over the digest names in the stores.
+fn launch_known<K: Shelf, R: Shelf, P: Spawner>(
+    alloc: Global,
+    sels: &Selections,
+    known: &Known,
+    vars: &Vars,
+    user: &[Text],
+    shelf: &mut K,
+    others: &mut [R],
+    spawner: &mut P,
+) -> Outcome
+    requires { length known.now.each ≡ length others.old + 1 }
+    ensures launches { LaunchesOver (record { sels = sels.now; each = known.now.each; stored = names_of (all_names known.now.each); vars = vars.now; user = user.now })
+        (record { stores = K.seen shelf.old ∷ map R.seen others.old; spawner = P.seen spawner.old })
+        (record { stores = K.seen shelf.new ∷ map R.seen others.new; spawner = P.seen spawner.new }) result }
+    ensures keeps { Each (Keeps is_reading) (K.seen shelf.old ∷ map R.seen others.old) (K.seen shelf.new ∷ map R.seen others.new) }
 {
-    match stored_names(alloc, shelf) {
-        Ok(names) => Ok(Stored::of(alloc, names.as_slice())?),
-        Err(ShelfFault::Failed) => Err(Outcome::StoreFault {
-            name: Text::new(alloc),
-        }),
-        Err(ShelfFault::Memory) => Err(Outcome::Memory),
+    match Stored::of(alloc, known.each.as_slice()) {
+        Ok(stored) => launch_over(
+            alloc, sels, known, &stored, vars, user, shelf, others, spawner,
+        ),
+        Err(_) => Outcome::Memory,
     }
 }
 
-/// Reads the document of selections in a file, finds out which digests are stored, and launches what is selected with the user's
+/// Reads the document of selections in a file, finds out which digests are in which store, and launches what is selected with the user's
 /// words. Where the program ran the outcome is `Child` with its status; after every other outcome nothing was launched.
-pub fn launch<F: Feeds, K: Shelf, P: Spawner>(
+pub fn launch<F: Feeds, K: Shelf, R: Shelf, P: Spawner>(
     alloc: Global,
     file: Text,
     user: &[Text],
     vars: &Vars,
     feeds: &mut F,
     shelf: &mut K,
+    others: &mut [R],
     spawner: &mut P,
 ) -> Outcome
     ensures { (web : Feeding) (out : Sinking) → LaunchesFile file vars.now user.now
-        (record { feeds = F.seen feeds.old; shelf = K.seen shelf.old; web = web; spawner = P.seen spawner.old; out = out })
-        (record { feeds = F.seen feeds.new; shelf = K.seen shelf.new; web = web; spawner = P.seen spawner.new; out = out }) result }
+        (record { feeds = F.seen feeds.old; shelf = K.seen shelf.old; others = map R.seen others.old; web = web; spawner = P.seen spawner.old; out = out })
+        (record { feeds = F.seen feeds.new; shelf = K.seen shelf.new; others = map R.seen others.new; web = web; spawner = P.seen spawner.new; out = out }) result }
 {
     let sels = match get_selections(alloc, file, feeds) {
         Ok(sels) => sels,
         Err(outcome) => return outcome,
     };
-    match names_in(alloc, shelf) {
-        Ok(stored) => launch_over(alloc, &sels, &stored, vars, user, shelf, spawner),
+    match known_of(alloc, shelf, others) {
+        Ok(known) => launch_known(alloc, &sels, &known, vars, user, shelf, others, spawner),
         Err(outcome) => outcome,
     }
 }

@@ -1,5 +1,5 @@
 //! The work of `run`.
-ghost use Rattle.std.specs.Prelude.{◌≤◌};
+ghost use Rattle.std.specs.Prelude.{◌≤◌, map};
 ghost use Rattle.zi_outside.specs.Views.{Sinking};
 ghost use Rattle.zi_launching.specs.Run.{RunsProgram};
 
@@ -13,30 +13,41 @@ use zi_shelf::Shelf;
 use zi_text::Text;
 use zi_words::Ask;
 
-/// Finds the best choice as `select` does, fetches what it selects and isn't there, and launches it with the user's words.
+/// Finds the best choice as `select` does, fetches what it selects and no store has, and launches it with the user's words.
 /// Where the program ran the outcome is `Child` with its status; after every other outcome nothing was launched.
-pub fn run<F: Feeds, K: Shelf, W: Web, P: Spawner>(
+pub fn run<F: Feeds, K: Shelf, R: Shelf, W: Web, P: Spawner>(
     alloc: Global,
     ask: Ask,
     user: &[Text],
     vars: &Vars,
     feeds: &mut F,
     shelf: &mut K,
+    others: &mut [R],
     web: &mut W,
     spawner: &mut P,
 ) -> Outcome
     requires { ask.search ≤ 4000000000 }
     ensures { (out : Sinking) → RunsProgram ask vars.now user.now
-        (record { feeds = F.seen feeds.old; shelf = K.seen shelf.old; web = W.seen web.old; spawner = P.seen spawner.old; out = out })
-        (record { feeds = F.seen feeds.new; shelf = K.seen shelf.new; web = W.seen web.new; spawner = P.seen spawner.new; out = out }) result }
+        (record { feeds = F.seen feeds.old; shelf = K.seen shelf.old; others = map R.seen others.old; web = W.seen web.old; spawner = P.seen spawner.old; out = out })
+        (record { feeds = F.seen feeds.new; shelf = K.seen shelf.new; others = map R.seen others.new; web = W.seen web.new; spawner = P.seen spawner.new; out = out }) result }
 {
-    let chosen = match find_best(alloc, ask, feeds, shelf) {
+    let chosen = match find_best(alloc, ask, feeds, shelf, others) {
         Ok(chosen) => chosen,
         Err(outcome) => return outcome,
     };
     let _whole = chosen.universe.interfaces();
     match fetch_all(alloc, &chosen, web, shelf) {
-        Ok(stored) => launch_over(alloc, &chosen.sels, &stored, vars, user, shelf, spawner),
+        Ok(stored) => launch_over(
+            alloc,
+            &chosen.sels,
+            &chosen.known,
+            &stored,
+            vars,
+            user,
+            shelf,
+            others,
+            spawner,
+        ),
         Err(outcome) => outcome,
     }
 }

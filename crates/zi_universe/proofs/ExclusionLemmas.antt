@@ -392,14 +392,14 @@ pub excludes : RanksAreStrict → ((w : List ℕ) → IsSettled w) → UniverseE
 excludes strict one holds req p stored is (fault.FeedRead uri) a t r = true≢false (sym t)
 excludes strict one holds req p stored is fault.Memory a t r = true≢false (sym t)
 excludes strict one holds req p stored is fault.NoRootFeed a t r =
-    not_absent strict one holds req p stored is a req.interface r.0.0 r.0.1 r.1 refl
+    not_absent strict one holds req p stored is a req.interface r.come.got r.come.comes r.absent refl
 excludes strict one holds req p stored is (fault.BadFeed uri why) a t r =
-    not_bad strict one holds req p stored is a uri r.0.0 r.0.1 why r.1.0 r.1.1 r.1.3
+    not_bad strict one holds req p stored is a uri r.come.got r.come.comes why r.bytes r.held r.faulty
 excludes strict one holds req p stored is (fault.FeedTooLong uri limit) a t r =
-    not_long strict one holds req p stored is a uri r.0.0 r.0.1 r.2
+    not_long strict one holds req p stored is a uri r.come.got r.come.comes r.long
 excludes strict one holds req p stored is (fault.TooManyFeeds limit) a t r =
-    not_full strict one holds req p stored is a r.1.0 r.1.1 r.1.2 r.1.3
+    not_full strict one holds req p stored is a r.uri r.got r.comes r.full
 excludes strict one holds req p stored is (fault.TooManyCandidates limit) a t r =
-    not_many_candidates strict one holds req p stored is a r.1.0 r.1.1 r.1.2 r.1.3 r.1.4 r.1.5
+    not_many_candidates strict one holds req p stored is a r.done r.names r.interface r.feeds r.finds r.many
 excludes strict one holds req p stored is (fault.TooManyInterfaces limit) a t r =
-    not_many_interfaces strict one holds req p stored is a r.1.0 r.1.1 r.1.2 r.1.3 r.1.5 r.1.4 r.1.6 r.1.8
+    not_many_interfaces strict one holds req p stored is a r.done r.names r.interface r.feeds r.finds r.candidates r.are r.many

@@ -14,7 +14,7 @@ use Rattle.zi_universe.specs.declared.types.Candidate.{Candidate}
 use Rattle.zi_universe.specs.declared.loading.Loading.{Loading}
 use Rattle.zi_universe.specs.Candidates.{Store, admitted, AreCandidates, asked_by_all}
 use Rattle.zi_universe.specs.Whole.{candidates_in, most_feeds, most_interfaces, feed_limit}
-use Rattle.zi_universe.specs.Loading.{Reading, AreRead, IsHeld, HasFault, reached, ComesTo, HasGot, Finds, Refuses, asked_until}
+use Rattle.zi_universe.specs.Loading.{Reading, AreRead, IsHeld, HasFault, reached, ComesTo, ComesToGet, HasGot, Finds, Refuses, asked_until}
 use Rattle.zi_universe.specs.Tables.{addresses, Agrees, AllRead}
 use Rattle.zi_universe.specs.Stages.{RefusesNext, HasListed, StopsListing, HasLoaded, IsSorting, StopsFinishing}
 use Rattle.zi_universe.specs.Asked.{up_to}
@@ -67,8 +67,11 @@ module _ (told : Option Holding) (req : Requirement) (p : Policy) (stored : Stor
   got_fewer : (fs : List Feed) → length fs < most_feeds → length (addresses fs) < most_feeds
   got_fewer fs lt = let e : length (addresses fs) ≡ length fs = length-map fs (λ (x : Feed). x.uri) in omega (arith, e, lt)
 
-  at_one : (u uri : Uri) (fs : List Feed) → u ≡ uri → ComesTo told req p stored uri (addresses fs) → ComesTo told req p stored u (addresses fs)
-  at_one u uri fs s c = let P : Uri → Type 0 = λ q. ComesTo told req p stored q (addresses fs) in subst P (sym s) c
+  -- it may get one more, at this address
+  gets_at : (u uri : Uri) (fs : List Feed) → u ≡ uri → ComesTo told req p stored uri (addresses fs) → length fs < most_feeds → ComesToGet told req p stored u
+  gets_at u uri fs s c lt =
+      let P : Uri → Type 0 = λ q. ComesTo told req p stored q (addresses fs) in
+      record { got = addresses fs; comes = subst P (sym s) c; few = got_fewer fs lt }
 
   ends_at : (u uri : Uri) (fs : List Feed) → u ≡ uri → addresses fs ++ u ∷ [] ≡ addresses fs ++ uri ∷ []
   ends_at u uri fs s = ap (λ q. addresses fs ++ q ∷ []) s
@@ -76,20 +79,24 @@ module _ (told : Option Holding) (req : Requirement) (p : Policy) (stored : Stor
   -- the refusal of one feed is one of the loading, which asked for those that it had got and then for this one
   refuses_next : (uri : Uri) (fs : List Feed) (e : LoadFault) → ComesTo told req p stored uri (addresses fs) → RefusesNext told req.interface (length fs) uri e
       → (r : Refuses told req p stored e) × (asked_until told req p stored e r ≡ addresses fs ++ up_to uri e)
-  refuses_next uri fs (fault.FeedRead u) c r = ((addresses fs, at_one u uri fs r.1 c, got_fewer fs r.0), ends_at u uri fs r.1)
+  unfolding gets_at
+  refuses_next uri fs (fault.FeedRead u) c r = (gets_at u uri fs r.1 c r.0, ends_at u uri fs r.1)
   refuses_next uri fs fault.NoRootFeed c r =
       let P : Uri → Type 0 = λ q. IsHeld told q None in
-      (((addresses fs, at_one req.interface uri fs (sym r.1.0) c, got_fewer fs r.0), subst P r.1.0 r.1.1), ends_at req.interface uri fs (sym r.1.0))
+      (record { come = gets_at req.interface uri fs (sym r.1.0) c r.0; absent = subst P r.1.0 r.1.1 }, ends_at req.interface uri fs (sym r.1.0))
   refuses_next uri fs (fault.BadFeed u why) c r =
       let P : Uri → Type 0 = λ q. (bytes : List ℕ) × IsHeld told q (Some bytes) × (length bytes ≤ feed_limit) × HasFault q bytes why in
-      (((addresses fs, at_one u uri fs r.1.0 c, got_fewer fs r.0), subst P (sym r.1.0) r.1.1), ends_at u uri fs r.1.0)
+      let h : P u = subst P (sym r.1.0) r.1.1 in
+      (record { come = gets_at u uri fs r.1.0 c r.0; bytes = h.0; held = h.1; fits = h.2; faulty = h.3 }, ends_at u uri fs r.1.0)
   refuses_next uri fs (fault.FeedTooLong u limit) c r =
       let P : Uri → Type 0 = λ q. IfSome told (λ holds. IsSomeAnd (holds q) (λ bytes. feed_limit < length bytes)) in
-      (((addresses fs, at_one u uri fs r.1.0 c, got_fewer fs r.0), r.1.1, subst P (sym r.1.0) r.1.2), ends_at u uri fs r.1.0)
+      (record { come = gets_at u uri fs r.1.0 c r.0; is_limit = r.1.1; long = subst P (sym r.1.0) r.1.2 }, ends_at u uri fs r.1.0)
   refuses_next uri fs (fault.TooManyInterfaces limit) c r = absurd r.1
   refuses_next uri fs (fault.TooManyCandidates limit) c r = absurd r.1
-  refuses_next uri fs (fault.TooManyFeeds limit) c r = ((r.0, (uri, addresses fs, c, length-map fs (λ (x : Feed). x.uri) ∙ r.1)), sym (append-nil (addresses fs)))
-  refuses_next uri fs fault.Memory c r = ((addresses fs ++ uri ∷ [], inr (uri, addresses fs, c, got_fewer fs r.0, refl)), refl)
+  refuses_next uri fs (fault.TooManyFeeds limit) c r =
+      (record { is_limit = r.0; uri = uri; got = addresses fs; comes = c; full = length-map fs (λ (x : Feed). x.uri) ∙ r.1 }, sym (append-nil (addresses fs)))
+  refuses_next uri fs fault.Memory c r =
+      (record { uris = addresses fs ++ uri ∷ []; first = inr (record { uri = uri; come = gets_at uri uri fs refl c r.0; are = refl }) }, refl)
 
   pub refuses_stop : (e : LoadFault) (s : StopsListing told req.interface p interface start e) → (r : Refuses told req p stored e) × (asked_until told req p stored e r ≡ addresses s.fs ++ up_to s.uri e)
   refuses_stop e s = refuses_next s.uri s.fs e (comes_to s.here s.n s.fs s.uri s.listed s.turn s.stops.new) s.stops.refused
@@ -173,15 +180,28 @@ module _ (told : Option Holding) (req : Requirement) (p : Policy) (stored : Stor
       → StopsFinishing p offered s why → (r : Refuses told req p stored why) × (asked_until told req p stored why r ≡ addresses fs)
   refuses_finishing s offered (fault.TooManyCandidates limit) keys count are ranked r =
       let same : length offered ≡ length (admitted req p stored uri (map found_at here)) = ap length (are found_at found_agrees) in
-      ((r.0, (done, names, uri, map found_at here, finds.0, omega (arith, count, same, r.1))), finds.1)
+      (record { is_limit = r.0; done = done; names = names; interface = uri; feeds = map found_at here; finds = finds.0; many = omega (arith, count, same, r.1) }, finds.1)
   refuses_finishing s offered (fault.TooManyInterfaces limit) keys count are ranked r =
       let t = r.1 in
-      let P : Uris → Type 0 = λ q. most_interfaces < length (joined q (asked_by_all t.cs)) in
-      ((r.0, (done, names, uri, map found_at here, t.cs, finds.0, ranked found_at found_agrees t.cs t.sorting, omega (arith, count, t.few_candidates), subst P keys t.many)), finds.1)
+      let P : Uris → Type 0 = λ q. most_interfaces < length (joined q (asked_by_all t.cs)) in (
+        record {
+          is_limit = r.0;
+          done = done;
+          names = names;
+          interface = uri;
+          feeds = map found_at here;
+          finds = finds.0;
+          candidates = t.cs;
+          are = ranked found_at found_agrees t.cs t.sorting;
+          few_candidates = omega (arith, count, t.few_candidates);
+          many = subst P keys t.many;
+        },
+        finds.1,
+      )
   refuses_finishing s offered (fault.FeedRead u) keys count are ranked r = absurd r
   refuses_finishing s offered fault.NoRootFeed keys count are ranked r = absurd r
   refuses_finishing s offered (fault.BadFeed u w) keys count are ranked r = absurd r
   refuses_finishing s offered (fault.FeedTooLong u limit) keys count are ranked r = absurd r
   refuses_finishing s offered (fault.TooManyFeeds limit) keys count are ranked r = absurd r
   refuses_finishing s offered fault.Memory keys count are ranked r =
-      ((addresses fs, inl (has_got told req p stored done names start uri h next here (length here) fs l)), refl)
+      (record { uris = addresses fs; first = inl (has_got told req p stored done names start uri h next here (length here) fs l) }, refl)

@@ -454,15 +454,15 @@ stops : (holds : Holding) (req : Requirement) (p : Policy) (stored : Store) (e :
     → (at : Reading) × (x : Point holds req p stored at) × Stops holds req p stored at x e
 stops holds req p stored (fault.FeedRead uri) t r = absurd (true≢false (sym t))
 stops holds req p stored fault.Memory t r = absurd (true≢false (sym t))
-stops holds req p stored fault.NoRootFeed t r = feed_stops holds req p stored req.interface r.0.0 r.0.1 fault.NoRootFeed (r.0.2, (refl, r.1))
-stops holds req p stored (fault.BadFeed uri why) t r = feed_stops holds req p stored uri r.0.0 r.0.1 (fault.BadFeed uri why) (r.0.2, (refl, r.1))
+stops holds req p stored fault.NoRootFeed t r = feed_stops holds req p stored req.interface r.come.got r.come.comes fault.NoRootFeed (r.come.few, (refl, r.absent))
+stops holds req p stored (fault.BadFeed uri why) t r = feed_stops holds req p stored uri r.come.got r.come.comes (fault.BadFeed uri why) (r.come.few, (refl, (r.bytes, r.held, r.fits, r.faulty)))
 stops holds req p stored (fault.FeedTooLong uri limit) t r =
-    feed_stops holds req p stored uri r.0.0 r.0.1 (fault.FeedTooLong uri limit) (r.0.2, (refl, r.1, r.2))
-stops holds req p stored (fault.TooManyFeeds limit) t r = feed_stops holds req p stored r.1.0 r.1.1 r.1.2 (fault.TooManyFeeds limit) (r.0, r.1.3)
+    feed_stops holds req p stored uri r.come.got r.come.comes (fault.FeedTooLong uri limit) (r.come.few, (refl, r.is_limit, r.long))
+stops holds req p stored (fault.TooManyFeeds limit) t r = feed_stops holds req p stored r.uri r.got r.comes (fault.TooManyFeeds limit) (r.is_limit, r.full)
 stops holds req p stored (fault.TooManyCandidates limit) t r =
-    limit_stops holds req p stored r.1.0 r.1.1 r.1.2 r.1.3 r.1.4 (fault.TooManyCandidates limit) (r.0, r.1.5)
+    limit_stops holds req p stored r.done r.names r.interface r.feeds r.finds (fault.TooManyCandidates limit) (r.is_limit, r.many)
 stops holds req p stored (fault.TooManyInterfaces limit) t r =
-    limit_stops holds req p stored r.1.0 r.1.1 r.1.2 r.1.3 r.1.5 (fault.TooManyInterfaces limit) (r.0, (r.1.4, r.1.6, r.1.7, r.1.8))
+    limit_stops holds req p stored r.done r.names r.interface r.feeds r.finds (fault.TooManyInterfaces limit) (r.is_limit, (r.candidates, r.are, r.few_candidates, r.many))
 
 pub refused_once : RanksAreStrict → ((w : List ℕ) → IsSettled w) → HasOneRefusal
 refused_once strict one holds req p stored e d t s a b =

@@ -207,9 +207,28 @@ module _ (strict : RanksAreStrict) (one : (w : List ℕ) → IsSettled w) (holds
           let c = (finds (Some holds) req p stored done names start uri h lt turn here fs l next).0 in
           let same : length cs ≡ length (admitted req p stored uri (map at here)) = length_permutation (admitted req p stored uri (map at here)) cs (are at agrees).same in
           elim (within_or (candidates_in done + length cs) most_candidates) [
-            | inr gt ↦ inr (fault.TooManyCandidates most_candidates, refl, (refl, (done, names, uri, map at here, c, omega (arith, gt, same))))
+            | inr gt ↦ inr (
+              fault.TooManyCandidates most_candidates,
+              refl,
+              record { is_limit = refl; done = done; names = names; interface = uri; feeds = map at here; finds = c; many = omega (arith, gt, same) },
+            )
             | inl few ↦ elim (within_or (length (joined names (asked_by_all cs))) most_interfaces) [
-              | inr gt ↦ inr (fault.TooManyInterfaces most_interfaces, refl, (refl, (done, names, uri, map at here, cs, c, are at agrees, few, gt)))
+              | inr gt ↦ inr (
+                fault.TooManyInterfaces most_interfaces,
+                refl,
+                record {
+                  is_limit = refl;
+                  done = done;
+                  names = names;
+                  interface = uri;
+                  feeds = map at here;
+                  finds = c;
+                  candidates = cs;
+                  are = are at agrees;
+                  few_candidates = few;
+                  many = gt;
+                },
+              )
               | inl many ↦ inl (
                 done ++ record { uri = uri; candidates = cs } ∷ [],
                 joined names (asked_by_all cs),

@@ -60,23 +60,25 @@ module _ (told : Option Holding) (req : Requirement) (p : Policy) (stored : Stor
   without_memory : (x : EndsListing told req.interface p interface start old new) → EndsNext x.mid new x.n x.here x.fs
       → StopsLoading told req p stored (addresses start) old fault.Memory new
   without_memory x (inl same) = record {
-    cause = (addresses x.fs, inl (has_got told req p stored done names start interface h next x.here x.n x.fs x.listed_here));
+    cause = record { uris = addresses x.fs; first = inl (has_got told req p stored done names start interface h next x.here x.n x.fs x.listed_here) };
     more = x.got.more;
     grown = x.got.grown;
     asks = (let P : Feeding → Type 0 = λ q. Asks x.got.more old q in subst P (sym same) x.got.asked.asks);
     count = ap (λ q. q.faults) same ∙ x.got.asked.faults;
   }
   without_memory x (inr a) = record {
-    cause = (
-      addresses x.fs ++ a.uri ∷ [],
-      inr (
-        a.uri,
-        addresses x.fs,
-        comes_to told req p stored done names start interface h next x.here x.n x.fs a.uri x.listed_here a.turn a.fresh,
-        (let e : length (addresses x.fs) ≡ length x.fs = length-map x.fs (λ (q : Feed). q.uri) in let few = a.few in omega (arith, e, few)),
-        refl,
-      ),
-    );
+    cause = record {
+      uris = addresses x.fs ++ a.uri ∷ [];
+      first = inr (record {
+        uri = a.uri;
+        come = record {
+          got = addresses x.fs;
+          comes = comes_to told req p stored done names start interface h next x.here x.n x.fs a.uri x.listed_here a.turn a.fresh;
+          few = (let e : length (addresses x.fs) ≡ length x.fs = length-map x.fs (λ (q : Feed). q.uri) in let few = a.few in omega (arith, e, few));
+        };
+        are = refl;
+      });
+    };
     more = x.got.more ++ a.uri ∷ [];
     grown = ap (λ q. q ++ a.uri ∷ []) x.got.grown ∙ append_assoc (addresses start) x.got.more (a.uri ∷ []);
     asks = asks_more x.got.more (a.uri ∷ []) old x.mid new x.got.asked.asks a.asked.asks;
@@ -99,10 +101,10 @@ pub stops_before : (told : Option Holding) (req : Requirement) (p : Policy) (sto
 stops_before told req p stored s seen at more =
     let next : (x : Uri) × (slice_get s.names.keys (length s.done) ≡ Some x) = (get_or s.names.keys (length s.done) [], slice_get-get_or s.names.keys (length s.done) [] more) in
     record {
-      cause = (
-        addresses s.table,
-        inl (has_got told req p stored s.done s.names.keys s.table next.0 at.loaded next.1 (next.0 ∷ []) 0 s.table (listed_begins told req.interface p next.0 s.table at.loaded.few)),
-      );
+      cause = record {
+        uris = addresses s.table;
+        first = inl (has_got told req p stored s.done s.names.keys s.table next.0 at.loaded next.1 (next.0 ∷ []) 0 s.table (listed_begins told req.interface p next.0 s.table at.loaded.few));
+      };
       more = [];
       grown = sym (append-nil (addresses s.table));
       asks = asks_none seen;
@@ -115,7 +117,10 @@ refuses_first task seen =
     let loaded = loaded_none (holding seen) task.req task.policy task.stored in
     let root = task.req.interface in
     record {
-      cause = ([], inl (has_got (holding seen) task.req task.policy task.stored [] (root ∷ []) [] root loaded refl (root ∷ []) 0 [] (listed_begins (holding seen) root task.policy root [] loaded.few)));
+      cause = record {
+        uris = [];
+        first = inl (has_got (holding seen) task.req task.policy task.stored [] (root ∷ []) [] root loaded refl (root ∷ []) 0 [] (listed_begins (holding seen) root task.policy root [] loaded.few));
+      };
       asks = asks_none seen;
       count = refl;
     }

@@ -127,15 +127,21 @@ pub record HasGot (told : Option Holding) (req : Requirement) (p : Policy) (stor
   pub few : length got ≤ most_feeds
   pub read : AreRead told req.interface at got
 
+-- It has come to this address, and may still get one more.
+pub record ComesToGet (told : Option Holding) (req : Requirement) (p : Policy) (stored : Store) (uri : Uri) : Type 0 where
+  pub got : Uris
+  pub comes : ComesTo told req p stored uri got
+  pub few : length got < most_feeds
+
+-- these were asked for: those that it has got, and then the one to which it has come
+pub record AsksOneMore (told : Option Holding) (req : Requirement) (p : Policy) (stored : Store) (uris : Uris) : Type 0 where
+  pub uri : Uri
+  pub come : ComesToGet told req p stored uri
+  pub are : uris ≡ come.got ++ uri ∷ []
+
 -- The loading asks for these first, in this order: it has got them, or it has got all but the last, to which it has come.
 abbrev pub AreFirst : Option Holding → Requirement → Policy → Store → Uris → Type 0
-AreFirst told req p stored uris =
-    HasGot told req p stored uris
-    ⊎ ((uri : Uri) × (got : Uris) × ComesTo told req p stored uri got × (length got < most_feeds) × (uris ≡ got ++ uri ∷ []))
-
--- it may still get one more
-abbrev pub ComesToGet : Option Holding → Requirement → Policy → Store → Uri → Type 0
-ComesToGet told req p stored uri = (got : Uris) × ComesTo told req p stored uri got × (length got < most_feeds)
+AreFirst told req p stored uris = HasGot told req p stored uris ⊎ AsksOneMore told req p stored uris
 
 -- The loading has found the feeds of the interface behind those that are done, without a refusal before.
 pub record Finds (told : Option Holding) (req : Requirement) (p : Policy) (stored : Store) (done : List Interface) (names : Uris) (interface : Uri) (feeds : List Feed) : Type 0 where
@@ -149,24 +155,73 @@ pub record Finds (told : Option Holding) (req : Requirement) (p : Policy) (store
   pub few : length (reached (groups ++ here ∷ [])) ≤ most_feeds
   pub read : AreRead told req.interface at (reached (groups ++ here ∷ []))
 
--- The refusals, over what is held. Want of memory may come wherever the loading is.
+-- The refusals, over what is held.
+
+-- nothing is held at the root
+pub record LacksRoot (told : Option Holding) (req : Requirement) (p : Policy) (stored : Store) : Type 0 where
+  pub come : ComesToGet told req p stored req.interface
+  pub absent : IsHeld told req.interface None
+
+-- what is held at this address is within the limit, and is no feed
+pub record HasBadFeed (told : Option Holding) (req : Requirement) (p : Policy) (stored : Store) (uri : Uri) (why : BadFeed) : Type 0 where
+  pub come : ComesToGet told req p stored uri
+  pub bytes : List ℕ
+  pub held : IsHeld told uri (Some bytes)
+  pub fits : length bytes ≤ feed_limit
+  pub faulty : HasFault uri bytes why
+
+-- what is held at this address is longer than the limit
+pub record HasLongFeed (told : Option Holding) (req : Requirement) (p : Policy) (stored : Store) (uri : Uri) (limit : ℕ) : Type 0 where
+  pub come : ComesToGet told req p stored uri
+  pub is_limit : limit ≡ feed_limit
+  pub long : IfSome told (λ holds. IsSomeAnd (holds uri) (λ bytes. feed_limit < length bytes))
+
+-- With the candidates of the next interface more interfaces are named than the limit.
+pub record NamesTooMany (told : Option Holding) (req : Requirement) (p : Policy) (stored : Store) (limit : ℕ) : Type 0 where
+  pub is_limit : limit ≡ most_interfaces
+  pub done : List Interface
+  pub names : Uris
+  pub interface : Uri
+  pub feeds : List Feed
+  pub finds : Finds told req p stored done names interface feeds
+  pub candidates : List Candidate
+  pub are : AreCandidates req p stored interface feeds candidates
+  pub few_candidates : candidates_in done + length candidates ≤ most_candidates
+  pub many : most_interfaces < length (joined names (asked_by_all candidates))
+
+-- With those of the next interface there are more candidates than the limit.
+pub record OffersTooMany (told : Option Holding) (req : Requirement) (p : Policy) (stored : Store) (limit : ℕ) : Type 0 where
+  pub is_limit : limit ≡ most_candidates
+  pub done : List Interface
+  pub names : Uris
+  pub interface : Uri
+  pub feeds : List Feed
+  pub finds : Finds told req p stored done names interface feeds
+  pub many : most_candidates < candidates_in done + length (admitted req p stored interface feeds)
+
+-- It has come to one more feed, and has got as many as the limit.
+pub record ReachesTooMany (told : Option Holding) (req : Requirement) (p : Policy) (stored : Store) (limit : ℕ) : Type 0 where
+  pub is_limit : limit ≡ most_feeds
+  pub uri : Uri
+  pub got : Uris
+  pub comes : ComesTo told req p stored uri got
+  pub full : length got ≡ most_feeds
+
+-- memory was refused behind these
+pub record EndsBehind (told : Option Holding) (req : Requirement) (p : Policy) (stored : Store) : Type 0 where
+  pub uris : Uris
+  pub first : AreFirst told req p stored uris
+
+-- What each refusal takes. Want of memory may come wherever the loading is.
 abbrev pub Refuses : Option Holding → Requirement → Policy → Store → LoadFault → Type 0
 Refuses told req p stored (fault.FeedRead uri) = ComesToGet told req p stored uri
-Refuses told req p stored fault.NoRootFeed = ComesToGet told req p stored req.interface × IsHeld told req.interface None
-Refuses told req p stored (fault.BadFeed uri why) =
-    ComesToGet told req p stored uri × ((bytes : List ℕ) × IsHeld told uri (Some bytes) × (length bytes ≤ feed_limit) × HasFault uri bytes why)
-Refuses told req p stored (fault.FeedTooLong uri limit) =
-    ComesToGet told req p stored uri × (limit ≡ feed_limit) × IfSome told (λ holds. IsSomeAnd (holds uri) (λ bytes. feed_limit < length bytes))
-Refuses told req p stored (fault.TooManyInterfaces limit) =
-    (limit ≡ most_interfaces) × ((done : List Interface) × (names : Uris) × (interface : Uri) × (feeds : List Feed) × (cs : List Candidate)
-    × Finds told req p stored done names interface feeds × AreCandidates req p stored interface feeds cs
-    × (candidates_in done + length cs ≤ most_candidates) × (most_interfaces < length (joined names (asked_by_all cs))))
-Refuses told req p stored (fault.TooManyCandidates limit) =
-    (limit ≡ most_candidates) × ((done : List Interface) × (names : Uris) × (interface : Uri) × (feeds : List Feed)
-    × Finds told req p stored done names interface feeds × (most_candidates < candidates_in done + length (admitted req p stored interface feeds)))
-Refuses told req p stored (fault.TooManyFeeds limit) =
-    (limit ≡ most_feeds) × ((uri : Uri) × (got : Uris) × ComesTo told req p stored uri got × (length got ≡ most_feeds))
-Refuses told req p stored fault.Memory = (uris : Uris) × AreFirst told req p stored uris
+Refuses told req p stored fault.NoRootFeed = LacksRoot told req p stored
+Refuses told req p stored (fault.BadFeed uri why) = HasBadFeed told req p stored uri why
+Refuses told req p stored (fault.FeedTooLong uri limit) = HasLongFeed told req p stored uri limit
+Refuses told req p stored (fault.TooManyInterfaces limit) = NamesTooMany told req p stored limit
+Refuses told req p stored (fault.TooManyCandidates limit) = OffersTooMany told req p stored limit
+Refuses told req p stored (fault.TooManyFeeds limit) = ReachesTooMany told req p stored limit
+Refuses told req p stored fault.Memory = EndsBehind told req p stored
 
 -- these are all the interfaces, over the feeds that they reach
 pub record Loads (told : Option Holding) (req : Requirement) (p : Policy) (stored : Store) (is : List Interface) : Type 0 where
@@ -208,14 +263,14 @@ pub record LoadsAsking (task : Task) (old : Feeding) (is : List Interface) (new 
 
 -- what a refused loading asks for: the feeds that it had got, and behind them the one at which it stopped
 abbrev pub asked_until : (told : Option Holding) (req : Requirement) (p : Policy) (stored : Store) (e : LoadFault) → Refuses told req p stored e → Uris
-asked_until told req p stored (fault.FeedRead uri) r = r.0 ++ uri ∷ []
-asked_until told req p stored fault.NoRootFeed r = r.0.0 ++ req.interface ∷ []
-asked_until told req p stored (fault.BadFeed uri why) r = r.0.0 ++ uri ∷ []
-asked_until told req p stored (fault.FeedTooLong uri limit) r = r.0.0 ++ uri ∷ []
-asked_until told req p stored (fault.TooManyInterfaces limit) r = let finds = r.1.5 in reached (finds.groups ++ finds.here ∷ [])
-asked_until told req p stored (fault.TooManyCandidates limit) r = let finds = r.1.4 in reached (finds.groups ++ finds.here ∷ [])
-asked_until told req p stored (fault.TooManyFeeds limit) r = r.1.1
-asked_until told req p stored fault.Memory r = r.0
+asked_until told req p stored (fault.FeedRead uri) r = r.got ++ uri ∷ []
+asked_until told req p stored fault.NoRootFeed r = r.come.got ++ req.interface ∷ []
+asked_until told req p stored (fault.BadFeed uri why) r = r.come.got ++ uri ∷ []
+asked_until told req p stored (fault.FeedTooLong uri limit) r = r.come.got ++ uri ∷ []
+asked_until told req p stored (fault.TooManyInterfaces limit) r = reached (r.finds.groups ++ r.finds.here ∷ [])
+asked_until told req p stored (fault.TooManyCandidates limit) r = reached (r.finds.groups ++ r.finds.here ∷ [])
+asked_until told req p stored (fault.TooManyFeeds limit) r = r.got
+asked_until told req p stored fault.Memory r = r.uris
 
 -- the count rises exactly where a call failed
 abbrev pub CountsFault : LoadFault → ℕ → ℕ → Type 0

@@ -4,3 +4,4 @@ pub mod World
 pub mod Meets
 pub mod StoreRead
 pub mod Surroundings
+pub mod Places

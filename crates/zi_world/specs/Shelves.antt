@@ -3,12 +3,15 @@ use Rattle.std.specs.Prelude.{◌≡◌, ◌≤◌, Some, IsSome}
 use Rattle.zi_tree.specs.Dir.{Dir}
 use Rattle.zi_shelf.specs.Shelved.{Shelved}
 use Rattle.zi_shelf.specs.Shelving.{Shelving, Stays}
-use Rattle.zi_text.specs.Count.{Rose}
 use Rattle.zi_shelf.specs.Told.{Told}
 
 -- this holds of what the shelf holds, where it is honest and tells it
 abbrev pub Held : Shelving → (Shelved Dir → Type 0) → Type 0
 Held shelf P = (s : Told) → shelf.honest → shelf.told ≡ Some s → P s.shelf
+
+-- this holds of what an honest shelf holds at the end that told what it held before
+abbrev pub HeldThen : Shelving → Shelving → (Shelved Dir → Type 0) → Type 0
+HeldThen before after P = (s : Told) → before.honest → before.told ≡ Some s → (t : Told) × (after.told ≡ Some t) × P t.shelf
 
 -- It can be used on: an honest one that told what it held tells it, its count didn't fall, and what no call changes stayed.
 pub record Lasts (before after : Shelving) : Type 0 where
@@ -21,7 +24,3 @@ pub record Untouched (before after : Shelving) : Type 0 where
   pub told : after.told ≡ before.told
   pub faults : after.faults ≡ before.faults
   pub stays : Stays before after
-
--- it failed: its count rose, as that of a sure one never does
-abbrev pub ShelfFailed : Shelving → Shelving → Type 0
-ShelfFailed before after = Rose before.faults after.faults × (before.sure → ⊥)

@@ -1,5 +1,5 @@
 -- What a call of the program meets outside where it may start a program: all that `Meets` has, and a spawner.
-use Rattle.std.specs.Prelude.{◌≡◌}
+use Rattle.std.specs.Prelude.{◌≡◌, List}
 use Rattle.zi_outside.specs.Views.{Feeding, Sinking}
 use Rattle.zi_outside.specs.Launched.{Spawning}
 use Rattle.zi_shelf.specs.Shelving.{Shelving}
@@ -8,7 +8,9 @@ use Rattle.zi_world.specs.Meets.{Meets, NothingMet}
 
 pub record Surroundings : Type 1 where
   pub feeds : Feeding
+  -- the store that is written, and those that are read besides
   pub shelf : Shelving
+  pub others : List Shelving
   -- a web is seen as feeds are
   pub web : Feeding
   pub spawner : Spawning
@@ -16,7 +18,7 @@ pub record Surroundings : Type 1 where
 
 -- what most commands meet of it
 abbrev pub meets_of : Surroundings → Meets
-meets_of s = record { feeds = s.feeds; shelf = s.shelf; web = s.web; out = s.out }
+meets_of s = record { feeds = s.feeds; shelf = s.shelf; others = s.others; web = s.web; out = s.out }
 
 -- no program was tried to be started
 abbrev pub NothingStarted : Surroundings → Surroundings → Type 0

@@ -1,4 +1,5 @@
-use Rattle.std.proofs.Common.{refl}
+use Rattle.std.proofs.Common.{map, refl}
+use Rattle.zi_storing.proofs.AddingLemmas.{adds_besides}
 use Rattle.zi_app.proofs.RunLemmas.{shows, shows_demo}
 use Rattle.zi_app.proofs.running.answer.Goals as goal
 
@@ -9,7 +10,8 @@ pub returns-in-Refute : goal.returns-in-Refute
 returns-in-Refute g c = rw c.in-Refute.is (record { does = record { does = c.refute.ensures; web = refl }; started = refl })
 
 pub returns-in-Add : goal.returns-in-Add
-returns-in-Add g c = rw c.in-Add.is (record { does = record { does = c.add.ensures; web = refl }; started = refl })
+returns-in-Add g c =
+    rw c.in-Add.is (record { does = record { does = adds_besides c.in-Add.name c.in-Add.files (map g.R.Shelf.seen c.args.others.now) (g.F.Feeds.seen c.args.feeds.now) (g.F.Feeds.seen c.add.new.feeds) (g.K.Shelf.seen c.args.shelf.now) (g.K.Shelf.seen c.add.new.shelf) (g.O.Sink.seen c.args.out.now) (g.O.Sink.seen c.add.new.out) c.add.result c.add.ensures; web = refl }; started = refl })
 
 pub returns-in-Download : goal.returns-in-Download
 returns-in-Download g c = rw c.in-Download.is (record { does = c.download.ensures; started = refl })
@@ -25,15 +27,15 @@ returns-in-Names g c = rw c.in-Names.is (record { does = record { does = c.list.
 
 pub returns-in-Demo : goal.returns-in-Demo
 returns-in-Demo g c =
-    rw c.in-Demo.is (record { does = record { does = shows_demo c.in-Demo.n (record { feeds = g.F.Feeds.seen c.args.feeds.now; shelf = g.K.Shelf.seen c.args.shelf.now; out = g.O.Sink.seen c.args.out.now }) (g.O.Sink.seen c.demonstrate.new.out) c.demonstrate.result c.demonstrate.ensures; web = refl }; started = refl })
+    rw c.in-Demo.is (record { does = record { does = shows_demo c.in-Demo.n (record { feeds = g.F.Feeds.seen c.args.feeds.now; shelf = g.K.Shelf.seen c.args.shelf.now; others = map g.R.Shelf.seen c.args.others.now; out = g.O.Sink.seen c.args.out.now }) (g.O.Sink.seen c.demonstrate.new.out) c.demonstrate.result c.demonstrate.ensures; web = refl }; started = refl })
 
 pub returns-in-Help : goal.returns-in-Help
 returns-in-Help g c =
-    rw c.in-Help.is (record { does = record { does = shows _ _ (record { feeds = g.F.Feeds.seen c.args.feeds.now; shelf = g.K.Shelf.seen c.args.shelf.now; out = g.O.Sink.seen c.args.out.now }) (g.O.Sink.seen c.put_text.new.out) c.put_text.result c.as_bytes.ensures.value c.put_text.ensures; web = refl }; started = refl })
+    rw c.in-Help.is (record { does = record { does = shows _ _ (record { feeds = g.F.Feeds.seen c.args.feeds.now; shelf = g.K.Shelf.seen c.args.shelf.now; others = map g.R.Shelf.seen c.args.others.now; out = g.O.Sink.seen c.args.out.now }) (g.O.Sink.seen c.put_text.new.out) c.put_text.result c.as_bytes.ensures.value c.put_text.ensures; web = refl }; started = refl })
 
 pub returns-in-Version : goal.returns-in-Version
 returns-in-Version g c =
-    rw c.in-Version.is (record { does = record { does = shows _ _ (record { feeds = g.F.Feeds.seen c.args.feeds.now; shelf = g.K.Shelf.seen c.args.shelf.now; out = g.O.Sink.seen c.args.out.now }) (g.O.Sink.seen c.put_text-in-Version.new.out) c.put_text-in-Version.result c.as_bytes-in-Version.ensures.value c.put_text-in-Version.ensures; web = refl }; started = refl })
+    rw c.in-Version.is (record { does = record { does = shows _ _ (record { feeds = g.F.Feeds.seen c.args.feeds.now; shelf = g.K.Shelf.seen c.args.shelf.now; others = map g.R.Shelf.seen c.args.others.now; out = g.O.Sink.seen c.args.out.now }) (g.O.Sink.seen c.put_text-in-Version.new.out) c.put_text-in-Version.result c.as_bytes-in-Version.ensures.value c.put_text-in-Version.ensures; web = refl }; started = refl })
 
 pub returns-in-Check : goal.returns-in-Check
 returns-in-Check g c = rw c.in-Check.is (record { does = record { does = c.check.ensures; web = refl }; started = refl })

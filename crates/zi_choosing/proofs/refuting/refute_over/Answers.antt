@@ -1,40 +1,41 @@
 use Rattle.std.proofs.Common.{refl}
 use Rattle.zi_world.proofs.AskingLemmas.{asks_stay, feeds_same}
+use Rattle.zi_choosing.specs.Loaded.{no_packages}
 use Rattle.zi_choosing.proofs.LoadedLemmas.{loaded_as, refused_as}
 use Rattle.zi_choosing.proofs.RefuteLemmas.{refuted, refused_over, no_task, stays_over}
 use Rattle.zi_choosing.proofs.refuting.refute_over.Goals as goal
 
 pub returns-in_default : goal.returns-in_default
 returns-in_default g c = record {
-  over = no_task c.args.ask c.args.name c.args.stored.now (record { feeds = g.F.Feeds.seen c.args.feeds.now; out = g.O.Sink.seen c.args.out.now });
+  over = no_task c.args.ask c.args.name c.args.known.now (record { feeds = g.F.Feeds.seen c.args.feeds.now; out = g.O.Sink.seen c.args.out.now });
   feeds = feeds_same (g.F.Feeds.seen c.args.feeds.now);
 }
 
-pub returns-in-Ok-load : goal.returns-in-Ok-load
-returns-in-Ok-load g c =
+pub returns-in-Ok-load_over : goal.returns-in-Ok-load_over
+returns-in-Ok-load_over g c =
     let old = g.F.Feeds.seen c.args.feeds.now in
-    let mid = g.F.Feeds.seen c.load.new.feeds in
+    let mid = g.F.Feeds.seen c.load_over.new.feeds in
     let out = g.O.Sink.seen c.args.out.now in
     record {
       over =
-          refuted c.args.ask c.args.name c.args.stored.now c.in-Ok.job.req (record { feeds = old; out = out }) (record { feeds = g.F.Feeds.seen c.check_file.new.feeds; out = g.O.Sink.seen c.check_file.new.out }) mid
-          c.in-Ok-load.universe c.check_file.result c.in-Ok.ensures.req
-          (loaded_as c.args.stored.now c.nothing-packages.result c.args.ask c.in-Ok.job.req c.in-Ok.job.policy old mid c.in-Ok-load.universe c.nothing-packages.ensures c.in-Ok.ensures.req c.in-Ok.ensures.policy c.in-Ok-load.ensures.loads)
+          refuted c.args.ask c.args.name c.args.known.now c.in-Ok.job.req (record { feeds = old; out = out }) (record { feeds = g.F.Feeds.seen c.check_file.new.feeds; out = g.O.Sink.seen c.check_file.new.out }) mid
+          c.in-Ok-load_over.universe c.check_file.result c.in-Ok.ensures.req
+          (loaded_as c.args.known.now no_packages c.args.ask c.in-Ok.job.req c.in-Ok.job.policy old mid c.in-Ok-load_over.universe refl c.in-Ok.ensures.req c.in-Ok.ensures.policy c.in-Ok-load_over.ensures.loads)
           c.check_file.ensures;
       feeds =
-          stays_over c.in-Ok.job.req c.in-Ok-load.universe c.args.name old (record { feeds = mid; out = out }) (record { feeds = g.F.Feeds.seen c.check_file.new.feeds; out = g.O.Sink.seen c.check_file.new.out }) c.check_file.result
-          (asks_stay _ old mid c.in-Ok-load.ensures.loads.asked.asks) c.check_file.ensures;
+          stays_over c.in-Ok.job.req c.in-Ok-load_over.universe c.args.name old (record { feeds = mid; out = out }) (record { feeds = g.F.Feeds.seen c.check_file.new.feeds; out = g.O.Sink.seen c.check_file.new.out }) c.check_file.result
+          (asks_stay _ old mid c.in-Ok-load_over.ensures.loads.asked.asks) c.check_file.ensures;
     }
 
 pub returns-in-Err : goal.returns-in-Err
 returns-in-Err g c =
     let old = g.F.Feeds.seen c.args.feeds.now in
-    let mid = g.F.Feeds.seen c.load.new.feeds in
+    let mid = g.F.Feeds.seen c.load_over.new.feeds in
     let out = g.O.Sink.seen c.args.out.now in
     record {
       over =
-          refused_over c.args.ask c.args.name c.args.stored.now (record { feeds = old; out = out }) (record { feeds = mid; out = out }) c.in-Err.fault c.refused.result
-          (refused_as c.args.stored.now c.nothing-packages.result c.args.ask c.in-Ok.job.req c.in-Ok.job.policy old mid c.in-Err.fault c.nothing-packages.ensures c.in-Ok.ensures.req c.in-Ok.ensures.policy c.in-Err.ensures.refuses)
+          refused_over c.args.ask c.args.name c.args.known.now (record { feeds = old; out = out }) (record { feeds = mid; out = out }) c.in-Err.fault c.refused.result
+          (refused_as c.args.known.now no_packages c.args.ask c.in-Ok.job.req c.in-Ok.job.policy old mid c.in-Err.fault refl c.in-Ok.ensures.req c.in-Ok.ensures.policy c.in-Err.ensures.refuses)
           refl c.refused.ensures;
       feeds = asks_stay _ old mid c.in-Err.ensures.refuses.asks;
     }

@@ -1,5 +1,0 @@
-use Rattle.zi_app.proofs.GatheringLemmas.{Stands}
-use Rattle.zi_app.proofs.gathering.tree_of.Given as goal
-
-abbrev pub invariant-loop-part : goal.invariant-loop-part
-invariant-loop-part l = Stands l.yielded l.tree

@@ -1,0 +1,5 @@
+pub mod StoreLemmas
+pub mod HeldLemmas
+pub mod GatheringLemmas
+pub mod AddingLemmas
+pub mod RightLemmas

@@ -1,0 +1,5 @@
+pub mod StoreList
+pub mod ManifestCommand
+pub mod StoreVerify
+pub mod Gathering
+pub mod Adding
