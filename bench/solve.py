@@ -3,7 +3,7 @@
 
 Run it after `rt ci`, which builds the program. Interfaces in a chain and in a web have a choice, and so has the last shape, where only
 the oldest of many versions fits: its certificate is written too, and its size printed. At the end of the third chain no version
-fits, so there is no choice. A size is printed with the ratio of its time to that of the one before it, and of their interfaces or versions.
+fits, so there is no choice. Where there is one, `zi why` is timed beside `zi select --proof`, which it may take 1.3 times as long as. A size is printed with the ratio of its time to that of the one before it, and of their interfaces or versions.
 """
 import os
 import pathlib
@@ -52,6 +52,12 @@ def certificate(root):
     return len(subprocess.run([PROGRAM, "select", "--no-command", "--proof", root], capture_output=True, check=True).stdout)
 
 
+def reasons(root):
+    """The time of the reasons, as a ratio to that of the same choice with its certificate."""
+    why, proof = (timed_with_peak([PROGRAM, *words, "--no-command", root], RUNS)[0] for words in (["why"], ["select", "--proof"]))
+    return why / proof
+
+
 def main():
     if not os.path.exists(PROGRAM):
         sys.exit(f"{PROGRAM} isn't built: run `rt ci` first")
@@ -68,6 +74,8 @@ def main():
                 last = size, ours
                 if is_certified:
                     line += f", certificate {certificate(root)} bytes"
+                if here == 0:
+                    line += f", why {reasons(root):.2f} times select --proof"
                 if is_compared:
                     theirs = theirs_on(folder, root, RUNS, there)
                     line += "; 0install isn't installed: no ratio to it" if theirs is None else f"; {ours / theirs:.3f} of 0install's time ({theirs:.2f} s)"

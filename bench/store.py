@@ -8,7 +8,7 @@ and 100,000 nodes), for `verify`; 1,000 files of 1,000 bytes for `add`. The goal
 there are; a folder is listed once. How often is counted by strace, where that is installed. `add` may take twice the time of
 0install, which doesn't make what it stored last through a crash: what that costs is shown by the time of `sync -f` alone. Each
 figure is the best of some runs. Where 0install isn't installed, `sha256sum` and `cp -r` over the same files stand for it.
-Last come five stores of 10,000 trees, over which programs of 10, 100 and 1,000 interfaces are chosen: the smallest in at most 5.5 times the
+A purge of 1,000 trees of 100 files may take 1.5 times the time of `rm -r` of the same folders. Last come five stores of 10,000 trees, over which programs of 10, 100 and 1,000 interfaces are chosen: the smallest in at most 5.5 times the
 time that it takes over one of them, and what the stores add is the same however much is selected.
 """
 import base64
@@ -31,6 +31,7 @@ WIDE = "one folder of 100,000 files"
 DEEP = 63
 STORES = 5
 NAMES = 10_000
+TREES = 1_000
 NS = "http://zero-install.sourceforge.net/2004/injector/interface"
 
 
@@ -172,6 +173,33 @@ def choose(work):
         print(f"; ratio to one {all_of / one:.2f}; what they add {(all_of - none) * 1e3:.1f} ms", flush=True)
 
 
+def purge(work):
+    """All trees but one are taken away, which costs a rename and two syncs of the store beside what `rm -r` does."""
+    store, made = work / "store", work / "made"
+    made.mkdir()
+    kept = spelled(b"0")
+    for number in range(TREES):
+        inside = made / spelled(b"%d" % number)
+        inside.mkdir()
+        for file in range(100):
+            put(inside / str(file), b"a" * 100)
+    selection = f'<selection interface="/p" id="x" version="1"><manifest-digest sha256new="{kept[10:]}"/></selection>'
+    document = work / "kept"
+    document.write_text(f'<selections xmlns="{NS}" interface="/p">{selection}</selections>')
+    env = dict(os.environ, ZI_STORE=str(store))
+
+    def laid():
+        shutil.rmtree(store, ignore_errors=True)
+        subprocess.run(["cp", "-r", str(made), str(store)], check=True)
+        os.sync()
+
+    ours = timed([str(PROGRAM), "store", "purge", str(document)], env, laid)
+    if sorted(os.listdir(store)) != [kept]:
+        sys.exit("purge: other trees are left")
+    theirs = timed(["sh", "-c", f"cd '{store}' && ls | grep -v {kept} | xargs rm -r"], env, laid)
+    print(f"purge, {TREES:,} trees of 100 files: {ours:.3f} s; rm -r {theirs:.3f} s; ratio {ours / theirs:.2f}", flush=True)
+
+
 def main():
     if not PROGRAM.exists():
         sys.exit(f"{PROGRAM} isn't built: run `rt ci` first")
@@ -180,6 +208,8 @@ def main():
             verify(shape, make, nodes, pathlib.Path(work))
     with tempfile.TemporaryDirectory() as work:
         add(pathlib.Path(work))
+    with tempfile.TemporaryDirectory() as work:
+        purge(pathlib.Path(work))
     with tempfile.TemporaryDirectory() as work:
         choose(pathlib.Path(work))
 

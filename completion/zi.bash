@@ -5,11 +5,11 @@ _zi() {
     local options="--command --no-command --version --version-for --os --cpu --lang --level --network --use --rate --search --"
     COMPREPLY=()
     if [ "$COMP_CWORD" -eq 1 ]; then
-        mapfile -t COMPREPLY < <(compgen -W "select check refute download run launch manifest store demo --help --version" -- "$word")
+        mapfile -t COMPREPLY < <(compgen -W "select why check refute download run launch manifest store demo --help --version" -- "$word")
         return
     fi
     case ${COMP_WORDS[1]} in
-        select | check | refute | download | run)
+        select | why | check | refute | download | run)
             [ "${COMP_WORDS[1]}" = select ] && options="--proof $options"
             case $before in
                 --os) mapfile -t COMPREPLY < <(compgen -W "Linux Darwin FreeBSD Cygwin Solaris Windows POSIX" -- "$word") ;;
@@ -35,8 +35,8 @@ _zi() {
             ;;
         store)
             if [ "$COMP_CWORD" -eq 2 ]; then
-                mapfile -t COMPREPLY < <(compgen -W "add verify list" -- "$word")
-            elif [ "${COMP_WORDS[2]}" = add ] && [ "$COMP_CWORD" -gt 3 ]; then
+                mapfile -t COMPREPLY < <(compgen -W "add verify list purge" -- "$word")
+            elif [ "${COMP_WORDS[2]}" = purge ] || { [ "${COMP_WORDS[2]}" = add ] && [ "$COMP_CWORD" -gt 3 ]; }; then
                 mapfile -t COMPREPLY < <(compgen -f -- "$word")
             fi
             ;;

@@ -113,11 +113,19 @@ def laid(top, files, kind="F"):
     return name
 
 
+def document(folder, file, names):
+    """A document of selections, one for each of these stored trees; the root's command is the file `main`."""
+    chosen = "".join(
+        f'<selection interface="/p{number or ""}" id="x" version="1"><manifest-digest sha256new="{name[10:]}"/><command name="run" path="main"/></selection>'
+        for number, name in enumerate(names)
+    )
+    text = f'<selections xmlns="http://zero-install.sourceforge.net/2004/injector/interface" interface="/p" command="run">{chosen}</selections>'
+    return write(folder, file, text.encode())
+
+
 def selections(folder, name):
     """The words that launch the file `main` of a stored tree."""
-    document = f"""<selections xmlns="http://zero-install.sourceforge.net/2004/injector/interface" interface="/p" command="run">
-<selection interface="/p" id="x" version="1"><manifest-digest sha256new="{name[10:]}"/><command name="run" path="main"/></selection></selections>"""
-    return ["launch", write(folder, "sels", document.encode())]
+    return ["launch", document(folder, "sels", [name])]
 
 
 FILES = {"b": b"abc", "a": b"", "c.d": b"x" * 200_000}
@@ -448,6 +456,111 @@ def a_sync_left_out(folder):
             raise Wrong(f"call {number} was left out unseen")
 
 
+def lines(names):
+    return "".join(name + "\n" for name in sorted(names)).encode()
+
+
+def purged(folder):
+    """What the documents name stays, and with it what isn't a digest name; the others are told in byte order."""
+    trees = [dict(FILES, a=b"%d" % number) for number in range(6)]
+    names = [name_of(files) for files in trees]
+    one, two = document(folder, "one", [names[0]]), document(folder, "two", [names[1], names[2], OTHER])
+    expect(run(["store", "purge", one], folder), 0, b"", b"")
+    for files in trees:
+        expect(run(tree(folder, files), folder), 0, b"stored\n", b"")
+    beside = ["plain", "tmp-0", "tmp-2"]
+    for name in beside:
+        os.makedirs(os.path.join(store(folder), name, "d"))
+    bad = write(folder, "bad", b"<selections/>")
+    for words, status in (([one, "none"], 75), ([one, bad], 76), (["none", bad], 75), ([folder], 65)):
+        got = run(["store", "purge", *words], folder)
+        holds(f"{words}: {got}", got[:2] == (status, b""))
+    expect(run(["store", "purge"], folder), 64, b"", b"zi: usage at word 3\n")
+    expect(run(["store", "list"], folder), 0, lines(names), b"")
+    expect(run(["store", "purge", one, two, one], folder), 0, lines(names[3:]), b"")
+    expect(run(["store", "list"], folder), 0, lines(names[:3]), b"")
+    for files in trees[:3]:
+        whole(folder, files)
+        expect(run(["store", "verify", name_of(files)], folder), 0, b"sound\n", b"")
+    holds("beside", sorted(os.listdir(store(folder))) == sorted(names[:3] + beside))
+    expect(run(["store", "purge", two], folder), 0, lines(names[:1]), b"")
+    expect(run(["store", "purge", two], folder), 0, b"", b"")
+    expect(run(tree(folder, trees[0]), folder), 0, b"stored\n", b"")
+    whole(folder, trees[0])
+
+
+def purged_stores(folder):
+    """Trees are taken away in the first store alone, and kept there by a name that only another one has beside it."""
+    far = os.path.join(folder, "far")
+    kept, gone, other = laid(store(folder), FILES), laid(store(folder), {"g": b""}), laid(far, {"o": b""})
+    words = ["store", "purge", document(folder, "kept", [kept])]
+    expect(run(words, folder, ZI_STORES=far), 0, lines([gone]), b"")
+    holds("near", os.listdir(store(folder)) == [kept])
+    holds("far", os.listdir(far) == [other])
+
+
+def sound_or_gone(folder, kept, number):
+    """Each name that is listed is sound, and those that are kept are there."""
+    listed = run(["store", "list"], folder)
+    names = listed[1].decode().split()
+    holds(f"call {number}: listing {listed}", listed[0] == 0 and kept in names)
+    for each in names:
+        is_sound(each, folder, number)
+    return names
+
+
+def a_crash_in_a_purge(folder):
+    """After each call of a purge a crash leaves what is kept whole, and each other tree whole or gone; the next purge takes away what is left."""
+    kept, *others = (laid(store(folder), {"main": b"%d" % number, "c": b"x" * 3_000}) for number in range(3))
+    words = ["store", "purge", document(folder, "kept", [kept])]
+    record = recorded(words, folder)
+    if record is None:
+        print("skipped: strace isn't installed, or may not be used")
+        return
+    disk, made, answer = record
+    holds(f"answer {answer}", answer == lines(others))
+    seen, removed = set(), set()
+    for number, (call, arguments, result) in enumerate(made):
+        if not disk.change(call, arguments, result):
+            continue
+        for left in disk.outcomes() - seen:
+            seen.add(left)
+            with tempfile.TemporaryDirectory() as again:
+                replay.build(store(again), left)
+                names = sound_or_gone(again, kept, number)
+                removed.add(len(names))
+                expect(run(["store", "purge", document(again, "kept", [kept])], again), 0, lines(set(names) - {kept}), b"")
+                holds(f"call {number}: {names}", sound_or_gone(again, kept, number) == [kept])
+                subprocess.run(["chmod", "-R", "u+w", again], check=False)
+    holds(f"moments {removed}", removed == {1, 2, 3})
+
+
+def purged_beside_adders(folder):
+    """A purger beside four adders and launchers of one store, each killed now and then: what is kept is whole at each moment, all else whole or gone."""
+    script = {"main": b"#!/bin/sh\necho here\n"}
+    kept = laid(store(folder), script, "X")
+    trees = [dict(FILES, a=b"%d" % number) for number in range(4)]
+    adding = []
+    for number, files in enumerate(trees):
+        os.makedirs(os.path.join(folder, str(number)))
+        adding.append(tree(os.path.join(folder, str(number)), files))
+    launching, purging = selections(folder, kept), ["store", "purge", document(folder, "kept", [kept])]
+    started_each = [(words, (b"stored\n", b"present\n")) for words in adding] + [(launching, (b"here\n",))] * 2 + [(purging, None)]
+    chance = random.Random(7)
+    for _ in range(40):
+        started = [(begin(words, folder), answers) for words, answers in started_each]
+        time.sleep(chance.uniform(0, 0.05))
+        for process, _ in chance.sample(started, 3):
+            process.send_signal(signal.SIGKILL)
+        for process, answers in started:
+            out, err = process.communicate(timeout=SECONDS)
+            is_right = process.returncode == 0 and (answers is None or out in answers)
+            holds(f"{process.args}: {process.returncode} {out} {err}", is_right or process.returncode == -signal.SIGKILL)
+        sound_or_gone(folder, kept, 0)
+    holds("the last", run(purging, folder)[0] == 0)
+    expect(run(["store", "list"], folder), 0, lines([kept]), b"")
+
+
 def wherever_it_is_started(folder):
     """Without programs in PATH, and under a parent that ignores how its children end, more files than are made to last one by one."""
     files = {f"n{i}": b"y" * i for i in range(200)}
@@ -578,6 +691,10 @@ ROWS = [
     a_crash_after_each_call,
     a_crash_with_many_files,
     a_sync_left_out,
+    purged,
+    purged_stores,
+    a_crash_in_a_purge,
+    purged_beside_adders,
     two_at_once,
     killed,
 ]

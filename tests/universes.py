@@ -357,9 +357,10 @@ def is_valid(choice, asked):
     return is_closed and len({c.bits() for c in chosen} - {None}) < 2 and all(is_met(need, choice) for need in needs)
 
 
-def best(universe, asked):
+def best(universe, asked, given=()):
     """The best choice, or None where none is valid: at the first place of the walk that is open each candidate in its order, then
-    none, so that what is found first ranks earliest. What the walk doesn't come to is chosen by no valid choice."""
+    none, so that what is found first ranks earliest. What the walk doesn't come to is chosen by no valid choice. Where choices are
+    given for the first places, of those that have them."""
     candidates = dict(universe)
 
     def decide(choice):
@@ -373,7 +374,7 @@ def best(universe, asked):
                 return found
         return None
 
-    return decide({})
+    return decide(dict(given))
 
 
 def places(universe, choice, asked):

@@ -113,6 +113,10 @@ fn put_rooted(alloc: Global, out: &mut Sheet, request: &Request) {
             out.put("download ");
             put_ask(alloc, out, ask);
         }
+        Request::Why { ask } => {
+            out.put("why ");
+            put_ask(alloc, out, ask);
+        }
         Request::Run { ask, user } => {
             out.put("run ");
             put_texts(out, user.as_slice());
@@ -151,6 +155,10 @@ fn put_asked(alloc: Global, out: &mut Sheet, request: &Request) {
         Request::Verify { name } => {
             out.put("verify ");
             out.made(name.text(alloc));
+        }
+        Request::Purge { files } => {
+            out.put("purge ");
+            put_texts(out, files.as_slice());
         }
         Request::Names => out.put("names"),
         Request::Demo { n } => {

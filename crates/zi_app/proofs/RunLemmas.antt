@@ -25,7 +25,7 @@ use Rattle.zi_world.specs.Surroundings.{Surroundings, NothingDoneAround, meets_o
 use Rattle.zi_outcome.specs.Writing.{Prints}
 use Rattle.zi_app.specs.Showing.{ShowsText, ShowsDemo}
 use Rattle.zi_choosing.specs.Demo.{Demos}
-use Rattle.zi_app.specs.Answers.{Does, Works, Runs}
+use Rattle.zi_app.specs.Answers.{Does, Works, StoredStays, Runs}
 use Rattle.zi_app.specs.Words.{IsInForm, words_outcome}
 use Rattle.zi_world.specs.Asking.{FeedsStay}
 use Rattle.zi_world.proofs.AskingLemmas.{unasked_stay}
@@ -37,16 +37,17 @@ use Rattle.zi_store.specs.Stores.{Each}
 use Rattle.zi_store.proofs.StoresLemmas.{each_same}
 use Rattle.zi_world.proofs.ShelvesLemmas.{untouched, nothing_done, untouched_lasts, keeps_lasts, untouched_keeps}
 use Rattle.zi_world.proofs.PlacesLemmas.{each_by}
-use Rattle.zi_adding.specs.Gains.{KeepsTrees}
 use Rattle.zi_adding.proofs.HistoryLaws.{uses_keep, reading_keeps, told_keeps, names_only_read}
 use Rattle.zi_app.proofs.LaunchLemmas.{ran_in, run_right, launch_right, run_quiet, launch_quiet}
 use Rattle.zi_storing.proofs.AddingLemmas.{adds_use}
-use Rattle.zi_storing.proofs.RightLemmas.{prints_right, lists_right, manifest_right, verify_right, add_right}
+use Rattle.zi_storing.proofs.PurgingLemmas.{purge_lasts, purge_spares}
+use Rattle.zi_storing.proofs.RightLemmas.{prints_right, lists_right, manifest_right, verify_right, add_right, purge_right}
 use Rattle.zi_app.proofs.KeptLemmas.{uses_last, download_right}
 
 -- right words ask for files with names, for no more lemmas than there may be, and for a demonstration that there is
 abbrev IsLoading : Request → Type 0
 IsLoading (request.Select ask proof) = Unit {0}
+IsLoading (request.Why ask) = Unit {0}
 IsLoading (request.Refute ask proof) = Unit {0}
 IsLoading (request.Download ask) = Unit {0}
 IsLoading (request.Run ask user) = Unit {0}
@@ -57,7 +58,8 @@ store_form : (ws : List (List ℕ)) (r : Request) → AsksStore ws r → IsInFor
 store_form [] r s = absurd s
 store_form (w ∷ ws) r (inl (e, (name, files, are, digest, right, asked))) = subst IsInForm (sym asked) right
 store_form (w ∷ ws) r (inr (inl (e, (name, are, digest, asked)))) = subst IsInForm (sym asked) tt
-store_form (w ∷ ws) r (inr (inr (e, are, asked))) = subst IsInForm (sym asked) tt
+store_form (w ∷ ws) r (inr (inr (inl (e, (file, files, are, asked))))) = subst IsInForm (sym asked) tt
+store_form (w ∷ ws) r (inr (inr (inr (e, are, asked)))) = subst IsInForm (sym asked) tt
 
 -- of a command that loads feeds
 loads_form : (ws : List (List ℕ)) (r : Request) (w : List ℕ) → Loads w ws r → IsLoading r
@@ -65,6 +67,7 @@ loads_form ws r w (l, e, asks) = subst IsLoading (sym asks.asked) (of_loader l (
   where
     of_loader : (l : Loader) (ask : Ask) (proof : Bool) (named : List Word) → IsLoading (request_of l ask proof named)
     of_loader loader.Select ask proof named = tt
+    of_loader loader.Why ask proof named = tt
     of_loader loader.Refute ask proof named = tt
     of_loader loader.Download ask proof named = tt
     of_loader loader.Run ask proof named = tt
@@ -72,6 +75,7 @@ loads_form ws r w (l, e, asks) = subst IsLoading (sym asks.asked) (of_loader l (
 
 within_form : (r : Request) → IsWithin r → IsLoading r → IsInForm r
 within_form (request.Select ask proof) h l = h
+within_form (request.Why ask) h l = h
 within_form (request.Refute ask proof) h l = tt
 within_form (request.Download ask) h l = h
 within_form (request.Run ask user) h l = h
@@ -79,6 +83,7 @@ within_form (request.Launch file user) h l = tt
 within_form (request.Check ask sels proof) h l = tt
 within_form (request.Manifest algorithm name) h l = tt
 within_form (request.Add name files) h l = absurd l
+within_form (request.Purge files) h l = tt
 within_form (request.Verify name) h l = tt
 within_form request.Names h l = tt
 within_form (request.Demo n) h l = h
@@ -102,6 +107,7 @@ in_form (w ∷ ws) r (inr (inr (inr (inr (are, inr (e, asked)))))) = subst IsInF
 -- Right words never come to Usage.
 never_usage : (asked : Request) (vars : List Var) (before after : Surroundings) (index : ℕ) → Does asked vars before after (Usage index) → ⊥
 never_usage (request.Select ask proof) vars before after index d = elim d.does.does.answer [ inl f ↦ f.0 | inr s ↦ s.2 ]
+never_usage (request.Why ask) vars before after index d = elim d.does.does.answer [ inl f ↦ f.0 | inr s ↦ s.2 ]
 never_usage (request.Run ask user) vars before after index d = run_right ask vars user before after index d
 never_usage (request.Launch file user) vars before after index d = launch_right file vars user before after index d
 never_usage (request.Check ask sels proof) vars before after index d = elim d.does.does.answer [ inl f ↦ f.0 | inr s ↦ s.2 ]
@@ -109,6 +115,7 @@ never_usage (request.Refute ask proof) vars before after index d = elim d.does.d
 never_usage (request.Download ask) vars before after index d = download_right ask (meets_of before) (meets_of after) index d.does
 never_usage (request.Manifest algorithm name) vars before after index d = manifest_right algorithm name (world_of (meets_of before)) (world_of (meets_of after)) index d.does.does
 never_usage (request.Add name files) vars before after index d = add_right name files (world_of (meets_of before)) (world_of (meets_of after)) index d.does.does
+never_usage (request.Purge files) vars before after index d = purge_right files (world_of (meets_of before)) (world_of (meets_of after)) index d.does.does
 never_usage (request.Verify name) vars before after index d = verify_right name (world_of (meets_of before)) (world_of (meets_of after)) index d.does.does
 never_usage request.Names vars before after index d = lists_right (world_of (meets_of before)) (world_of (meets_of after)) index d.does.does
 never_usage (request.Demo n) vars before after index d = elim d.does.does.out [ inl shown ↦ shown.counts | inr m ↦ (let e = m.0 in (cc e)) ]
@@ -150,6 +157,7 @@ none_touched before after u = each_by Untouched (Keeps is_reading) (λ b a h. un
 
 does_read : (asked : Request) (vars : List Var) (before after : Surroundings) (outcome : Outcome) → Does asked vars before after outcome → Each (Keeps is_reading) before.others after.others
 does_read (request.Select ask proof) vars before after outcome d = all_read before.others after.others d.does.does.stores.1
+does_read (request.Why ask) vars before after outcome d = all_read before.others after.others d.does.does.stores.1
 does_read (request.Run ask user) vars before after outcome d = d.others
 does_read (request.Launch file user) vars before after outcome d = d.stores.1
 does_read (request.Check ask sels proof) vars before after outcome d = all_read before.others after.others d.does.does.stores.1
@@ -157,6 +165,7 @@ does_read (request.Refute ask proof) vars before after outcome d = all_read befo
 does_read (request.Download ask) vars before after outcome d = all_read before.others after.others d.does.others
 does_read (request.Manifest algorithm name) vars before after outcome d = d.does.does.stores.1
 does_read (request.Add name files) vars before after outcome d = none_touched before.others after.others d.does.does.others
+does_read (request.Purge files) vars before after outcome d = none_touched before.others after.others d.does.does.others
 does_read (request.Verify name) vars before after outcome d = d.does.does.stores.1
 does_read request.Names vars before after outcome d = all_read before.others after.others d.does.does.stores.1
 does_read (request.Demo n) vars before after outcome d = none_touched before.others after.others d.does.does.stores.1
@@ -166,6 +175,7 @@ does_read request.Version vars before after outcome d = none_touched before.othe
 -- Feeds, stores and web can be used on.
 does_last : (asked : Request) (vars : List Var) (before after : Surroundings) (outcome : Outcome) → Does asked vars before after outcome → Lasts before.shelf after.shelf
 does_last (request.Select ask proof) vars before after outcome d = keeps_lasts is_names before.shelf after.shelf d.does.does.stores.0
+does_last (request.Why ask) vars before after outcome d = keeps_lasts is_names before.shelf after.shelf d.does.does.stores.0
 does_last (request.Run ask user) vars before after outcome d = uses_last d.tried before.shelf after.shelf d.shelf
 does_last (request.Launch file user) vars before after outcome d = keeps_lasts is_reading before.shelf after.shelf d.stores.0
 does_last (request.Check ask sels proof) vars before after outcome d = keeps_lasts is_names before.shelf after.shelf d.does.does.stores.0
@@ -173,6 +183,7 @@ does_last (request.Refute ask proof) vars before after outcome d = keeps_lasts i
 does_last (request.Download ask) vars before after outcome d = uses_last d.does.tried before.shelf after.shelf d.does.shelf
 does_last (request.Manifest algorithm name) vars before after outcome d = keeps_lasts is_reading before.shelf after.shelf d.does.does.stores.0
 does_last (request.Add name files) vars before after outcome d = uses_last d.does.does.tried before.shelf after.shelf (adds_use d.does.does.tried before.shelf after.shelf d.does.does.shelf)
+does_last (request.Purge files) vars before after outcome d = purge_lasts files (world_of (meets_of before)) (world_of (meets_of after)) outcome d.does.does
 does_last (request.Verify name) vars before after outcome d = keeps_lasts is_reading before.shelf after.shelf d.does.does.stores.0
 does_last request.Names vars before after outcome d = keeps_lasts is_names before.shelf after.shelf d.does.does.stores.0
 does_last (request.Demo n) vars before after outcome d = untouched_lasts before.shelf after.shelf d.does.does.stores.0
@@ -181,6 +192,7 @@ does_last request.Version vars before after outcome d = untouched_lasts before.s
 
 does_stay : (asked : Request) (vars : List Var) (before after : Surroundings) (outcome : Outcome) → Does asked vars before after outcome → FeedsStay before.feeds after.feeds
 does_stay (request.Select ask proof) vars before after outcome d = d.does.does.feeds
+does_stay (request.Why ask) vars before after outcome d = d.does.does.feeds
 does_stay (request.Run ask user) vars before after outcome d = d.feeds
 does_stay (request.Launch file user) vars before after outcome d = d.feeds
 does_stay (request.Check ask sels proof) vars before after outcome d = d.does.does.feeds
@@ -188,6 +200,7 @@ does_stay (request.Refute ask proof) vars before after outcome d = d.does.does.f
 does_stay (request.Download ask) vars before after outcome d = d.does.feeds
 does_stay (request.Manifest algorithm name) vars before after outcome d = unasked_stay before.feeds after.feeds d.does.does.feeds
 does_stay (request.Add name files) vars before after outcome d = d.does.does.feeds
+does_stay (request.Purge files) vars before after outcome d = d.does.does.feeds
 does_stay (request.Verify name) vars before after outcome d = unasked_stay before.feeds after.feeds d.does.does.feeds
 does_stay request.Names vars before after outcome d = unasked_stay before.feeds after.feeds d.does.does.feeds
 does_stay (request.Demo n) vars before after outcome d = unasked_stay before.feeds after.feeds d.does.does.feeds
@@ -196,6 +209,7 @@ does_stay request.Version vars before after outcome d = unasked_stay before.feed
 
 web_stays : (asked : Request) (vars : List Var) (before after : Surroundings) (outcome : Outcome) → Does asked vars before after outcome → FeedsStay before.web after.web
 web_stays (request.Select ask proof) vars before after outcome d = unasked_stay before.web after.web d.does.web
+web_stays (request.Why ask) vars before after outcome d = unasked_stay before.web after.web d.does.web
 web_stays (request.Run ask user) vars before after outcome d = d.web
 web_stays (request.Launch file user) vars before after outcome d = unasked_stay before.web after.web d.web
 web_stays (request.Check ask sels proof) vars before after outcome d = unasked_stay before.web after.web d.does.web
@@ -203,31 +217,38 @@ web_stays (request.Refute ask proof) vars before after outcome d = unasked_stay 
 web_stays (request.Download ask) vars before after outcome d = d.does.web
 web_stays (request.Manifest algorithm name) vars before after outcome d = unasked_stay before.web after.web d.does.web
 web_stays (request.Add name files) vars before after outcome d = unasked_stay before.web after.web d.does.web
+web_stays (request.Purge files) vars before after outcome d = unasked_stay before.web after.web d.does.web
 web_stays (request.Verify name) vars before after outcome d = unasked_stay before.web after.web d.does.web
 web_stays request.Names vars before after outcome d = unasked_stay before.web after.web d.does.web
 web_stays (request.Demo n) vars before after outcome d = unasked_stay before.web after.web d.does.web
 web_stays request.Help vars before after outcome d = unasked_stay before.web after.web d.does.web
 web_stays request.Version vars before after outcome d = unasked_stay before.web after.web d.does.web
 
--- The stored trees are as before, but for those that have come.
-does_keep : (asked : Request) (vars : List Var) (before after : Surroundings) (outcome : Outcome) → Does asked vars before after outcome → KeepsTrees before.shelf after.shelf
-does_keep (request.Select ask proof) vars before after outcome d = reading_keeps is_names before.shelf after.shelf d.does.does.stores.0
-does_keep (request.Run ask user) vars before after outcome d = uses_keep d.tried before.shelf after.shelf d.shelf
-does_keep (request.Launch file user) vars before after outcome d = reading_keeps is_reading before.shelf after.shelf d.stores.0
-does_keep (request.Check ask sels proof) vars before after outcome d = reading_keeps is_names before.shelf after.shelf d.does.does.stores.0
-does_keep (request.Refute ask proof) vars before after outcome d = reading_keeps is_names before.shelf after.shelf d.does.does.stores.0
-does_keep (request.Download ask) vars before after outcome d = uses_keep d.does.tried before.shelf after.shelf d.does.shelf
-does_keep (request.Manifest algorithm name) vars before after outcome d = reading_keeps is_reading before.shelf after.shelf d.does.does.stores.0
-does_keep (request.Add name files) vars before after outcome d = uses_keep d.does.does.tried before.shelf after.shelf (adds_use d.does.does.tried before.shelf after.shelf d.does.does.shelf)
-does_keep (request.Verify name) vars before after outcome d = reading_keeps is_reading before.shelf after.shelf d.does.does.stores.0
-does_keep request.Names vars before after outcome d = reading_keeps is_names before.shelf after.shelf d.does.does.stores.0
-does_keep (request.Demo n) vars before after outcome d = told_keeps before.shelf after.shelf d.does.does.stores.0.told
-does_keep request.Help vars before after outcome d = told_keeps before.shelf after.shelf d.does.does.stores.0.told
-does_keep request.Version vars before after outcome d = told_keeps before.shelf after.shelf d.does.does.stores.0.told
+-- The stored trees are as before, but for those that have come, or that a purge took away.
+does_keep : (words : List (List ℕ)) (asked : Request) (vars : List Var) (before after : Surroundings) (outcome : Outcome) → Right words asked → Does asked vars before after outcome → StoredStays words before after
+does_keep words (request.Select ask proof) vars before after outcome right d = inl (reading_keeps is_names before.shelf after.shelf d.does.does.stores.0)
+does_keep words (request.Why ask) vars before after outcome right d = inl (reading_keeps is_names before.shelf after.shelf d.does.does.stores.0)
+does_keep words (request.Run ask user) vars before after outcome right d = inl (uses_keep d.tried before.shelf after.shelf d.shelf)
+does_keep words (request.Launch file user) vars before after outcome right d = inl (reading_keeps is_reading before.shelf after.shelf d.stores.0)
+does_keep words (request.Check ask sels proof) vars before after outcome right d = inl (reading_keeps is_names before.shelf after.shelf d.does.does.stores.0)
+does_keep words (request.Refute ask proof) vars before after outcome right d = inl (reading_keeps is_names before.shelf after.shelf d.does.does.stores.0)
+does_keep words (request.Download ask) vars before after outcome right d = inl (uses_keep d.does.tried before.shelf after.shelf d.does.shelf)
+does_keep words (request.Manifest algorithm name) vars before after outcome right d = inl (reading_keeps is_reading before.shelf after.shelf d.does.does.stores.0)
+does_keep words (request.Add name files) vars before after outcome right d = inl (uses_keep d.does.does.tried before.shelf after.shelf (adds_use d.does.does.tried before.shelf after.shelf d.does.does.shelf))
+does_keep words (request.Purge files) vars before after outcome right d = elim (purge_spares files (world_of (meets_of before)) (world_of (meets_of after)) outcome d.does.does) [
+  | inl u ↦ inl (told_keeps before.shelf after.shelf u.told)
+  | inr s ↦ inr (files, right, s)
+]
+does_keep words (request.Verify name) vars before after outcome right d = inl (reading_keeps is_reading before.shelf after.shelf d.does.does.stores.0)
+does_keep words request.Names vars before after outcome right d = inl (reading_keeps is_names before.shelf after.shelf d.does.does.stores.0)
+does_keep words (request.Demo n) vars before after outcome right d = inl (told_keeps before.shelf after.shelf d.does.does.stores.0.told)
+does_keep words request.Help vars before after outcome right d = inl (told_keeps before.shelf after.shelf d.does.does.stores.0.told)
+does_keep words request.Version vars before after outcome right d = inl (told_keeps before.shelf after.shelf d.does.does.stores.0.told)
 
 -- After every outcome but a program's status nothing was launched.
 does_quiet : (asked : Request) (vars : List Var) (before after : Surroundings) (outcome : Outcome) → Does asked vars before after outcome → ((n : ℕ) → outcome ≢ Child n) → after.spawner.ran ≡ before.spawner.ran
 does_quiet (request.Select ask proof) vars before after outcome d ne = ap ran_in d.started
+does_quiet (request.Why ask) vars before after outcome d ne = ap ran_in d.started
 does_quiet (request.Download ask) vars before after outcome d ne = ap ran_in d.started
 does_quiet (request.Run ask user) vars before after outcome d ne = run_quiet ask vars user before after outcome d ne
 does_quiet (request.Launch file user) vars before after outcome d ne = launch_quiet file vars user before after outcome d ne
@@ -235,6 +256,7 @@ does_quiet (request.Check ask sels proof) vars before after outcome d ne = ap ra
 does_quiet (request.Refute ask proof) vars before after outcome d ne = ap ran_in d.started
 does_quiet (request.Manifest algorithm name) vars before after outcome d ne = ap ran_in d.started
 does_quiet (request.Add name files) vars before after outcome d ne = ap ran_in d.started
+does_quiet (request.Purge files) vars before after outcome d ne = ap ran_in d.started
 does_quiet (request.Verify name) vars before after outcome d ne = ap ran_in d.started
 does_quiet request.Names vars before after outcome d ne = ap ran_in d.started
 does_quiet (request.Demo n) vars before after outcome d ne = ap ran_in d.started
@@ -263,10 +285,10 @@ module _ (words : List (List ℕ)) (vars : List Var) (before after : Surrounding
   works_web (inr (inl wrong)) = unasked_stay before.web after.web wrong.nothing.nothing.web
   works_web (inr (inr (e, n))) = unasked_stay before.web after.web n.nothing.web
 
-  works_keep : Works words vars before after outcome → KeepsTrees before.shelf after.shelf
-  works_keep (inl done) = does_keep done.asked vars before after outcome done.does
-  works_keep (inr (inl wrong)) = told_keeps before.shelf after.shelf wrong.nothing.nothing.nothing.stores.0.told
-  works_keep (inr (inr (e, n))) = told_keeps before.shelf after.shelf n.nothing.nothing.stores.0.told
+  works_keep : Works words vars before after outcome → StoredStays words before after
+  works_keep (inl done) = does_keep words done.asked vars before after outcome done.right done.does
+  works_keep (inr (inl wrong)) = inl (told_keeps before.shelf after.shelf wrong.nothing.nothing.nothing.stores.0.told)
+  works_keep (inr (inr (e, n))) = inl (told_keeps before.shelf after.shelf n.nothing.nothing.stores.0.told)
 
   works_quiet : Works words vars before after outcome → ((n : ℕ) → outcome ≢ Child n) → after.spawner.ran ≡ before.spawner.ran
   works_quiet (inl done) ne = does_quiet done.asked vars before after outcome done.does ne

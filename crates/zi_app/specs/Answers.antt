@@ -14,13 +14,13 @@ use Rattle.zi_app.specs.declared.help.TheConstants.{HELP, VERSION}
 use Rattle.zi_world.specs.Asking.{FeedsStay}
 use Rattle.zi_world.specs.Shelves.{Lasts}
 use Rattle.zi_world.specs.World.{World}
-use Rattle.zi_world.specs.Meets.{Meets, Within}
-use Rattle.zi_world.specs.Surroundings.{Surroundings, NothingDoneAround, Unstarted}
+use Rattle.zi_world.specs.Meets.{Meets, Within, world_of}
+use Rattle.zi_world.specs.Surroundings.{Surroundings, NothingDoneAround, Unstarted, meets_of}
 use Rattle.zi_outcome.specs.Line.{Tells}
 use Rattle.zi_adding.specs.Gains.{KeepsTrees}
 use Rattle.zi_choosing.specs.Check.{ChecksBest}
 use Rattle.zi_choosing.specs.Refute.{ChecksNone}
-use Rattle.zi_choosing.specs.Select.{Selects}
+use Rattle.zi_choosing.specs.Select.{Selects, Explains}
 use Rattle.zi_fetching.specs.Download.{Downloads}
 use Rattle.zi_launching.specs.Run.{RunsProgram}
 use Rattle.zi_launching.specs.Opening.{LaunchesFile}
@@ -28,6 +28,7 @@ use Rattle.zi_storing.specs.ManifestCommand.{Manifests}
 use Rattle.zi_storing.specs.StoreList.{Lists}
 use Rattle.zi_storing.specs.StoreVerify.{VerifiesTree}
 use Rattle.zi_storing.specs.Adding.{AddsFiles}
+use Rattle.zi_storing.specs.StorePurge.{PurgesFiles, SparesNamed}
 use Rattle.zi_app.specs.Showing.{ShowsText, ShowsDemo}
 
 -- The work of a command that meets neither web nor spawner.
@@ -38,6 +39,7 @@ Apart Does before after outcome = Unstarted (λ (b a : Meets) o. Within Does b a
 -- `run` and `launch` the spawner.
 abbrev pub Does : Request → List Var → Surroundings → Surroundings → Outcome → Type 0
 Does (request.Select ask proof) vars before after outcome = Apart (Selects ask proof) before after outcome
+Does (request.Why ask) vars before after outcome = Apart (Explains ask) before after outcome
 Does (request.Download ask) vars before after outcome = Unstarted (Downloads ask) before after outcome
 Does (request.Run ask user) vars before after outcome = RunsProgram ask vars user before after outcome
 Does (request.Launch file user) vars before after outcome = LaunchesFile file vars user before after outcome
@@ -45,6 +47,7 @@ Does (request.Check ask sels proof) vars before after outcome = Apart (ChecksBes
 Does (request.Refute ask proof) vars before after outcome = Apart (ChecksNone ask proof) before after outcome
 Does (request.Manifest algorithm name) vars before after outcome = Apart (Manifests algorithm name) before after outcome
 Does (request.Add name files) vars before after outcome = Apart (AddsFiles name files) before after outcome
+Does (request.Purge files) vars before after outcome = Apart (PurgesFiles files) before after outcome
 Does (request.Verify name) vars before after outcome = Apart (VerifiesTree name) before after outcome
 Does request.Names vars before after outcome = Apart Lists before after outcome
 Does (request.Demo n) vars before after outcome = Apart (ShowsDemo n) before after outcome
@@ -71,9 +74,16 @@ abbrev pub Works : List (List ℕ) → List Var → Surroundings → Surrounding
 Works words vars before after outcome =
     AreDone words vars before after outcome ⊎ (AreWrong words before after outcome ⊎ ((outcome ≡ Memory) × NothingDoneAround before after))
 
+-- What was stored in the store that is written is as before, but for trees that have come, each under its digest; or the words ask for a purge, and
+-- what is gone are trees whose digest no selection in the files has.
+abbrev pub StoredStays : List (List ℕ) → Surroundings → Surroundings → Type 0
+StoredStays words before after =
+    KeepsTrees before.shelf after.shelf
+    ⊎ ((files : List (List ℕ)) × Right words (request.Purge files) × SparesNamed files (world_of (meets_of before)) (world_of (meets_of after)))
+
 -- The work is done, to an outcome of its own, and the line of that is told on err. Whatever it was, feeds, stores and web can be used on;
--- what stood under a digest in the store that is written stands there, and each tree that has come under one has it; the other stores were
--- only read; and after every outcome but a program's status nothing was launched.
+-- what stood under a digest in the store that is written stands there, but for what a purge takes away, and each tree that has come under one
+-- has it; the other stores were only read; and after every outcome but a program's status nothing was launched.
 pub record Runs (words : List (List ℕ)) (vars : List Var) (before after : Surroundings) (err_before err_after : Sinking) (outcome : Outcome) : Type 0 where
   pub work : Outcome
   pub done : Works words vars before after work
@@ -81,6 +91,6 @@ pub record Runs (words : List (List ℕ)) (vars : List Var) (before after : Surr
   pub feeds : FeedsStay before.feeds after.feeds
   pub stores : Each Lasts (before.shelf ∷ before.others) (after.shelf ∷ after.others)
   pub web : FeedsStay before.web after.web
-  pub stored : KeepsTrees before.shelf after.shelf
+  pub stored : StoredStays words before after
   pub others : Each (Keeps is_reading) before.others after.others
   pub quiet : ((status : ℕ) → outcome ≢ Child status) → after.spawner.ran ≡ before.spawner.ran

@@ -11,6 +11,9 @@ zi select [options] ROOT
     Writes the selections document of the program whose interface has the address ROOT:
     a web address, or a path that begins with /. It selects the best implementations that
     fit together. Where none do it writes a proof of that, and the status is 73.
+zi why [options] ROOT
+    Selects as select does, and writes why nothing better is selected: for each interface the
+    implementation that is, and below it each that goes before it, with the reason.
 zi check [options] ROOT SELS PROOF
     Writes yes where the file SELS is the selections document of the best implementations for
     ROOT that fit together, and the certificate in the file PROOF proves that.
@@ -37,6 +40,9 @@ zi store verify DIGEST
     manifest that stands in it differs: in which line, not at all, or that none stands there.
 zi store list
     Writes the digests that the stores have.
+zi store purge FILE..
+    Takes away each tree of the store whose digest no selection has in these selections
+    documents, and writes its digest. All files are read before anything is taken away.
 zi demo N
     Chooses for a made program of N and four interfaces, N from 1 to 1000, and writes how many
     interfaces, candidates and selections there are, how many of these are the first of their
@@ -46,7 +52,7 @@ zi --help
 zi --version
     Writes the name and the version.
 
-Options of select, check, refute, download and run, before ROOT:
+Options of select, why, check, refute, download and run, before ROOT:
     --command NAME              The command of the program that is wanted (default: run).
     --no-command                Needs no command of the program.
     --version RANGE             Versions of ROOT, as 1.2..!2 | 3 (default: every version).

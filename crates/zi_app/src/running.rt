@@ -7,13 +7,13 @@ ghost use Rattle.zi_app.specs.Words.{IsInForm, Stops, RefusesWords, words_outcom
 
 use crate::help::{HELP, VERSION};
 use std::alloc::Global;
-use zi_choosing::{check, demonstrate, refute, select};
+use zi_choosing::{check, demonstrate, explain, refute, select};
 use zi_fetching::download;
 use zi_launching::launch;
 use zi_outcome::{Outcome, put_text, tell};
 use zi_outside::{Feeds, Sink, SinkFault, Spawner, Vars, Web};
 use zi_shelf::Shelf;
-use zi_storing::{add, list, manifest, verify_tree};
+use zi_storing::{add, list, manifest, purge, verify_tree};
 use zi_text::Text;
 use zi_words::{Request, WordsFault};
 
@@ -23,12 +23,13 @@ use zi_words::{Request, WordsFault};
 /// they are searched, behind it.
 ///
 /// `select` finds out which digests are in which store, loads the universe that its words ask for, and writes the document of the best
-/// choice, a certificate of it, or a proof that there is none; `refute` loads it too, and says whether a proof shows that there
+/// choice, a certificate of it, or a proof that there is none; `why` chooses so too, and writes why each candidate that the best choice passes
+/// over isn't chosen; `refute` loads it too, and says whether a proof shows that there
 /// is none, and `check` whether selections are the best choice; `download` chooses as `select` does, fetches from the web what is
 /// selected and no store has, and writes the document; `run` fetches as `download` does and starts the program, and `launch` starts
 /// that of a document of selections, each once every stored tree in it was read and found to be what its name says;
 /// `manifest` and `store verify` read the first store that has the tree, and `store list` reads all; `store add` puts files into the
-/// one that is written, as a tree; `demo` counts what the best choice of a demonstration selects, whose feeds it makes itself; `--help` and `--version`
+/// one that is written, as a tree, and `store purge` takes away from it each tree whose digest no selection in its files has; `demo` counts what the best choice of a demonstration selects, whose feeds it makes itself; `--help` and `--version`
 /// write their texts.
 pub fn run<F: Feeds, K: Shelf, R: Shelf, W: Web, P: Spawner, O: Sink, E: Sink>(
     alloc: Global,
@@ -118,6 +119,7 @@ fn answer<F: Feeds, K: Shelf, R: Shelf, W: Web, P: Spawner, O: Sink>(
 {
     match request {
         Request::Select { ask, proof } => select(alloc, ask, proof, feeds, shelf, others, out),
+        Request::Why { ask } => explain(alloc, ask, feeds, shelf, others, out),
         Request::Refute { ask, proof } => refute(alloc, ask, proof, feeds, shelf, others, out),
         Request::Download { ask } => download(alloc, ask, feeds, shelf, others, web, out),
         Request::Run { ask, user } => {
@@ -143,6 +145,7 @@ fn answer<F: Feeds, K: Shelf, R: Shelf, W: Web, P: Spawner, O: Sink>(
             alloc, algorithm, name, shelf, others, out,
         ),
         Request::Add { name, files } => add(alloc, name, files, feeds, shelf, out),
+        Request::Purge { files } => purge(alloc, files, feeds, shelf, out),
         Request::Verify { name } => verify_tree(alloc, name, shelf, others, out),
         Request::Names => list(alloc, shelf, others, out),
         Request::Demo { n } => demonstrate(alloc, n, out),

@@ -1,5 +1,6 @@
 -- The choice, and what it means for the words that asked for it.
-use Rattle.std.proofs.Common.{◌≡◌, ◌≢◌, ℕ, inl, inr, Bool, true, false, List, refl, sym, subst, ◌∙◌}
+use Rattle.std.specs.Prelude.{IsSomeAnd}
+use Rattle.std.proofs.Common.{◌≡◌, ◌≢◌, ℕ, inl, inr, List, Option, Some, None, refl, sym, subst, ◌∙◌}
 use Rattle.zi_outside.specs.Views.{Sinking}
 use Rattle.zi_words.specs.declared.request.Ask.{Ask}
 use Rattle.zi_universe.specs.declared.types.Interface.{Interface}
@@ -18,16 +19,20 @@ use Rattle.zi_certificate.specs.Certificates.{Excludes}
 use Rattle.zi_sels.specs.declared.types.Selections.{Selections}
 use Rattle.zi_sels.specs.Chosen.{AreSelected}
 use Rattle.zi_sels.specs.Written.{document}
+use Rattle.zi_report.specs.Reported.{IsReported}
 use Rattle.zi_outcome.specs.declared.outcome.Outcome.{Outcome}
 use Rattle.zi_outcome.specs.declared.outcome.Outcome.TheVariants.{Done, Usage, FeedRead, NoRootFeed, BadFeed, FeedTooLong, TooManyFeeds, TooManyInterfaces, TooManyCandidates, TooLarge, NoSolution, Spent, NoFile, BadSels, BadProof, Rejected, Plan, FetchRead, NoRemote, WrongSize, Overlap, NoPath, Mismatch, MissingTree, DamagedTree, BadName, TreeTooLarge, StoreFault, Crowded, SpawnFault, SinkFault, Memory, Child}
 use Rattle.zi_outcome.specs.Refused.{outcome_of}
-use Rattle.zi_outcome.specs.Writing.{Prints}
+use Rattle.zi_outside.specs.Outside.{WritesFront}
+use Rattle.zi_outcome.specs.Writing.{StopsShort, Prints}
 use Rattle.zi_outcome.proofs.WritingLemmas.{nothing_put}
 use Rattle.zi_choosing.specs.declared.known.Known.{Known}
 use Rattle.zi_choosing.specs.Wanted.{requirement_of}
 use Rattle.zi_choosing.specs.Loaded.{Lent, IsLoaded, IsRefused, AreFew, build_outcome}
-use Rattle.zi_choosing.specs.Select.{refutation_text, Chooses, HasNone, SelectsOver}
-use Rattle.zi_choosing.specs.SelectParts.{PrintsChoice, PrintsRefutation, Search, ChoosesNothing, ChoosesBest, ChoosesNone, ChoosesFrom}
+use Rattle.zi_choosing.specs.declared.shows.Shows.{Shows}
+use Rattle.zi_choosing.specs.declared.shows.Shows.TheVariants as form
+use Rattle.zi_choosing.specs.Select.{refutation_text, refutation_shown, WritesSome, Chooses, HasNone, SelectsOver}
+use Rattle.zi_choosing.specs.SelectParts.{PrintsChoice, PrintsRefutation, PrintsSome, PrintsNone, Search, ChoosesNothing, ChoosesBest, ChoosesNone, ChoosesFrom}
 
 -- a certificate was printed, or there was no memory for it
 pub text_printed : (wanted text : List ℕ) (old new : Sinking) (outcome : Outcome) → text ≡ wanted → Prints text old new outcome → Prints wanted old new outcome
@@ -40,26 +45,27 @@ pub ruleset certifying = (text_printed, text_unmade)
 
 -- what was selected was printed
 pub selected_printed : (u : List Interface) (req : Requirement) (choice : Choice) (sels : Selections) (old new : Sinking) (outcome : Outcome) → AreSelected u req choice sels
-    → Prints (document sels) old new outcome → PrintsChoice false u req choice old new outcome
+    → Prints (document sels) old new outcome → PrintsChoice form.Document u req choice old new outcome
 selected_printed u req choice sels old new outcome selected w = inl (document sels, (sels, selected, refl), w)
 
 -- there was no memory for the selections
-pub unselected : (u : List Interface) (req : Requirement) (choice : Choice) (out : Sinking) → PrintsChoice false u req choice out out Memory
+pub unselected : (u : List Interface) (req : Requirement) (choice : Choice) (out : Sinking) → PrintsChoice form.Document u req choice out out Memory
 unselected u req choice out = inr (refl, refl)
 
 pub ruleset selecting = (selected_printed, unselected)
 
 -- a certificate was printed for the choice
-pub certificate_shown : (proof : Bool) (u : List Interface) (req : Requirement) (choice : Choice) (c : Certificate) (old new : Sinking) (outcome : Outcome) → proof ≡ true
-    → Excludes u req choice c → Prints (certificate_text c) old new outcome → PrintsChoice proof u req choice old new outcome
-certificate_shown proof u req choice c old new outcome e excludes w =
-    subst (λ b. PrintsChoice b u req choice old new outcome) (sym e) (inl (certificate_text c, (c, excludes, refl), w))
+pub certificate_shown : (u : List Interface) (req : Requirement) (choice : Choice) (c : Certificate) (old new : Sinking) (outcome : Outcome) → Excludes u req choice c → Prints (certificate_text c) old new outcome
+    → PrintsChoice form.Certificate u req choice old new outcome
+certificate_shown u req choice c old new outcome excludes w = inl (certificate_text c, (c, excludes, refl), w)
 
-pub selected_shown : (proof : Bool) (u : List Interface) (req : Requirement) (choice : Choice) (old new : Sinking) (outcome : Outcome) → proof ≡ false
-    → PrintsChoice false u req choice old new outcome → PrintsChoice proof u req choice old new outcome
-selected_shown proof u req choice old new outcome e w = subst (λ b. PrintsChoice b u req choice old new outcome) (sym e) w
+-- or a report for it
+pub report_shown : (u : List Interface) (req : Requirement) (choice : Choice) (c : Certificate) (text : List ℕ) (old new : Sinking) (outcome : Outcome) → Excludes u req choice c → IsReported u req choice c text
+    → Prints text old new outcome → PrintsChoice form.Reasons u req choice old new outcome
+report_shown u req choice c text old new outcome excludes is w = inl (text, (c, excludes, is), w)
 
-pub ruleset showing = (certificate_shown, selected_shown)
+pub unreported : (u : List Interface) (req : Requirement) (choice : Choice) (out : Sinking) → PrintsChoice form.Reasons u req choice out out Memory
+unreported u req choice out = inr (refl, refl)
 
 -- a refutation was printed whole
 pub refutation_printed : (p : Proof) (old new : Sinking) (outcome : Outcome) → outcome ≡ Done → Prints (refutation_text p) old new outcome → PrintsRefutation p old new (NoSolution p)
@@ -79,40 +85,43 @@ no_formula s u (build.TooLarge limit) out outcome means e = subst (λ x. Chooses
 no_formula s u build.Memory out outcome means e = subst (λ x. ChoosesFrom s u out out x) (sym e) (inr (inr (tt, refl)))
 
 -- Behind the loading.
-abbrev search_of : Ask → Bool → Search
-search_of ask proof = record { req = requirement_of ask; budget = ask.search; proof = proof }
+abbrev search_of : Ask → Shows → Search
+search_of ask shows = record { req = requirement_of ask; budget = ask.search; shows = shows }
 
-module _ (ask : Ask) (proof : Bool) (known : Known) (before after : Lent) where
-  chosen_as : (text : List ℕ) (outcome : Outcome) → Chooses known ask proof before.feeds after.feeds text → Prints text before.out after.out outcome
-      → SelectsOver ask proof known before after outcome
-  chosen_as text outcome chooses (inl (w, e)) = subst (λ x. SelectsOver ask proof known before after x) (sym e) (text, chooses, w)
-  chosen_as text outcome chooses (inr (inl (w, e))) = subst (λ x. SelectsOver ask proof known before after x) (sym e) (inl (text, chooses, w))
+module _ (ask : Ask) (shows : Shows) (known : Known) (before after : Lent) where
+  chosen_as : (text : List ℕ) (outcome : Outcome) → Chooses known ask shows before.feeds after.feeds text → Prints text before.out after.out outcome
+      → SelectsOver ask shows known before after outcome
+  chosen_as text outcome chooses (inl (w, e)) = subst (λ x. SelectsOver ask shows known before after x) (sym e) (text, chooses, w)
+  chosen_as text outcome chooses (inr (inl (w, e))) = subst (λ x. SelectsOver ask shows known before after x) (sym e) (inl (text, chooses, w))
   chosen_as text outcome chooses (inr (inr (w, e))) =
-      subst (λ x. SelectsOver ask proof known before after x) (sym e) (inr (inr (inr (inl (text, chooses, w)))))
+      subst (λ x. SelectsOver ask shows known before after x) (sym e) (inr (inr (inr (inl (text, chooses, w)))))
 
-  best_as : (u : List Interface) (outcome : Outcome) → IsLoaded known ask before.feeds after.feeds u → ChoosesBest (search_of ask proof) u before.out after.out outcome
-      → SelectsOver ask proof known before after outcome
+  best_as : (u : List Interface) (outcome : Outcome) → IsLoaded known ask before.feeds after.feeds u → ChoosesBest (search_of ask shows) u before.out after.out outcome
+      → SelectsOver ask shows known before after outcome
   best_as u outcome loaded b = by b.printed
     where
-      by : PrintsChoice proof u (requirement_of ask) b.choice before.out after.out outcome → SelectsOver ask proof known before after outcome
+      by : PrintsChoice shows u (requirement_of ask) b.choice before.out after.out outcome → SelectsOver ask shows known before after outcome
       by (inl (text, shown, w)) =
           chosen_as text outcome (record { there = record { universe = u; loaded = loaded; few = b.few }; choice = b.choice; best = b.best; shown = shown }) w
-      by (inr (e, w)) = subst (λ x. SelectsOver ask proof known before after x) (sym e) (inr (inr (inl ((u, loaded, tt), w))))
+      by (inr (e, w)) = subst (λ x. SelectsOver ask shows known before after x) (sym e) (inr (inr (inl ((u, loaded, tt), w))))
 
-  none_as : (u : List Interface) (outcome : Outcome) → IsLoaded known ask before.feeds after.feeds u → ChoosesNone (search_of ask proof) u before.out after.out outcome
-      → SelectsOver ask proof known before after outcome
-  none_as u outcome loaded n = by n.printed
+  none_as : (u : List Interface) (outcome : Outcome) → IsLoaded known ask before.feeds after.feeds u → ChoosesNone (search_of ask shows) u before.out after.out outcome
+      → SelectsOver ask shows known before after outcome
+  none_as u outcome loaded n = by (refutation_shown shows n.refutation) refl n.printed
     where
       has : HasNone known ask before.feeds after.feeds n.refutation
       has = record { there = record { universe = u; loaded = loaded; few = n.few }; refutes = n.refutes; none = n.none }
 
-      by : PrintsRefutation n.refutation before.out after.out outcome → SelectsOver ask proof known before after outcome
-      by (inl (w, e)) = subst (λ x. SelectsOver ask proof known before after x) (sym e) (has, w)
-      by (inr (inl (w, e))) = subst (λ x. SelectsOver ask proof known before after x) (sym e) (inr (n.refutation, has, w))
-      by (inr (inr (w, e))) = subst (λ x. SelectsOver ask proof known before after x) (sym e) (inr (inr (inr (inr (n.refutation, has, w)))))
+      by : (o : Option (List ℕ)) → o ≡ refutation_shown shows n.refutation → PrintsSome o (NoSolution n.refutation) before.out after.out outcome → SelectsOver ask shows known before after outcome
+      by None at (e, w) = subst (λ x. SelectsOver ask shows known before after x) (sym e) (has, subst (λ o. WritesSome before.out o after.out) at w)
+      by (Some text) at (inl (w, e)) = subst (λ x. SelectsOver ask shows known before after x) (sym e) (has, subst (λ o. WritesSome before.out o after.out) at w)
+      by (Some text) at (inr (inl (w, e))) =
+          subst (λ x. SelectsOver ask shows known before after x) (sym e) (inr (n.refutation, has, subst (λ o. IsSomeAnd o (λ t. WritesFront before.out t after.out)) at w))
+      by (Some text) at (inr (inr (w, e))) =
+          subst (λ x. SelectsOver ask shows known before after x) (sym e) (inr (inr (inr (inr (n.refutation, has, subst (λ o. IsSomeAnd o (λ t. StopsShort before.out t after.out)) at w)))))
 
-  nothing_as : (u : List Interface) (outcome : Outcome) → IsLoaded known ask before.feeds after.feeds u → ChoosesNothing (search_of ask proof) u outcome
-      → after.out ≡ before.out → SelectsOver ask proof known before after outcome
+  nothing_as : (u : List Interface) (outcome : Outcome) → IsLoaded known ask before.feeds after.feeds u → ChoosesNothing (search_of ask shows) u outcome
+      → after.out ≡ before.out → SelectsOver ask shows known before after outcome
   nothing_as u Done loaded why w = absurd why
   nothing_as u (Usage index) loaded why w = absurd why
   nothing_as u (FeedRead uri) loaded why w = absurd why
@@ -148,17 +157,17 @@ module _ (ask : Ask) (proof : Bool) (known : Known) (before after : Lent) where
   nothing_as u Memory loaded why w = inr (inr (inl ((u, loaded, tt), w)))
 
   pub chosen_over : (u : List Interface) (outcome : Outcome) → IsLoaded known ask before.feeds after.feeds u
-      → ChoosesFrom (search_of ask proof) u before.out after.out outcome → SelectsOver ask proof known before after outcome
+      → ChoosesFrom (search_of ask shows) u before.out after.out outcome → SelectsOver ask shows known before after outcome
   chosen_over u outcome loaded (inl b) = best_as u outcome loaded b
   chosen_over u outcome loaded (inr (inl n)) = none_as u outcome loaded n
   chosen_over u outcome loaded (inr (inr (why, w))) = nothing_as u outcome loaded why w
 
   -- what a loading that was refused comes to
   pub refused_over : (e : LoadFault) (outcome : Outcome) → IsRefused known ask before.feeds after.feeds e → after.out ≡ before.out → outcome ≡ outcome_of e
-      → SelectsOver ask proof known before after outcome
-  refused_over e outcome r w is = subst (λ x. SelectsOver ask proof known before after x) (sym is) (by e r)
+      → SelectsOver ask shows known before after outcome
+  refused_over e outcome r w is = subst (λ x. SelectsOver ask shows known before after x) (sym is) (by e r)
     where
-      by : (e : LoadFault) → IsRefused known ask before.feeds after.feeds e → SelectsOver ask proof known before after (outcome_of e)
+      by : (e : LoadFault) → IsRefused known ask before.feeds after.feeds e → SelectsOver ask shows known before after (outcome_of e)
       by (load.FeedRead uri) r = (r, w)
       by load.NoRootFeed r = (r, w)
       by (load.BadFeed uri fault) r = (r, w)
@@ -169,15 +178,15 @@ module _ (ask : Ask) (proof : Bool) (known : Known) (before after : Lent) where
       by load.Memory r = inr (inl (r, w))
 
 -- there was no memory for the task
-pub no_task : (ask : Ask) (proof : Bool) (known : Known) (lent : Lent) → SelectsOver ask proof known lent lent Memory
-no_task ask proof known lent = inl refl
+pub no_task : (ask : Ask) (shows : Shows) (known : Known) (lent : Lent) → SelectsOver ask shows known lent lent Memory
+no_task ask shows known lent = inl refl
 
 -- the choice from the universe that was loaded
-pub selected : (ask : Ask) (proof : Bool) (known : Known) (req : Requirement) (budget : ℕ) (before after : Lent) (u : List Interface) (outcome : Outcome) → req ≡ requirement_of ask
+pub selected : (ask : Ask) (shows : Shows) (known : Known) (req : Requirement) (budget : ℕ) (before after : Lent) (u : List Interface) (outcome : Outcome) → req ≡ requirement_of ask
     → budget ≡ ask.search → IsLoaded known ask before.feeds after.feeds u
-    → ChoosesFrom (record { req = req; budget = budget; proof = proof }) u before.out after.out outcome → SelectsOver ask proof known before after outcome
-selected ask proof known req budget before after u outcome at_req at_budget loaded chooses =
-    let S : Requirement → ℕ → Search = λ r n. record { req = r; budget = n; proof = proof } in
-    chosen_over ask proof known before after u outcome loaded
+    → ChoosesFrom (record { req = req; budget = budget; shows = shows }) u before.out after.out outcome → SelectsOver ask shows known before after outcome
+selected ask shows known req budget before after u outcome at_req at_budget loaded chooses =
+    let S : Requirement → ℕ → Search = λ r n. record { req = r; budget = n; shows = shows } in
+    chosen_over ask shows known before after u outcome loaded
     (subst (λ n. ChoosesFrom (S (requirement_of ask) n) u before.out after.out outcome) at_budget
     (subst (λ r. ChoosesFrom (S r budget) u before.out after.out outcome) at_req chooses))

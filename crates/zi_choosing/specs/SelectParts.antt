@@ -1,5 +1,5 @@
 -- Parts of the work of `select`.
-use Rattle.std.specs.Prelude.{◌≡◌, ℕ, ◌⊎◌, Bool, List, None}
+use Rattle.std.specs.Prelude.{◌≡◌, ℕ, ◌⊎◌, List, Option, Some, None}
 use Rattle.zi_outside.specs.Views.{Sinking}
 use Rattle.zi_universe.specs.declared.types.Requirement.{Requirement}
 use Rattle.zi_universe.specs.declared.types.Interface.{Interface}
@@ -17,7 +17,8 @@ use Rattle.zi_outcome.specs.declared.outcome.Outcome.{Outcome}
 use Rattle.zi_outcome.specs.declared.outcome.Outcome.TheVariants.{TooLarge, NoSolution, Spent, Memory}
 use Rattle.zi_outcome.specs.Writing.{PrintsThen, Prints}
 use Rattle.zi_choosing.specs.Loaded.{AreFew, AreMany}
-use Rattle.zi_choosing.specs.Select.{IsShown, refutation_text}
+use Rattle.zi_choosing.specs.declared.shows.Shows.{Shows}
+use Rattle.zi_choosing.specs.Select.{IsShown, refutation_text, refutation_shown}
 
 -- whatever a valid choice selects, each element of its document can be written
 abbrev pub CanBeWritten : List Interface → Requirement → Type 0
@@ -25,20 +26,29 @@ CanBeWritten universe req =
     (choice : Choice) → IsValid universe req choice → (sels : Selections) → AreSelected universe req choice sels → first_amiss (tree sels) ≡ None
 
 -- what shows a choice is printed, or there was no memory for it
-abbrev pub PrintsChoice : Bool → List Interface → Requirement → Choice → Sinking → Sinking → Outcome → Type 0
-PrintsChoice proof universe req choice old new outcome =
-    ((text : List ℕ) × IsShown proof universe req choice text × Prints text old new outcome)
+abbrev pub PrintsChoice : Shows → List Interface → Requirement → Choice → Sinking → Sinking → Outcome → Type 0
+PrintsChoice shows universe req choice old new outcome =
+    ((text : List ℕ) × IsShown shows universe req choice text × Prints text old new outcome)
     ⊎ ((outcome ≡ Memory) × (new ≡ old))
 
 -- a refutation is printed
 abbrev pub PrintsRefutation : Proof → Sinking → Sinking → Outcome → Type 0
 PrintsRefutation p old new outcome = PrintsThen (refutation_text p) (NoSolution p) old new outcome
 
--- what a search is for, how many lemmas it may learn, and whether a proof is wanted
+-- a text is printed, or there is none, and then this outcome
+abbrev pub PrintsSome : Option (List ℕ) → Outcome → Sinking → Sinking → Outcome → Type 0
+PrintsSome None ending old new outcome = (outcome ≡ ending) × (new ≡ old)
+PrintsSome (Some text) ending old new outcome = PrintsThen text ending old new outcome
+
+-- that there is no solution is printed, where it is shown
+abbrev pub PrintsNone : Shows → Proof → Sinking → Sinking → Outcome → Type 0
+PrintsNone shows p old new outcome = PrintsSome (refutation_shown shows p) (NoSolution p) old new outcome
+
+-- what a search is for, how many lemmas it may learn, and what is shown
 pub record Search : Type 0 where
   pub req : Requirement
   pub budget : ℕ
-  pub proof : Bool
+  pub shows : Shows
 
 -- nothing is printed, and this is why
 abbrev pub ChoosesNothing : Search → List Interface → Outcome → Type 0
@@ -52,15 +62,15 @@ pub record ChoosesBest (s : Search) (universe : List Interface) (old new : Sinki
   pub few : AreFew universe s.req
   pub choice : Choice
   pub best : IsBest universe s.req choice
-  pub printed : PrintsChoice s.proof universe s.req choice old new outcome
+  pub printed : PrintsChoice s.shows universe s.req choice old new outcome
 
--- there is none, and the refutation is printed
+-- there is none, and the refutation is printed if it is shown
 pub record ChoosesNone (s : Search) (universe : List Interface) (old new : Sinking) (outcome : Outcome) : Type 0 where
   pub few : AreFew universe s.req
   pub refutation : Proof
   pub refutes : Refutes universe s.req refutation
   pub none : NoneIsValid universe s.req
-  pub printed : PrintsRefutation refutation old new outcome
+  pub printed : PrintsNone s.shows refutation old new outcome
 
 -- what the choice from a universe says
 abbrev pub ChoosesFrom : Search → List Interface → Sinking → Sinking → Outcome → Type 0

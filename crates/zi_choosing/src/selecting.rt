@@ -1,5 +1,5 @@
-//! The work of `select`.
-ghost use Rattle.std.specs.Prelude.{◌≡◌, ◌≤◌, false, None, map};
+//! The work of `select`, and of `why`, which shows the best choice otherwise.
+ghost use Rattle.std.specs.Prelude.{◌≡◌, ◌≤◌, None, map};
 ghost use Rattle.zi_docout.specs.Amiss.{first_amiss};
 ghost use Rattle.zi_universe.specs.Whole.{BeginsWith};
 ghost use Rattle.zi_choice.specs.Valid.{IsValid};
@@ -9,12 +9,16 @@ ghost use Rattle.zi_sels.specs.Written.{tree, document};
 ghost use Rattle.zi_outcome.specs.declared.outcome.Outcome.TheVariants.{Spent};
 ghost use Rattle.zi_outcome.specs.Writing.{Prints};
 ghost use Rattle.zi_world.specs.Asking.{FeedsStay};
+ghost use Rattle.zi_choosing.specs.declared.shows.Shows.TheVariants.{Document};
+ghost use Rattle.zi_choosing.specs.Loaded.{DoesOver};
 ghost use Rattle.zi_choosing.specs.Select.{SelectsOver, Selects};
-ghost use Rattle.zi_choosing.specs.SelectParts.{CanBeWritten, PrintsChoice, PrintsRefutation, ChoosesFrom};
+ghost use Rattle.zi_choosing.specs.SelectParts.{CanBeWritten, PrintsChoice, PrintsRefutation, PrintsNone, ChoosesFrom};
 
 use crate::chosen::Chosen;
+use crate::explaining::put_report;
 use crate::formula::without_formula;
 use crate::known::{Known, known_of, load_over};
+use crate::shows::{Shows, shown_by};
 use crate::wanted::into_job;
 use std::alloc::Global;
 use std::mem;
@@ -74,7 +78,7 @@ fn put_selected<O: Sink>(
 ) -> Outcome
     requires valid { IsValid universe.now req.now choice.now.picks }
     requires written { CanBeWritten universe.now req.now }
-    ensures { PrintsChoice false universe.now req.now choice.now.picks (O.seen out.old) (O.seen out.new) result }
+    ensures { PrintsChoice Document universe.now req.now choice.now.picks (O.seen out.old) (O.seen out.new) result }
 {
     match from_choice(alloc, universe, req, choice) {
         Ok(sels) => put_sels(alloc, &sels, out),
@@ -82,25 +86,26 @@ fn put_selected<O: Sink>(
     }
 }
 
-// Writes what shows a choice: what it selects, or its certificate.
+// Writes what shows a choice: what it selects, its certificate, or the report on it.
 fn put_choice<O: Sink>(
     alloc: Global,
     req: &Requirement,
     universe: &Universe,
-    proof: bool,
+    shows: Shows,
     choice: &Choice,
     certificate: &Certificate,
     out: &mut O,
 ) -> Outcome
+    requires rooted { BeginsWith universe.now req.now.interface }
     requires excludes { Excludes universe.now req.now choice.now.picks certificate.now }
     requires valid { IsValid universe.now req.now choice.now.picks }
     requires written { CanBeWritten universe.now req.now }
-    ensures { PrintsChoice proof universe.now req.now choice.now.picks (O.seen out.old) (O.seen out.new) result }
+    ensures { PrintsChoice shows universe.now req.now choice.now.picks (O.seen out.old) (O.seen out.new) result }
 {
-    if proof {
-        put_certificate(alloc, certificate, out)
-    } else {
-        put_selected(alloc, req, universe, choice, out)
+    match shows {
+        Shows::Document => put_selected(alloc, req, universe, choice, out),
+        Shows::Certificate => put_certificate(alloc, certificate, out),
+        Shows::Reasons => put_report(alloc, req, universe, choice, certificate, out),
     }
 }
 
@@ -121,6 +126,16 @@ fn put_refutation<O: Sink>(alloc: Global, proof: Proof, out: &mut O) -> Outcome
     }
 }
 
+// Writes the refutation, if it is shown, and answers that there is no solution.
+fn put_none<O: Sink>(alloc: Global, shows: Shows, proof: Proof, out: &mut O) -> Outcome
+    ensures { PrintsNone shows proof (O.seen out.old) (O.seen out.new) result }
+{
+    match shows {
+        Shows::Document | Shows::Certificate => put_refutation(alloc, proof, out),
+        Shows::Reasons => Outcome::NoSolution { proof },
+    }
+}
+
 /// The outcome of a search that learned as many lemmas as it was let.
 pub(crate) fn spent(proof: Proof, count: u64) -> Outcome
     ensures { result ≡ Spent proof count }
@@ -134,13 +149,13 @@ fn choose<O: Sink>(
     req: &Requirement,
     universe: &Universe,
     budget: u64,
-    proof: bool,
+    shows: Shows,
     out: &mut O,
 ) -> Outcome
     requires rooted { BeginsWith universe.now req.now.interface }
     requires budget { budget ≤ 4000000000 }
     requires written { CanBeWritten universe.now req.now }
-    ensures { ChoosesFrom (record { req = req.now; budget = budget; proof = proof }) universe.now (O.seen out.old) (O.seen out.new) result }
+    ensures { ChoosesFrom (record { req = req.now; budget = budget; shows = shows }) universe.now (O.seen out.old) (O.seen out.new) result }
 {
     match solve(alloc, universe, req, budget) {
         Ok(
@@ -148,8 +163,8 @@ fn choose<O: Sink>(
                 choice,
                 certificate,
             },
-        ) => put_choice(alloc, req, universe, proof, &choice, &certificate, out),
-        Ok(Answer::None { proof: refutation }) => put_refutation(alloc, refutation, out),
+        ) => put_choice(alloc, req, universe, shows, &choice, &certificate, out),
+        Ok(Answer::None { proof: refutation }) => put_none(alloc, shows, refutation, out),
         Ok(
             Answer::Spent {
                 proof: learned,
@@ -164,13 +179,13 @@ fn choose<O: Sink>(
 fn select_over<F: Feeds, O: Sink>(
     alloc: Global,
     ask: Ask,
-    proof: bool,
+    shows: Shows,
     known: &Known,
     feeds: &mut F,
     out: &mut O,
 ) -> Outcome
     requires { ask.search ≤ 4000000000 }
-    ensures over { SelectsOver ask proof known.now
+    ensures over { SelectsOver ask shows known.now
         (record { feeds = F.seen feeds.old; out = O.seen out.old })
         (record { feeds = F.seen feeds.new; out = O.seen out.new })
         result }
@@ -183,12 +198,34 @@ fn select_over<F: Feeds, O: Sink>(
     what_is_chosen_can_be_written();
     match load_over(alloc, &job, known, feeds) {
         Ok(universe) => {
-            let outcome = choose(alloc, &job.req, &universe, budget, proof, out);
+            let outcome = choose(alloc, &job.req, &universe, budget, shows, out);
             // The program ends behind this, and to take all apart would take a tenth of its time.
             mem::forget(universe);
             outcome
         }
         Err(fault) => refused(fault),
+    }
+}
+
+/// Finds out which digests are in which store, loads what is asked for, chooses, and shows the choice.
+pub(crate) fn select_shown<F: Feeds, K: Shelf, R: Shelf, O: Sink>(
+    alloc: Global,
+    ask: Ask,
+    shows: Shows,
+    feeds: &mut F,
+    shelf: &mut K,
+    others: &mut [R],
+    out: &mut O,
+) -> Outcome
+    requires { ask.search ≤ 4000000000 }
+    ensures { DoesOver (SelectsOver ask shows)
+        (record { feeds = F.seen feeds.old; shelf = K.seen shelf.old; others = map R.seen others.old; out = O.seen out.old })
+        (record { feeds = F.seen feeds.new; shelf = K.seen shelf.new; others = map R.seen others.new; out = O.seen out.new })
+        result }
+{
+    match known_of(alloc, shelf, others) {
+        Ok(known) => select_over(alloc, ask, shows, &known, feeds, out),
+        Err(outcome) => outcome,
     }
 }
 
@@ -210,8 +247,5 @@ pub fn select<F: Feeds, K: Shelf, R: Shelf, O: Sink>(
         (record { feeds = F.seen feeds.new; shelf = K.seen shelf.new; others = map R.seen others.new; out = O.seen out.new })
         result }
 {
-    match known_of(alloc, shelf, others) {
-        Ok(known) => select_over(alloc, ask, proof, &known, feeds, out),
-        Err(outcome) => outcome,
-    }
+    select_shown(alloc, ask, shown_by(proof), feeds, shelf, others, out)
 }

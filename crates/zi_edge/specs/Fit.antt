@@ -18,4 +18,4 @@ abbrev pub is_whole : Dir → Bool
 is_whole dir = is_absolute dir.folder
 
 abbrev pub is_fit : Launch → Bool
-is_fit launch = has_program launch.words && list_all is_whole launch.dirs
+is_fit launch = has_program launch.words && (list_all is_whole launch.dirs && list_all is_whole launch.shims)

@@ -83,7 +83,7 @@ fn check(launch: &Launch) -> Result<(), Trouble>
     if !is_absolute(program) {
         return Err(Trouble::Failed(Reason::IsNot("named by a whole path")));
     }
-    if !are_whole(launch.dirs.as_slice()) {
+    if !are_whole(launch.dirs.as_slice()) || !are_whole(launch.shims.as_slice()) {
         return Err(Trouble::Failed(Reason::IsNot("given folders by whole paths")));
     }
     Ok(())

@@ -17,7 +17,8 @@ use Rattle.zi_choosing.specs.declared.known.Known.{Known}
 use Rattle.zi_choosing.specs.Knowing.{all_names, IsKnown}
 use Rattle.zi_fetching.specs.Known.{names_of}
 use Rattle.zi_launching.specs.Launching.{LaunchesOver}
-use Rattle.zi_launching.specs.Opening.{GetsSelections, LaunchesFile}
+use Rattle.zi_opening.specs.Opening.{GetsSelections}
+use Rattle.zi_launching.specs.Opening.{LaunchesFile}
 use Rattle.zi_launching.proofs.LaunchLaws.{reads_then}
 use Rattle.zi_launching.proofs.RunLaws.{lift_over, all_named, all_only_read}
 

@@ -1,56 +1,23 @@
 //! The work of `launch`.
-ghost use Rattle.std.specs.Prelude.{◌≡◌, ◌+◌, ◌∷◌, map, length, MatchResult};
+ghost use Rattle.std.specs.Prelude.{◌≡◌, ◌+◌, ◌∷◌, map, length};
 ghost use Rattle.zi_outside.specs.Views.{Feeding, Sinking};
 ghost use Rattle.zi_store.specs.Keeping.{Keeps, is_reading};
 ghost use Rattle.zi_store.specs.Stores.{Each};
-ghost use Rattle.zi_sels.specs.Reading.{Says};
-ghost use Rattle.zi_world.specs.Asking.{FeedsStay};
 ghost use Rattle.zi_choosing.specs.Knowing.{all_names};
 ghost use Rattle.zi_fetching.specs.Known.{names_of};
 ghost use Rattle.zi_launching.specs.Launching.{LaunchesOver};
-ghost use Rattle.zi_launching.specs.Opening.{IsUnread, GetsSelections, LaunchesFile};
+ghost use Rattle.zi_launching.specs.Opening.{LaunchesFile};
 
 use crate::launching::launch_over;
 use std::alloc::Global;
 use zi_choosing::{Known, known_of};
 use zi_fetching::Stored;
+use zi_opening::get_selections;
 use zi_outcome::Outcome;
-use zi_outside::{Feeds, FeedsFault, Got, Spawner, Vars};
-use zi_sels::{Selections, SelsFault, read};
+use zi_outside::{Feeds, Spawner, Vars};
+use zi_sels::Selections;
 use zi_shelf::Shelf;
 use zi_text::Text;
-
-// How many bytes a document of selections may have: 4 MiB.
-const DOCUMENT_LIMIT: u64 = 4_194_304;
-
-// The selections that bytes mean.
-fn read_selections(alloc: Global, bytes: &[u8]) -> Result<Selections, Outcome>
-    ensures { MatchResult result (Says bytes.now) (IsUnread bytes.now) }
-{
-    match read(alloc, bytes) {
-        Ok(sels) => Ok(sels),
-        Err(SelsFault::Memory) => Err(Outcome::Memory),
-        Err(fault) => Err(Outcome::BadSels { fault }),
-    }
-}
-
-// The selections of a file.
-fn get_selections<F: Feeds>(alloc: Global, file: Text, feeds: &mut F) -> Result<Selections, Outcome>
-    ensures gets { GetsSelections file (F.seen feeds.old) result (F.seen feeds.new) }
-    ensures stays { FeedsStay (F.seen feeds.old) (F.seen feeds.new) }
-{
-    let mut bytes = Vec::new(alloc);
-    match feeds.get(file.as_str(), DOCUMENT_LIMIT, &mut bytes) {
-        Ok(Got::Held) => read_selections(alloc, bytes.as_slice()),
-        Ok(Got::Absent) => Err(Outcome::NoFile { name: file }),
-        Ok(Got::TooLong) => Err(Outcome::FeedTooLong {
-            uri: file,
-            limit: DOCUMENT_LIMIT,
-        }),
-        Err(FeedsFault::Failed) => Err(Outcome::FeedRead { uri: file }),
-        Err(FeedsFault::Memory) => Err(Outcome::Memory),
-    }
-}
 
 // Launches selections over the digest names in the stores.
 fn launch_known<K: Shelf, R: Shelf, P: Spawner>(

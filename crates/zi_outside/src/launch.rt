@@ -13,6 +13,8 @@ pub struct Launch {
     pub vars: Vars,
     /// The folders that it is given, in the order of the selections.
     pub dirs: List<Dir>,
+    /// The folders of small programs, shims, that it is given: one for each binding that makes a command available, in the order of the bindings.
+    pub shims: List<Dir>,
 }
 
 /// A folder that a launch exposes.
@@ -67,6 +69,7 @@ impl Launch {
             words: copy_words(alloc, self.words.as_slice())?,
             vars: self.vars.copy(alloc)?,
             dirs: copy_dirs(alloc, self.dirs.as_slice())?,
+            shims: copy_dirs(alloc, self.shims.as_slice())?,
         })
     }
 }

@@ -51,8 +51,8 @@ module _ (ps : List Placed) (vars : List Var) (user : List (List ℕ)) (links : 
   words_refused n b new v e h = unless_memory e (λ f. in_order n b new v ∙ ap (launched ps new) f) h
 
   pub all_launched : last_fault links ≡ None → binding_fault (all_bindings ps) ≡ None → (new : List Var) → new ≡ bound_by (all_bindings ps) vars → (words : List (List ℕ)) (dirs : List Dir)
-      → said user (spoken_all (value_of new) (chain_words links)) ≡ Ok words → dirs ≡ exposed ps → of_chain ps vars user links ≡ Ok (record { words = words; vars = new; dirs = dirs })
-  all_launched n b new v words dirs w d = in_order n b new v ∙ ap (launched ps new) w ∙ ap {B = Result Launch PlanFault} (λ ds. Ok (record { words = words; vars = new; dirs = ds })) (sym d)
+      → said user (spoken_all (value_of new) (chain_words links)) ≡ Ok words → dirs ≡ exposed ps → of_chain ps vars user links ≡ Ok (record { words = words; vars = new; dirs = dirs; shims = [] })
+  all_launched n b new v words dirs w d = in_order n b new v ∙ ap (launched ps new) w ∙ ap {B = Result Launch PlanFault} (λ ds. Ok (record { words = words; vars = new; dirs = ds; shims = [] })) (sym d)
 
 -- The chain is followed.
 module _ (ps : List Placed) (vars : List Var) (user : List (List ℕ)) (asked : Asked) where

@@ -26,7 +26,7 @@ said user (Ok words) = Ok (words ++ user)
 said user (Err reason) = Err (fault.Bind reason)
 
 abbrev pub launched : List Placed → List Var → Result (List (List ℕ)) PlanFault → Result Launch PlanFault
-launched ps vars (Ok words) = Ok (record { words = words; vars = vars; dirs = exposed ps })
+launched ps vars (Ok words) = Ok (record { words = words; vars = vars; dirs = exposed ps; shims = [] })
 launched ps vars (Err reason) = Err reason
 
 -- Behind the checks of the chain: its last command has a path, then each binding can be applied, then each argument stands for

@@ -50,7 +50,12 @@ fn launch_of(
     apply_all(alloc, table, &mut vars)?;
     let words = words(alloc, links, &vars, user)?;
     let dirs = exposed(alloc, table.all())?;
-    Ok(Launch { words, vars, dirs })
+    Ok(Launch {
+        words,
+        vars,
+        dirs,
+        shims: List::new(alloc),
+    })
 }
 
 // The launch by the chain from a command on.

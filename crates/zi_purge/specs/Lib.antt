@@ -3,6 +3,7 @@ pub mod Law
 pub mod Invariant
 pub mod Phases
 pub mod Stepping
+pub mod Blaming
 pub mod Progress
 pub mod Tie
 pub mod StoreLaws

@@ -2,8 +2,9 @@
 
 ghost use Rattle.std.specs.Prelude.{◌≡◌, ◌++◌, ◌∷◌, [], ◌<◌, true, false, IfOk, OnOk};
 ghost use Rattle.std.specs.Vec.{vec_len, vec_capacity};
-ghost use Rattle.zi_session.specs.Phases.{tmp_name};
+ghost use Rattle.zi_session.specs.Phases.{tmp_name, blamed_name};
 ghost use Rattle.zi_purge.specs.Stepping.{standing, IsStep};
+ghost use Rattle.zi_purge.specs.Blaming.{blamed, Blames};
 ghost use Rattle.zi_purge.specs.Progress.{has_ended, Advances};
 ghost use Rattle.zi_purge.specs.Keeping.{KeepsShelf};
 ghost use Rattle.zi_purge.specs.declared.phase.Phase.TheVariants.{Moves, Seals, Clears, Closes};
@@ -26,6 +27,7 @@ impl Purge {
         ensures steps { has_ended (standing self.old).phase ≡ false → IsStep (standing self.old) (K.seen k.old) result (standing self.new) (K.seen k.new) }
         ensures over { has_ended (standing self.old).phase ≡ true → (result ≡ PurgeStep.Over) × (k.new ≡ k.old) × (self.new ≡ self.old) }
         ensures advances { Advances (standing self.old) result (standing self.new) }
+        ensures blames { Blames result (blamed self.new) }
         ensures keeps { KeepsShelf (standing self.old) (K.seen k.old) result (standing self.new) (K.seen k.new) }
     {
         match self.phase {
@@ -37,10 +39,23 @@ impl Purge {
         }
     }
 
+    /// The temporary name that the call named at which the shelf failed. The text is empty where it named none, and where the
+    /// purger hasn't ended by a fault. It takes no memory.
+    pub fn into_blamed(self, alloc: Global) -> Text
+        ensures { result ≡ blamed_name (blamed self) }
+    {
+        let Purge { phase, tmp, .. } = self;
+        match phase {
+            Phase::IsStuck => tmp,
+            _ => Text::new(alloc),
+        }
+    }
+
     /// Renames the next name to the next temporary name.
     fn take_away<K: Shelf>(&mut self, alloc: Global, k: &mut K) -> PurgeStep
         requires { self.old.phase ≡ Moves }
         ensures steps { IsStep (standing self.old) (K.seen k.old) result (standing self.new) (K.seen k.new) }
+        ensures blames { Blames result (blamed self.new) }
     {
         let Ok(tmp) = name_of(alloc, self.number) else {
             return PurgeStep::Memory;
@@ -87,6 +102,7 @@ impl Purge {
     fn seal<K: Shelf>(&mut self, k: &mut K) -> PurgeStep
         requires { self.old.phase ≡ Seals }
         ensures steps { IsStep (standing self.old) (K.seen k.old) result (standing self.new) (K.seen k.new) }
+        ensures blames { Blames result (blamed self.new) }
     {
         match k.settle_top() {
             Ok(()) => {
@@ -105,6 +121,7 @@ impl Purge {
     fn clear<K: Shelf>(&mut self, k: &mut K) -> PurgeStep
         requires { self.old.phase ≡ Clears }
         ensures steps { IsStep (standing self.old) (K.seen k.old) result (standing self.new) (K.seen k.new) }
+        ensures blames { Blames result (blamed self.new) }
     {
         match k.remove_top(self.tmp.as_str()) {
             Ok(()) => {
@@ -132,6 +149,7 @@ impl Purge {
     fn close<K: Shelf>(&mut self, k: &mut K) -> PurgeStep
         requires { self.old.phase ≡ Closes }
         ensures steps { IsStep (standing self.old) (K.seen k.old) result (standing self.new) (K.seen k.new) }
+        ensures blames { Blames result (blamed self.new) }
     {
         match k.settle_top() {
             Ok(()) => {

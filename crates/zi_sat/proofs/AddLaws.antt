@@ -1,5 +1,5 @@
 -- One constraint more.
-use Rattle.std.proofs.Common.{◌≡◌, ℕ, zero, suc, ◌<◌, ◌≤◌, ◌+◌, ◌-◌, ◌*◌, Bool, true, false, cond, List, [], ◌∷◌, ◌++◌, length, length-append, map, take, get_or, refl, sym, ap, ◌∙◌, subst, arith, Option, Some, None, ◌⊎◌, inl, inr}
+use Rattle.std.proofs.Common.{◌≡◌, ℕ, zero, suc, ◌<◌, ◌≤◌, ◌+◌, ◌-◌, ◌*◌, Bool, true, false, cond, List, [], ◌∷◌, ◌++◌, length, length-append, map, take, get_or, set, refl, sym, ap, ◌∙◌, subst, arith, Option, Some, None, ◌⊎◌, inl, inr, All}
 use Rattle.std.specs.List.{slice_get}
 use Rattle.std.proofs.lemmas.Bool.{false≢true}
 use Rattle.std.proofs.lemmas.List.{get_or_append_left, get_or_push}
@@ -7,7 +7,7 @@ use Rattle.std.proofs.lemmas.Option.{slice_get_within, get_or_from_slice_get}
 use Rattle.zi_formula.specs.declared.formula.Lit.{Lit}
 use Rattle.zi_formula.specs.declared.formula.Constraint.{Constraint}
 use Rattle.zi_formula.specs.declared.formula.Constraint.TheVariants.{Clause, AtMostOne}
-use Rattle.zi_formula.specs.Form.{same_lit, has_lit, Once, OnceAll}
+use Rattle.zi_formula.specs.Form.{LitsWithin, same_lit, has_lit, Once, OnceAll}
 use Rattle.zi_formula.specs.declared.formula.Formula.{Formula}
 use Rattle.zi_proof.specs.declared.proof.Lemma.{Lemma}
 use Rattle.zi_proof.specs.Accepted.{citable, lemma_clause}
@@ -19,11 +19,17 @@ use Rattle.zi_sat.proofs.FreshLaws.{filled_once}
 use Rattle.zi_sat.proofs.MoveLaws.{citable_push}
 use Rattle.zi_sat.specs.declared.pair.Pair.{Pair}
 use Rattle.zi_sat.specs.declared.watches.Watches.{Watches as Lists}
-use Rattle.zi_sat.specs.Rows.{Has}
-use Rattle.zi_sat.specs.Guard.{row_of, pair_at, Held, AllHeld, AllCalm, Adds, Guard, Fitting, Ready}
+use Rattle.zi_sat.specs.Rows.{Has, row_at}
+use Rattle.zi_sat.specs.declared.rows.Watcher.{Watcher}
+use Rattle.zi_proof.proofs.Cites.{get_before}
+use Rattle.std.proofs.lemmas.List.Elements.{All-nil}
+use Rattle.zi_sat.specs.Guard.{row_of, pair_at, Held, Blocks, Fits, AllFit, EachHeld, AllHeld, AllCalm, LastTwo, Adds, Guard, Fitting, Ready}
 use Rattle.zi_sat.specs.Watching.{Watches}
 use Rattle.zi_sat.proofs.VisitLaws.{citable_length}
 use Rattle.zi_sat.proofs.CalmLaws.{calm_start}
+use Rattle.zi_sat.proofs.GuardLaws.{lit_within, row_low}
+use Rattle.zi_sat.proofs.RowLaws.{add_grows, add_has, add_all}
+use Rattle.std.proofs.lemmas.List.{length-set}
 use Rattle.zi_sat.proofs.CountLaws.{or_case, head_in, lit_self}
 
 pub has_at : (ls : List Lit) (i : ℕ) (d : Lit) → i < length ls → has_lit ls (get_or ls i d) ≡ true
@@ -85,18 +91,67 @@ held_wider h g n None (Clause ls) m d = d
 held_wider h g n (Some p) (Clause ls) m d = (d.0, m (row_of p.first) d.1, m (row_of p.second) d.2)
 held_wider h g n p (AtMostOne xs) m d = λ x i. m _ (d x i)
 
-pub added_held : (w v : Lists) (all : List Constraint) (c : Constraint) → length w.pairs ≡ length all → Adds w v c → AllHeld w all → AllHeld v (all ++ c ∷ [])
-added_held w v all c len a h n d e =
+each_held : (w v : Lists) (all : List Constraint) (c : Constraint) → length w.pairs ≡ length all → Adds w v c → EachHeld w.rows w.pairs all → EachHeld v.rows v.pairs (all ++ c ∷ [])
+each_held w v all c len a h n d e =
     elim (push_case all c d n e) [
       | inl p ↦
           let low : n < length w.pairs = omega (arith, p.0, len) in
           let same : pair_at v.pairs n ≡ pair_at w.pairs n = ap (λ ps. get_or ps n None) a.pairs ∙ get_or_append_left w.pairs (a.pair ∷ []) None n low in
-          subst (λ q. Held (Has v.rows.items) n q d) (sym same) (held_wider (Has w.rows.items) (Has v.rows.items) n (pair_at w.pairs n) d (λ q x. a.grows q n x) (h n d p.1))
+          subst (λ q. Held (Has v.rows) n q d) (sym same) (held_wider (Has w.rows) (Has v.rows) n (pair_at w.pairs n) d (λ q x. a.grows q n x) (h n d p.1))
       | inr p ↦
           let at : n ≡ length w.pairs = p.0 ∙ sym len in
           let same : pair_at v.pairs n ≡ a.pair = ap (λ ps. get_or ps n None) a.pairs ∙ get_or_push w.pairs a.pair None n (sym at) in
-          subst (λ q. Held (Has v.rows.items) n q d) (sym same) (subst (λ m. Held (Has v.rows.items) m a.pair d) (sym at) (subst (Held (Has v.rows.items) (length w.pairs) a.pair) p.1 a.held))
+          subst (λ q. Held (Has v.rows) n q d) (sym same) (subst (λ m. Held (Has v.rows) m a.pair d) (sym at) (subst (Held (Has v.rows) (length w.pairs) a.pair) p.1 a.held))
     ]
+
+pub added_held : (w v : Lists) (all : List Constraint) (c : Constraint) → length w.pairs ≡ length all → Adds w v c → AllHeld w all → AllHeld v (all ++ c ∷ [])
+added_held w v all c len a h = (each_held w v all c len a h.0, a.fits all (sym len) h.1)
+
+-- what stands in the rows fits them with one constraint more
+
+fits_more : (all : List Constraint) (c : Constraint) (q : ℕ) (w : Watcher) → Fits all q w → Fits (all ++ c ∷ []) q w
+fits_more all c q w (d, e, b) = (d, get_before all (c ∷ []) w.place d e, b)
+
+pub all_fit_more : (rows : List (List Watcher)) (all : List Constraint) (c : Constraint) → AllFit rows all → AllFit rows (all ++ c ∷ [])
+all_fit_more rows all c h q k d low = fits_more all c q (get_or (row_at rows q) k d) (h q k d low)
+
+last_get : (all : List Constraint) (c : Constraint) → slice_get (all ++ c ∷ []) (length all) ≡ Some c
+last_get [] c = refl
+last_get (x ∷ all) c = last_get all c
+
+pub fits_last : (all : List Constraint) (c : Constraint) (n q : ℕ) (w : Watcher) → length all ≡ n → w.place ≡ n → Blocks c q w.block → Fits (all ++ c ∷ []) q w
+fits_last all c n q w e f b = (c, ap (slice_get (all ++ c ∷ [])) (f ∙ sym e) ∙ last_get all c, b)
+
+pub none_fit : (rows : List (List Watcher)) (all : List Constraint) → ((q : ℕ) → row_at rows q ≡ []) → AllFit rows all
+none_fit rows all h q = subst (All (Fits all q)) (sym (h q)) (All-nil (Fits all q))
+
+-- a clause is added with a pair
+pub pair_adds : (w v : Lists) (more : List (List Watcher)) (r s i n : ℕ) (ls : List Lit) (p : Pair) → LitsWithin n ls → Watches ls p.first p.second → LastTwo (Clause ls) (Some p) → n * 2 + 2 ≤ length w.rows → i ≡ length w.pairs → r ≡ row_of p.first → s ≡ row_of p.second → more ≡ set w.rows r (row_at w.rows r ++ record { place = i; block = p.second } ∷ []) → v.rows ≡ set more s (row_at more s ++ record { place = i; block = p.first } ∷ []) → v.pairs ≡ w.pairs ++ Some p ∷ [] → Adds w v (Clause ls)
+pair_adds w v more r s i n ls p a b l rows at x y e f g =
+    let one : Watcher = record { place = i; block = p.second } in
+    let two : Watcher = record { place = i; block = p.first } in
+    let first : r < length w.rows = subst (λ q. q < length w.rows) (sym x) (row_low n (length w.rows) p.first (lit_within n ls p.first a b.first).1 rows) in
+    let size : length more ≡ length w.rows = ap length e ∙ length-set w.rows r (row_at w.rows r ++ record { place = i; block = p.second } ∷ []) in
+    let wide : n * 2 + 2 ≤ length more = omega (arith, rows, size) in
+    let second : s < length more = subst (λ q. q < length more) (sym y) (row_low n (length more) p.second (lit_within n ls p.second a b.second).1 wide) in
+    let here : Has more r i = add_has w.rows more r (record { place = i; block = p.second }) first e in
+    let there : Has v.rows s i = add_has more v.rows s (record { place = i; block = p.first }) second f in
+    let grows : (q m : ℕ) → Has more q m → Has v.rows q m = add_grows more v.rows s (record { place = i; block = p.first }) second f in
+    record {
+      pair = Some p;
+      pairs = g;
+      held = (b, subst (Has v.rows (row_of p.first)) at (subst (λ q. Has v.rows q i) x (grows r i here)), subst (Has v.rows (row_of p.second)) at (subst (λ q. Has v.rows q i) y there));
+      last = l;
+      grows = λ q m h. grows q m (add_grows w.rows more r (record { place = i; block = p.second }) first e q m h);
+      fits = λ all z h. add_all (Fits (all ++ Clause ls ∷ [])) more v.rows s (record { place = i; block = p.first }) second f (fits_last all (Clause ls) i s (record { place = i; block = p.first }) (z ∙ sym at) refl b.first) (add_all (Fits (all ++ Clause ls ∷ [])) w.rows more r (record { place = i; block = p.second }) first e (fits_last all (Clause ls) i r (record { place = i; block = p.second }) (z ∙ sym at) refl b.second) (all_fit_more w.rows all (Clause ls) h));
+    }
+
+pub start_held : (w : Lists) (cs : List Constraint) → ((q : ℕ) → row_at w.rows q ≡ []) → AllHeld w (take 0 cs)
+start_held w cs h = (λ n c e. absurd (none cs n c e), none_fit w.rows (take 0 cs) h)
+  where
+    none : (cs : List Constraint) (n : ℕ) (c : Constraint) → slice_get (take 0 cs) n ≡ Some c → ⊥
+    none [] n c e = let z : ◌≡◌ {A = Option Constraint} None (Some c) = e in absurd (cc)
+    none (x ∷ cs) n c e = let z : ◌≡◌ {A = Option Constraint} None (Some c) = e in absurd (cc)
 
 pub added_len : (w v : Lists) (c : Constraint) → Adds w v c → length v.pairs ≡ length w.pairs + 1
 added_len w v c a = omega (arith, ap length a.pairs, length-append w.pairs (a.pair ∷ []))
@@ -140,7 +195,7 @@ once_citable cs ms a b = once_both cs (map lemma_clause ms) a (filled_once ms b)
 
 start_guard : (k : Known) (p : Option Pair) (c : Constraint) → Guard nothing k p c
 start_guard k None (Clause ls) = tt
-start_guard k (Some p) (Clause ls) = inr (inr (refl, refl))
+start_guard k (Some p) (Clause ls) = inr (refl, refl)
 start_guard k p (AtMostOne xs) = λ x y i j e n. let z : ◌≡◌ {A = Option Bool} None (Some true) = e in absurd (cc)
 
 pub ready_start : (w : Lists) (f : Formula) (ms : List Lemma) (es : List Entry) → es ≡ [] → Fitting w f ms → w.seen ≡ 0 → Ready w f ms es
@@ -152,7 +207,7 @@ ready_start w f ms es none h z =
     take_zero [] = refl
     take_zero (e ∷ es) = refl
 
-pub fitting_more : (w v : Lists) (f : Formula) (ms ns : List Lemma) (m : Lemma) (ls : List Lit) → ns ≡ ms ++ m ∷ [] → ls ≡ m.lits → length v.rows.items ≡ length w.rows.items → Adds w v (Clause ls) → Fitting w f ms → Fitting v f ns
+pub fitting_more : (w v : Lists) (f : Formula) (ms ns : List Lemma) (m : Lemma) (ls : List Lit) → ns ≡ ms ++ m ∷ [] → ls ≡ m.lits → length v.rows ≡ length w.rows → Adds w v (Clause ls) → Fitting w f ms → Fitting v f ns
 fitting_more w v f ms ns m ls e g r a h =
     let all : length w.pairs ≡ length (citable f.constraints ms) = h.1 ∙ sym (citable_length f.constraints ms) in
     let held : AllHeld v (citable f.constraints ms ++ Clause ls ∷ []) = added_held w v (citable f.constraints ms) (Clause ls) all a h.0 in
@@ -172,4 +227,6 @@ last_is ms ns m e d =
 
 pub fitting_same : (w v : Lists) (f : Formula) (ms ns : List Lemma) → v.rows ≡ w.rows → v.pairs ≡ w.pairs → ms ≡ ns → Fitting w f ms → Fitting v f ns
 fitting_same w v f ms ns a b s h =
-    subst (Fitting v f) s (λ n d e. subst (λ r. Held (Has r.items) n (pair_at v.pairs n) d) (sym a) (subst (λ p. Held (Has w.rows.items) n (pair_at p n) d) (sym b) (h.0 n d e)), ap length b ∙ h.1, subst (λ r. f.variables * 2 + 2 ≤ length r.items) (sym a) h.2)
+    let held : EachHeld v.rows v.pairs (citable f.constraints ms) = subst (λ r. EachHeld r v.pairs (citable f.constraints ms)) (sym a) (subst (λ p. EachHeld w.rows p (citable f.constraints ms)) (sym b) h.0.0) in
+    let fit : AllFit v.rows (citable f.constraints ms) = subst (λ r. AllFit r (citable f.constraints ms)) (sym a) h.0.1 in
+    subst (Fitting v f) s ((held, fit), ap length b ∙ h.1, subst (λ r. f.variables * 2 + 2 ≤ length r) (sym a) h.2)

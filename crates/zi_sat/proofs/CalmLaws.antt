@@ -18,7 +18,9 @@ use Rattle.zi_sat.specs.Moves.{Move, Decide, Apply, hinted, entries_of, Implied,
 use Rattle.zi_sat.specs.Fresh.{at_decision}
 use Rattle.zi_sat.specs.Marking.{among, Covered}
 use Rattle.zi_sat.specs.Watching.{Quiet, QuietAt}
-use Rattle.zi_sat.specs.Guard.{pair_at, Guard, Moved, Visited, Each, AllGuard, CalmPair, Calm, AllCalm}
+use Rattle.zi_sat.specs.Guard.{pair_at, Beside, Guard, Visited, Each, AllGuard, CalmPair, Calm, AllCalm}
+use Rattle.zi_sat.specs.declared.watch.Visit.{Visit}
+use Rattle.zi_sat.specs.declared.watch.Visit.TheVariants.{Stays, Moves, Clashes}
 use Rattle.zi_sat.proofs.FreshStep.{open_not_false}
 use Rattle.zi_sat.proofs.FreshLaws.{at_by, open_front, open_later}
 use Rattle.zi_sat.proofs.LessonLaws.{among_open}
@@ -28,77 +30,76 @@ use Rattle.zi_sat.proofs.WatchLaws.{moved_all, cut_quiet}
 
 -- one pair
 
-quiet_append : (a b : Lit) (k : Known) (es fs : List Entry) → QuietAt a b k es → QuietAt a b (learn k (lits_of es)) fs → QuietAt a b k (es ++ fs)
-quiet_append a b k [] fs q r = r
-quiet_append a b k (e ∷ es) fs q r = (q.0, quiet_append a b (put k e.lit) es fs q.1 r)
+quiet_append : (xs : List Lit) (a b : Lit) (k : Known) (es fs : List Entry) → QuietAt xs a b k es → QuietAt xs a b (learn k (lits_of es)) fs → QuietAt xs a b k (es ++ fs)
+quiet_append xs a b k [] fs q r = r
+quiet_append xs a b k (e ∷ es) fs q r = (q.0, quiet_append xs a b (put k e.lit) es fs q.1 r)
 
-quiet_hinted : (a b : Lit) (k : Known) (h : ℕ) (ls : List Lit) → QuietAt a b k (hinted h ls)
-quiet_hinted a b k h [] = tt
-quiet_hinted a b k h (l ∷ ls) = (tt, quiet_hinted a b (put k l) h ls)
+quiet_hinted : (xs : List Lit) (a b : Lit) (k : Known) (h : ℕ) (ls : List Lit) → QuietAt xs a b k (hinted h ls)
+quiet_hinted xs a b k h [] = tt
+quiet_hinted xs a b k h (l ∷ ls) = (tt, quiet_hinted xs a b (put k l) h ls)
 
-quiet_implied : (a b : Lit) (all : List Constraint) (k : Known) (ms : List Move) → Implied all k ms → QuietAt a b k (entries_of ms)
-quiet_implied a b all k [] i = tt
-quiet_implied a b all k (Decide l ∷ ms) i = absurd i
-quiet_implied a b all k (Apply h ls ∷ ms) i =
-    quiet_append a b k (hinted h ls) (entries_of ms) (quiet_hinted a b k h ls) (subst (λ xs. QuietAt a b (learn k xs) (entries_of ms)) (sym (lits-hinted h ls)) (quiet_implied a b all (learn k ls) ms i.1))
+quiet_implied : (xs : List Lit) (a b : Lit) (all : List Constraint) (k : Known) (ms : List Move) → Implied all k ms → QuietAt xs a b k (entries_of ms)
+quiet_implied xs a b all k [] i = tt
+quiet_implied xs a b all k (Decide l ∷ ms) i = absurd i
+quiet_implied xs a b all k (Apply h ls ∷ ms) i =
+    quiet_append xs a b k (hinted h ls) (entries_of ms) (quiet_hinted xs a b k h ls) (subst (λ ys. QuietAt xs a b (learn k ys) (entries_of ms)) (sym (lits-hinted h ls)) (quiet_implied xs a b all (learn k ls) ms i.1))
 
-swap : (k : Known) (a b : Lit) → Quiet k a b → Quiet k b a
-swap k a b (inl t) = inr (inl t)
-swap k a b (inr (inl t)) = inl t
-swap k a b (inr (inr n)) = inr (inr (n.1, n.0))
+swap : (k : Known) (xs : List Lit) (a b : Lit) → Quiet k xs a b → Quiet k xs b a
+swap k xs a b (inl t) = inl t
+swap k xs a b (inr n) = inr (n.1, n.0)
 
-swap_why : (w : Why) (k : Known) (a b : Lit) → at_decision w (Quiet k a b) → at_decision w (Quiet k b a)
-swap_why Decision k a b q = swap k a b q
-swap_why (Hint h) k a b q = tt
+swap_why : (w : Why) (k : Known) (xs : List Lit) (a b : Lit) → at_decision w (Quiet k xs a b) → at_decision w (Quiet k xs b a)
+swap_why Decision k xs a b q = swap k xs a b q
+swap_why (Hint h) k xs a b q = tt
 
-quiet_swap : (a b : Lit) (k : Known) (es : List Entry) → QuietAt a b k es → QuietAt b a k es
-quiet_swap a b k [] q = tt
-quiet_swap a b k (e ∷ es) q = (swap_why e.why k a b q.0, quiet_swap a b (put k e.lit) es q.1)
+quiet_swap : (xs : List Lit) (a b : Lit) (k : Known) (es : List Entry) → QuietAt xs a b k es → QuietAt xs b a k es
+quiet_swap xs a b k [] q = tt
+quiet_swap xs a b k (e ∷ es) q = (swap_why e.why k xs a b q.0, quiet_swap xs a b (put k e.lit) es q.1)
 
-quiet_at : (a b : Lit) (k : Known) (es : List Entry) (i : ℕ) (d : Entry) → QuietAt a b k es → i < length es → (get_or es i d).why ≡ Decision → Quiet (learn k (lits_of (take i es))) a b
-quiet_at a b k [] i d q low w = absurd (omega arith)
-quiet_at a b k (e ∷ es) zero d q low w = at_by e.why (Quiet k a b) w q.0
-quiet_at a b k (e ∷ es) (suc i) d q low w = quiet_at a b (put k e.lit) es i d q.1 (omega arith) w
+quiet_at : (xs : List Lit) (a b : Lit) (k : Known) (es : List Entry) (i : ℕ) (d : Entry) → QuietAt xs a b k es → i < length es → (get_or es i d).why ≡ Decision → Quiet (learn k (lits_of (take i es))) xs a b
+quiet_at xs a b k [] i d q low w = absurd (omega arith)
+quiet_at xs a b k (e ∷ es) zero d q low w = at_by e.why (Quiet k xs a b) w q.0
+quiet_at xs a b k (e ∷ es) (suc i) d q low w = quiet_at xs a b (put k e.lit) es i d q.1 (omega arith) w
 
 -- a constraint
 
 pub pair_added : (all : List Constraint) (es fs : List Entry) (p : Option Pair) (c : Constraint) → Added all es fs → Calm es p c → Calm fs p c
 pair_added all es fs None (Clause ls) a h = tt
 pair_added all es fs (Some p) (Clause ls) (ms, f, i) h =
-    subst (QuietAt p.first p.second nothing) (sym f) (quiet_append p.first p.second nothing es (entries_of ms) h (quiet_implied p.first p.second all (known_from es) ms i))
+    subst (QuietAt ls p.first p.second nothing) (sym f) (quiet_append ls p.first p.second nothing es (entries_of ms) h (quiet_implied ls p.first p.second all (known_from es) ms i))
 pair_added all es fs p (AtMostOne xs) a h = tt
 
 pair_decided : (es fs : List Entry) (l : Lit) (p : Option Pair) (c : Constraint) → fs ≡ es ++ record { lit = l; why = Decision } ∷ [] → Guard (known_from es) (known_from es) p c → Calm es p c → Calm fs p c
 pair_decided es fs l None (Clause ls) f g h = tt
 pair_decided es fs l (Some p) (Clause ls) f g h =
-    subst (QuietAt p.first p.second nothing) (sym f) (quiet_append p.first p.second nothing es (record { lit = l; why = Decision } ∷ []) h (g, tt))
+    subst (QuietAt ls p.first p.second nothing) (sym f) (quiet_append ls p.first p.second nothing es (record { lit = l; why = Decision } ∷ []) h (g, tt))
 pair_decided es fs l p (AtMostOne xs) f g h = tt
 
 pub pair_cut : (es fs : List Entry) (i : ℕ) (p : Option Pair) (c : Constraint) → fs ≡ take i es → Calm es p c → Calm fs p c
 pair_cut es fs i None (Clause ls) f h = tt
 pair_cut es fs i (Some p) (Clause ls) f h =
-    subst (QuietAt p.first p.second nothing) (sym f) (cut_quiet p.first p.second nothing es i h)
+    subst (QuietAt ls p.first p.second nothing) (sym f) (cut_quiet ls p.first p.second nothing es i h)
 pair_cut es fs i p (AtMostOne xs) f h = tt
 
 pub pair_guard : (es : List Entry) (i : ℕ) (d : Entry) (p : Option Pair) (c : Constraint) → i < length es → (get_or es i d).why ≡ Decision → silent (known_from (take i es)) c ≡ true → Calm es p c → Guard (known_from (take i es)) (known_from (take i es)) p c
 pair_guard es i d None (Clause ls) low w s h = tt
-pair_guard es i d (Some p) (Clause ls) low w s h = quiet_at p.first p.second nothing es i d h low w
+pair_guard es i d (Some p) (Clause ls) low w s h = quiet_at ls p.first p.second nothing es i d h low w
 pair_guard es i d p (AtMostOne xs) low w s h = silent_looked (known_from (take i es)) xs s
 
-pair_moved : (es : List Entry) (ls : List Lit) (l : Lit) (has : ℕ → Type 0) (p : Pair) (s : Option Pair) → OpenAll nothing (lits_of es) → is_false (known_from es) l ≡ true → Moved ls l (known_from es) has p s → QuietAt p.first p.second nothing es → CalmPair es s
-pair_moved es ls l has p s o f (m, x, inl b, e, y, z, n, w) q =
-    let r : QuietAt l x nothing es = subst (λ v. QuietAt l v nothing es) b.1 (subst (λ v. QuietAt v p.second nothing es) b.0 q) in
-    subst (CalmPair es) (sym e) (moved_all nothing es l x m o f n r)
-pair_moved es ls l has p s o f (m, x, inr b, e, y, z, n, w) q =
-    let r : QuietAt l x nothing es = subst (λ v. QuietAt l v nothing es) b.1 (subst (λ v. QuietAt v p.first nothing es) b.0 (quiet_swap p.first p.second nothing es q)) in
-    subst (CalmPair es) (sym e) (moved_all nothing es l x m o f n r)
+pair_moved : (es : List Entry) (ls : List Lit) (l : Lit) (p n : Pair) → OpenAll nothing (lits_of es) → Beside p l n.second → is_false (known_from es) n.first ≡ false → QuietAt ls p.first p.second nothing es → QuietAt ls n.first n.second nothing es
+pair_moved es ls l p n o (inl b) f q =
+    moved_all nothing es ls l n.second n.first o f (subst (λ v. QuietAt ls l v nothing es) b.1 (subst (λ v. QuietAt ls v p.second nothing es) b.0 q))
+pair_moved es ls l p n o (inr b) f q =
+    moved_all nothing es ls l n.second n.first o f (subst (λ v. QuietAt ls l v nothing es) b.1 (subst (λ v. QuietAt ls v p.first nothing es) b.0 (quiet_swap ls p.first p.second nothing es q)))
 
-pair_visited : (es : List Entry) (l : Lit) (has : ℕ → Type 0) (p s : Option Pair) (c : Constraint) → OpenAll nothing (lits_of es) → is_false (known_from es) l ≡ true → Visited c l (known_from es) has p s → Calm es p c → Calm es s c
-pair_visited es l has p s (AtMostOne xs) o f v h = tt
-pair_visited es l has None s (Clause ls) o f v h = subst (CalmPair es) (sym v) tt
-pair_visited es l has (Some p) s (Clause ls) o f (inl v) h = subst (CalmPair es) (sym v.0) h
-pair_visited es l has (Some p) s (Clause ls) o f (inr (inl v)) h = subst (CalmPair es) (sym v.0) h
-pair_visited es l has (Some p) s (Clause ls) o f (inr (inr v)) h = pair_moved es ls l has p s o f v h
+pub pair_visited : (es : List Entry) (l : Lit) (p s : Option Pair) (c : Constraint) (v : Visit) → OpenAll nothing (lits_of es) → Visited c l (known_from es) p s v → Calm es p c → Calm es s c
+pair_visited es l p s c Clashes o x h = subst (λ y. Calm es y c) (sym x.1) h
+pair_visited es l p s (AtMostOne xs) Stays o x h = tt
+pair_visited es l p s (AtMostOne xs) (Moves n) o x h = tt
+pair_visited es l None s (Clause ls) Stays o x h = subst (CalmPair es ls) (sym x) tt
+pair_visited es l (Some p) s (Clause ls) Stays o x h = subst (CalmPair es ls) (sym x.0) h
+pair_visited es l None s (Clause ls) (Moves n) o x h = absurd x
+pair_visited es l (Some p) s (Clause ls) (Moves n) o (b, e, y, z, f) h = subst (CalmPair es ls) (sym e) (pair_moved es ls l p n o b f h)
 
 -- all constraints
 
@@ -125,26 +126,21 @@ abbrev pub CalmBy : List Entry → (ℕ → Option Pair) → List Constraint →
 CalmBy es f all = Each all (λ n c. Calm es (f n) c)
 
 -- a visit: the pair of one constraint may move
-pub step_calm : (all more : List Constraint) (es fs : List Entry) (i : ℕ) (f g : ℕ → Option Pair) (l : Lit) (has : ℕ → Type 0) → Same i f g → Added more es fs → OpenAll nothing (lits_of fs) → is_false (known_from fs) l ≡ true → ((c : Constraint) → slice_get all i ≡ Some c → Visited c l (known_from fs) has (f i) (g i)) → CalmBy es f all → CalmBy fs g all
-step_calm all more es fs i f g l has s a o w v h n c e =
+pub step_calm : (all more : List Constraint) (es fs : List Entry) (i : ℕ) (f g : ℕ → Option Pair) (l : Lit) (v : Visit) → Same i f g → Added more es fs → OpenAll nothing (lits_of fs) → ((c : Constraint) → slice_get all i ≡ Some c → Visited c l (known_from fs) (f i) (g i) v) → CalmBy es f all → CalmBy fs g all
+step_calm all more es fs i f g l v s a o w h n c e =
     elim (cases_eq n i) [
-      | inl same ↦ subst (λ m. Calm fs (g m) c) (sym same) (pair_visited fs l has (f i) (g i) c o w (v c (subst (λ m. slice_get all m ≡ Some c) same e)) (pair_added more es fs (f i) c a (h i c (subst (λ m. slice_get all m ≡ Some c) same e))))
+      | inl same ↦ subst (λ m. Calm fs (g m) c) (sym same) (pair_visited fs l (f i) (g i) c v o (w c (subst (λ m. slice_get all m ≡ Some c) same e)) (pair_added more es fs (f i) c a (h i c (subst (λ m. slice_get all m ≡ Some c) same e))))
       | inr other ↦ subst (λ p. Calm fs p c) (sym (s n other)) (pair_added more es fs (f n) c a (h n c e))
     ]
 
-pub clash_calm : (all more : List Constraint) (es fs : List Entry) (i : ℕ) (f g : ℕ → Option Pair) → Same i f g → Added more es fs → ((c : Constraint) → slice_get all i ≡ Some c → g i ≡ f i) → CalmBy es f all → CalmBy fs g all
-clash_calm all more es fs i f g s a t h n c e =
-    let same : g n ≡ f n = elim (cases_eq n i) [ inl z ↦ ap g z ∙ (t c (subst (λ m. slice_get all m ≡ Some c) z e) ∙ ap f (sym z)) | inr z ↦ s n z ] in
-    subst (λ p. Calm fs p c) (sym same) (pair_added more es fs (f n) c a (h n c e))
-
 -- the pair of a lemma
 
-none_covered : (a b : Lit) (m k : Known) (es : List Entry) → among m (lits_of es) ≡ [] → Covered m es → QuietAt a b k es
-none_covered a b m k [] n c = tt
-none_covered a b m k (e ∷ es) n c =
-    (go e.why c.0, none_covered a b m (put k e.lit) es (rest (is_open (m e.lit.variable)) n) c.1)
+none_covered : (xs : List Lit) (a b : Lit) (m k : Known) (es : List Entry) → among m (lits_of es) ≡ [] → Covered m es → QuietAt xs a b k es
+none_covered xs a b m k [] n c = tt
+none_covered xs a b m k (e ∷ es) n c =
+    (go e.why c.0, none_covered xs a b m (put k e.lit) es (rest (is_open (m e.lit.variable)) n) c.1)
   where
-    go : (w : Why) → at_decision w (0 < length (among m (e.lit ∷ lits_of es))) → at_decision w (Quiet k a b)
+    go : (w : Why) → at_decision w (0 < length (among m (e.lit ∷ lits_of es))) → at_decision w (Quiet k xs a b)
     go Decision z = absurd (omega (arith, z, ap length n))
     go (Hint h) z = tt
 
@@ -162,19 +158,19 @@ last_case l z (x ∷ xs) (f ∷ front) false e = inr (front, rest_same l f (x �
     rest_same : (a b : Lit) (xs ys : List Lit) → a ∷ xs ≡ b ∷ ys → xs ≡ ys
     rest_same a b xs ys e = cc
 
-quiet_why : (w : Why) (k : Known) (u z : Lit) → is_open (k u.variable) ≡ true → is_open (k z.variable) ≡ true → at_decision w (Quiet k (opposite u) (opposite z))
-quiet_why Decision k u z ou oz = inr (inr (open_not_false k (opposite u) ou, open_not_false k (opposite z) oz))
-quiet_why (Hint h) k u z ou oz = tt
+quiet_why : (w : Why) (k : Known) (xs : List Lit) (u z : Lit) → is_open (k u.variable) ≡ true → is_open (k z.variable) ≡ true → at_decision w (Quiet k xs (opposite u) (opposite z))
+quiet_why Decision k xs u z ou oz = inr (open_not_false k (opposite u) ou, open_not_false k (opposite z) oz)
+quiet_why (Hint h) k xs u z ou oz = tt
 
 -- `u` is on the trail later, `z` is the last that is marked
-pub quiet_marked : (m k : Known) (es : List Entry) (u z : Lit) (front : List Lit) → OpenAll k (lits_of es ++ u ∷ []) → Covered m es → among m (lits_of es) ≡ front ++ z ∷ [] → QuietAt (opposite u) (opposite z) k es
-quiet_marked m k [] u z front o c e = tt
-quiet_marked m k (e ∷ es) u z front o c f =
+pub quiet_marked : (xs : List Lit) (m k : Known) (es : List Entry) (u z : Lit) (front : List Lit) → OpenAll k (lits_of es ++ u ∷ []) → Covered m es → among m (lits_of es) ≡ front ++ z ∷ [] → QuietAt xs (opposite u) (opposite z) k es
+quiet_marked xs m k [] u z front o c e = tt
+quiet_marked xs m k (e ∷ es) u z front o c f =
     let all : OpenAll k (lits_of (e ∷ es)) = open_front k (lits_of (e ∷ es)) (u ∷ []) o in
     let oz : is_open (k z.variable) ≡ true = open_later k front z (subst (OpenAll k) f (among_open m k (lits_of (e ∷ es)) all)) in (
-      quiet_why e.why k u z (open_later k (lits_of (e ∷ es)) u o) oz,
+      quiet_why e.why k xs u z (open_later k (lits_of (e ∷ es)) u o) oz,
       elim (last_case e.lit z (among m (lits_of es)) front (is_open (m e.lit.variable)) f) [
-        | inl n ↦ none_covered (opposite u) (opposite z) m (put k e.lit) es n c.1
-        | inr r ↦ quiet_marked m (put k e.lit) es u z r.0 o.1 c.1 r.1
+        | inl n ↦ none_covered xs (opposite u) (opposite z) m (put k e.lit) es n c.1
+        | inr r ↦ quiet_marked xs m (put k e.lit) es u z r.0 o.1 c.1 r.1
       ],
     )

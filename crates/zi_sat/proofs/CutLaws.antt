@@ -69,13 +69,12 @@ new_calm : (es fs : List Entry) (ls : List Lit) (q : Option Pair) → Cut es fs 
 new_calm es fs ls None c h = tt
 new_calm es fs ls (Some p) c h =
     let (rest, e, f) = firsts ls (known_from fs) p c.speaks h in
-    subst (λ x. QuietAt x p.second nothing fs) f (c.calm rest p.second e)
+    subst (λ x. QuietAt ls x p.second nothing fs) f (c.calm rest p.second e)
 
 new_guard : (fs : List Entry) (g h : Known) (ls : List Lit) (q : Option Pair) → (s : Speaks (known_from fs) ls) → LastTwo (Clause ls) q → is_true h s.last ≡ true → Guard g h q (Clause ls)
 new_guard fs g h ls None s t e = tt
 new_guard fs g h ls (Some p) s t e =
-    let (rest, a, b) = firsts ls (known_from fs) p s t in
-    inl (ap (is_true h) (sym b) ∙ e)
+    inl (s.last, subst (λ xs. has_lit xs s.last ≡ true) (sym s.lits) (last_in s.front s.last), e)
 
 new_firm : (k h : Known) (ls : List Lit) → (s : Speaks k ls) → length ls ≤ 1 → is_true h s.last ≡ true → Firm h ls
 new_firm k h ls s le e = subst (Firm h) (sym (s.lits ∙ ap (λ xs. xs ++ s.last ∷ []) (none s.front few))) e
@@ -91,7 +90,7 @@ same_lits : (a b : List Lit) → Clause a ≡ Clause b → a ≡ b
 same_lits a b e = cc
 
 -- `w` are the lists at the conflict, with all entries that stay counted as looked at; `v` has the lemma as well
-pub ready_again : (w v : Lists) (f : Formula) (ms ns : List Lemma) (m : Lemma) (ls : List Lit) (es fs gs : List Entry) (h : ℕ) → Steady w f ms es → Hushed (citable f.constraints ms) nothing es → OpenAll nothing (lits_of gs) → ns ≡ ms ++ m ∷ [] → ls ≡ m.lits → (cut : Cut es fs ls) → length v.rows.items ≡ length w.rows.items → Adds w v (Clause ls) → v.seen ≡ length fs → Added (citable f.constraints ns) fs gs → gs ≡ fs ++ hinted h (cut.speaks.last ∷ []) → Ready v f ns gs
+pub ready_again : (w v : Lists) (f : Formula) (ms ns : List Lemma) (m : Lemma) (ls : List Lit) (es fs gs : List Entry) (h : ℕ) → Steady w f ms es → Hushed (citable f.constraints ms) nothing es → OpenAll nothing (lits_of gs) → ns ≡ ms ++ m ∷ [] → ls ≡ m.lits → (cut : Cut es fs ls) → length v.rows ≡ length w.rows → Adds w v (Clause ls) → v.seen ≡ length fs → Added (citable f.constraints ns) fs gs → gs ≡ fs ++ hinted h (cut.speaks.last ∷ []) → Ready v f ns gs
 ready_again w v f ms ns m ls es fs gs h kept hush o e g cut rows a seen more spoke =
     let all : List Constraint = citable f.constraints ms in
     let cs : List Constraint = citable f.constraints ns in

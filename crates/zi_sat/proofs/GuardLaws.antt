@@ -1,28 +1,33 @@
 -- What a look at a constraint leaves: what it holds, and why it needn't be looked at.
-use Rattle.std.proofs.Common.{◌≡◌, ℕ, zero, suc, ◌<◌, ◌≤◌, ◌+◌, ◌-◌, ◌*◌, Bool, true, false, cond, List, [], ◌∷◌, ◌++◌, length, get_or, refl, sym, ap, ◌∙◌, subst, arith, Option, Some, None, Result, Ok, Err, IfOk, ◌⊎◌, inl, inr, append-nil}
+use Rattle.std.proofs.Common.{◌≡◌, ℕ, zero, suc, ◌<◌, ◌≤◌, ◌+◌, ◌-◌, ◌*◌, Bool, true, false, cond, List, [], ◌∷◌, ◌++◌, map, length, get_or, refl, sym, ap, ◌∙◌, subst, arith, Option, Some, None, Result, Ok, Err, ◌⊎◌, inl, inr, append-nil, All}
 use Rattle.std.specs.List.{slice_get}
-use Rattle.std.proofs.lemmas.Bool.{false≢true}
+use Rattle.std.proofs.lemmas.Bool.{false≢true, and_parts}
 use Rattle.zi_formula.specs.declared.formula.Lit.{Lit}
 use Rattle.zi_formula.specs.declared.formula.Constraint.{Constraint}
 use Rattle.zi_formula.specs.declared.formula.Constraint.TheVariants.{Clause, AtMostOne}
-use Rattle.zi_formula.specs.Form.{LitsWithin, same_lit, has_lit, OnceAll, ItemsOnce}
-use Rattle.zi_proof.specs.Known.{Known, put, says, is_true, Goes, clause_step}
+use Rattle.zi_formula.specs.Form.{ConstraintWithin, LitsWithin, same_lit, has_lit, OnceAll, ItemsOnce}
+use Rattle.zi_proof.specs.Known.{Known, put, says, is_true, is_false, Goes, clause_step}
 use Rattle.zi_proof.specs.declared.proof.Lemma.{Lemma}
-use Rattle.zi_proof.specs.Accepted.{citable, cited}
+use Rattle.zi_proof.specs.Accepted.{citable, cited, lemma_clause, lits_within, lemmas_within}
 use Rattle.zi_sat.specs.declared.entry.Entry.{Entry}
 use Rattle.zi_sat.specs.declared.pair.Pair.{Pair}
 use Rattle.zi_sat.specs.Trail.{known_from, silent}
 use Rattle.zi_sat.specs.Moves.{Added, hinted}
-use Rattle.zi_sat.specs.Guard.{row_of, pair_at, Beside, VisitedPair, Visited, IfPair, Looks, Exhausted}
+use Rattle.zi_sat.specs.Guard.{row_of, pair_at, Beside, Lacks, StaysPair, MovesPair, Visited, Looks, StaysOrClashes, IfPair, Blocks, Fits}
+use Rattle.zi_sat.specs.declared.rows.Watcher.{Watcher}
+use Rattle.zi_sat.specs.declared.watch.Visit.TheVariants.{Stays, Moves, Clashes}
+use Rattle.zi_sat.specs.declared.watch.Visit.{Visit}
 use Rattle.zi_text.specs.declared.memory.Memory.{Memory}
+use Rattle.zi_proof.proofs.Cites.{within_at}
+use Rattle.zi_sat.proofs.VisitLaws.{row_same}
 use Rattle.zi_sat.specs.Watching.{Watches}
 use Rattle.zi_sat.proofs.FreshStep.{lits_same}
 use Rattle.zi_sat.proofs.FreshLaws.{put_self}
 use Rattle.zi_sat.proofs.LessLaws.{some_says}
 use Rattle.zi_sat.proofs.TrailLaws.{known-append}
-use Rattle.zi_sat.proofs.CiteLaws.{goes, cited_zs}
+use Rattle.zi_sat.proofs.CiteLaws.{goes, cited_zs, lits_ok}
 use Rattle.zi_sat.proofs.MoveLaws.{added_more}
-use Rattle.std.proofs.lemmas.List.Elements.{All-head, All-tail}
+use Rattle.std.proofs.lemmas.List.Elements.{All-head, All-tail, All-nil, All-cons, All-append}
 use Rattle.std.proofs.lemmas.Option.{same_Some}
 
 within_case : (n : ℕ) (m a : Lit) (ls : List Lit) (t : Bool) → same_lit m a ≡ t → (1 ≤ m.variable) × (m.variable ≤ n) → (has_lit ls a ≡ true → (1 ≤ a.variable) × (a.variable ≤ n)) → cond t true (has_lit ls a) ≡ true → (1 ≤ a.variable) × (a.variable ≤ n)
@@ -60,13 +65,17 @@ pub made_true : (es fs : List Entry) (h : ℕ) (o : Lit) → fs ≡ es ++ hinted
 made_true es fs h o e =
     ap (λ x. says x o.positive) (ap (λ gs. known_from gs o.variable) e ∙ (ap (λ k. k o.variable) (known-append es (hinted h (o ∷ []))) ∙ put_self (known_from es) o)) ∙ some_says o.positive
 
-true_one : (k : Known) (p : Pair) (l o : Lit) → Beside p l o → is_true k o ≡ true → (is_true k p.first ≡ true) ⊎ (is_true k p.second ≡ true)
-true_one k p l o (inl b) t = inr (ap (is_true k) b.1 ∙ t)
-true_one k p l o (inr b) t = inl (ap (is_true k) b.1 ∙ t)
+pub lacks_stays : (ls : List Lit) (l : Lit) (k : Known) (q : Option Pair) (p : Pair) → q ≡ Some p → Lacks p l → StaysPair ls l k q q
+lacks_stays ls l k q p e n = subst (λ x. StaysPair ls l k x x) (sym e) (refl, inl n)
 
-pub makes_visited : (ls : List Lit) (l : Lit) (k : Known) (has : ℕ → Type 0) (q : Option Pair) (p : Pair) (o : Lit) → q ≡ Some p → Beside p l o → has (row_of l) → is_true k o ≡ true → VisitedPair ls l k has q q
-makes_visited ls l k has q p o e b h t =
-    subst (λ x. VisitedPair ls l k has x x) (sym e) (inr (inl (refl, h, true_one k p l o b t)))
+pub some_stays : (ls : List Lit) (l : Lit) (k : Known) (q : Option Pair) (p : Pair) (o : Lit) → q ≡ Some p → has_lit ls o ≡ true → is_true k o ≡ true → StaysPair ls l k q q
+some_stays ls l k q p o e h t = subst (λ x. StaysPair ls l k x x) (sym e) (refl, inr (o, h, t))
+
+pub none_stays : (ls : List Lit) (l : Lit) (k : Known) (q : Option Pair) → q ≡ None → StaysPair ls l k q q
+none_stays ls l k q e = subst (λ x. StaysPair ls l k x x) (sym e) refl
+
+pub moves_pair : (ls : List Lit) (l : Lit) (k : Known) (q r : Option Pair) (p n : Pair) → q ≡ Some p → Beside p l n.second → r ≡ Some n → has_lit ls n.first ≡ true → same_lit n.first n.second ≡ false → is_false k n.first ≡ false → MovesPair ls l k q r n
+moves_pair ls l k q r p n e b f h a z = subst (λ x. MovesPair ls l k x r n) (sym e) (b, f, h, a, z)
 
 -- the constraint at a place
 
@@ -90,7 +99,25 @@ pub lemma_place : (cs : List Constraint) (ms : List Lemma) (i n : ℕ) (x : Lemm
 lemma_place cs ms i n x ys e h low f =
     place_of (citable cs ms) (n + (i - n) + 1) i (Clause ys) (omega (arith, h)) (cited_zs cs ms (i - n) n x ys e (omega (arith, e, low, h)) f)
 
-pub group_looks : (c : Constraint) (xs : List ℕ) (l : Lit) (k : Known) (has : ℕ → Type 0) (p : Option Pair) (r : Result Bool Memory) → c ≡ AtMostOne xs → Exhausted k c r → IfOk r (λ b. b ≡ false → has (row_of l)) → Looks c l k has p p r
-group_looks c xs l k has p (Ok true) e x h = (x, refl)
-group_looks c xs l k has p (Ok false) e x h = subst (λ d. Visited d l k has p p) (sym e) (refl, h refl, subst (λ d. silent k d ≡ true) e x)
-group_looks c xs l k has p (Err y) e x h = tt
+pub group_looks : (c : Constraint) (xs : List ℕ) (l : Lit) (k : Known) (p : Option Pair) (r : Result Visit Memory) → c ≡ AtMostOne xs → StaysOrClashes k c r → Looks c l k p p r
+group_looks c xs l k p (Ok Stays) e h = subst (λ d. Visited d l k p p Stays) (sym e) (refl, subst (λ d. silent k d ≡ true) e h)
+group_looks c xs l k p (Ok (Moves n)) e h = absurd h
+group_looks c xs l k p (Ok Clashes) e h = (h, refl)
+group_looks c xs l k p (Err m) e h = tt
+
+pub citable_within : (n : ℕ) (cs : List Constraint) (ms : List Lemma) → All (λ c. ConstraintWithin n c) cs → lemmas_within n ms ≡ true → All (λ c. ConstraintWithin n c) (citable cs ms)
+citable_within n cs ms a b = All-append (λ c. ConstraintWithin n c) cs (map lemma_clause ms) a (lemmas ms b)
+  where
+    lemmas : (ms : List Lemma) → lemmas_within n ms ≡ true → All (λ c. ConstraintWithin n c) (map lemma_clause ms)
+    lemmas [] h = All-nil (λ c. ConstraintWithin n c)
+    lemmas (m ∷ ms) h =
+        let p = and_parts (lits_within n m.lits) (lemmas_within n ms) h in
+        All-cons (λ c. ConstraintWithin n c) (Clause m.lits) (map lemma_clause ms) (lits_ok n m.lits p.0) (lemmas ms p.1)
+
+pub fits_high : (n : ℕ) (all : List Constraint) (l : Lit) (w : Watcher) → All (λ c. ConstraintWithin n c) all → l.variable ≤ n → Fits all (row_of l) w → w.block.variable ≤ n
+fits_high n all l w a h (c, e, b) =
+    go c (within_at n all w.place c a e) b
+  where
+    go : (c : Constraint) → ConstraintWithin n c → Blocks c (row_of l) w.block → w.block.variable ≤ n
+    go (Clause ls) i b = (lit_within n ls w.block i b).1
+    go (AtMostOne xs) i b = subst (λ x. x.variable ≤ n) (sym (row_same w.block l b)) h

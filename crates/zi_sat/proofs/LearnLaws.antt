@@ -178,5 +178,5 @@ learned_cut all ms ns es fs start keep o lt l f =
       };
       calm = λ rest z e.
           let there : among m (lits_of (take keep es)) ≡ map opposite rest ++ opposite z ∷ [] = sym (twice (among m (lits_of (take keep es)))) ∙ (ap (map opposite) e ∙ opposites_push rest z) in
-          subst (QuietAt (opposite u) z nothing) (sym f) (subst (λ x. QuietAt (opposite u) x nothing (take keep es)) (opposite_twice z) (quiet_marked m nothing (take keep es) u (opposite z) (map opposite rest) ou l.covered there));
+          subst (QuietAt (map opposite (among m (lits_of es))) (opposite u) z nothing) (sym f) (subst (λ x. QuietAt (map opposite (among m (lits_of es))) (opposite u) x nothing (take keep es)) (opposite_twice z) (quiet_marked (map opposite (among m (lits_of es))) m nothing (take keep es) u (opposite z) (map opposite rest) ou l.covered there));
     }

@@ -3,6 +3,7 @@ pub mod TrailLaws
 pub mod GroupLaws
 pub mod FrameLaws
 pub mod MoveLaws
+pub mod MovedLaws
 pub mod CiteLaws
 pub mod EndLaws
 pub mod FreshStep

@@ -136,7 +136,7 @@ pub ready_silent : (w : Lists) (f : Formula) (ms : List Lemma) (es : List Entry)
 ready_silent w f ms es o r h s =
     let n : w.seen ≡ length es = omega (arith, h, r.1) in
     let t : take w.seen es ≡ es = ap (λ i. take i es) n ∙ take_whole es in
-    each_silent (known_from es) (citable f.constraints ms) (λ n c e. held_silent (Has w.rows.items) (known_from es) (citable f.constraints ms) n (pair_at w.pairs n) c o e s (r.0.0.0 n c e) (subst (λ ds. Guard (known_from ds) (known_from es) (pair_at w.pairs n) c) t (r.2 n c e)))
+    each_silent (known_from es) (citable f.constraints ms) (λ n c e. held_silent (Has w.rows) (known_from es) (citable f.constraints ms) n (pair_at w.pairs n) c o e s (r.0.0.0.0 n c e) (subst (λ ds. Guard (known_from ds) (known_from es) (pair_at w.pairs n) c) t (r.2 n c e)))
 
 all_guarded : (w : Lists) (f : Formula) (ms : List Lemma) (es : List Entry) → w.seen ≡ length es → Ready w f ms es → AllGuard (known_from es) (known_from es) w (citable f.constraints ms)
 all_guarded w f ms es n r =

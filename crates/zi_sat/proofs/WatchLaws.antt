@@ -13,7 +13,7 @@ use Rattle.zi_sat.specs.Trail.{lits_of, learn, OpenAll, fails, silent, silent_by
 use Rattle.zi_sat.proofs.GroupLaws.{In}
 use Rattle.zi_sat.specs.Fresh.{at_decision}
 use Rattle.zi_sat.specs.Marking.{Inside}
-use Rattle.zi_sat.specs.Watching.{FalseOr, Quiet, QuietBy, Watches, QuietAt}
+use Rattle.zi_sat.specs.Watching.{FalseOr, SomeTrue, Quiet, QuietBy, Watches, QuietAt}
 use Rattle.zi_sat.proofs.FreshStep.{stands_none, lits_same, open_not_false, open_not_true}
 use Rattle.zi_sat.proofs.FreshLaws.{put_extends, learn_extends}
 use Rattle.zi_sat.proofs.LessLaws.{says_within, not_false_within}
@@ -101,43 +101,43 @@ two_silent k a b (m ∷ ls) h i p na nb =
     two_case k m a b ls (is_false k m) (same_lit m a) (same_lit m b) refl refl refl h i p na nb (λ x y. two_silent k a b ls x y p na nb)
 
 -- A clause with a quiet pair is silent.
-pub quiet_silent : (k : Known) (a b : Lit) (ls : List Lit) → Watches ls a b → Quiet k a b → silent k (Clause ls) ≡ true
-quiet_silent k a b ls w (inl t) = true_silent k a ls w.first t
-quiet_silent k a b ls w (inr (inl t)) = true_silent k b ls w.second t
-quiet_silent k a b ls w (inr (inr n)) = two_silent k a b ls w.first w.second w.apart n.0 n.1
+pub quiet_silent : (k : Known) (a b : Lit) (ls : List Lit) → Watches ls a b → Quiet k ls a b → silent k (Clause ls) ≡ true
+quiet_silent k a b ls w (inl (m, h, t)) = true_silent k m ls h t
+quiet_silent k a b ls w (inr n) = two_silent k a b ls w.first w.second w.apart n.0 n.1
 
 -- When a watch that is false now moves to a literal that isn't false now, the pair is quiet at every earlier moment at which it was.
 
 pub true_and_false : (g : Known) (l : Lit) → is_true g l ≡ true → is_false g l ≡ true → ⊥
 true_and_false g l t f = false≢true (sym (true_not_false (g l.variable) l.positive t) ∙ f)
 
-moved : (k g : Known) (a b z : Lit) → Inside k g → is_false g a ≡ true → is_false g z ≡ false → Quiet k a b → Quiet k z b
-moved k g a b z i f n (inl t) = absurd (true_and_false g a (says_within k g a.variable a.positive i t) f)
-moved k g a b z i f n (inr (inl t)) = inr (inl t)
-moved k g a b z i f n (inr (inr p)) = inr (inr (not_false_within k g z i n, p.1))
+moved : (k g : Known) (ls : List Lit) (a b z : Lit) → Inside k g → is_false g z ≡ false → Quiet k ls a b → Quiet k ls z b
+moved k g ls a b z i n (inl t) = inl t
+moved k g ls a b z i n (inr p) = inr (not_false_within k g z i n, p.1)
 
-moved_why : (w : Why) (k g : Known) (a b z : Lit) → Inside k g → is_false g a ≡ true → is_false g z ≡ false → at_decision w (Quiet k a b) → at_decision w (Quiet k z b)
-moved_why Decision k g a b z i f n q = moved k g a b z i f n q
-moved_why (Hint h) k g a b z i f n q = tt
+moved_why : (w : Why) (k g : Known) (ls : List Lit) (a b z : Lit) → Inside k g → is_false g z ≡ false → at_decision w (Quiet k ls a b) → at_decision w (Quiet k ls z b)
+moved_why Decision k g ls a b z i n q = moved k g ls a b z i n q
+moved_why (Hint h) k g ls a b z i n q = tt
 
-pub moved_all : (k : Known) (es : List Entry) (a b z : Lit) → OpenAll k (lits_of es) → is_false (learn k (lits_of es)) a ≡ true → is_false (learn k (lits_of es)) z ≡ false → QuietAt a b k es → QuietAt z b k es
-moved_all k [] a b z o f n q = tt
-moved_all k (e ∷ es) a b z o f n q =
-    (moved_why e.why k (learn (put k e.lit) (lits_of es)) a b z (λ x c p. learn_extends (put k e.lit) (lits_of es) o.1 x c (put_extends k e.lit o.0 x c p)) f n q.0, moved_all (put k e.lit) es a b z o.1 f n q.1)
+pub moved_all : (k : Known) (es : List Entry) (ls : List Lit) (a b z : Lit) → OpenAll k (lits_of es) → is_false (learn k (lits_of es)) z ≡ false → QuietAt ls a b k es → QuietAt ls z b k es
+moved_all k [] ls a b z o n q = tt
+moved_all k (e ∷ es) ls a b z o n q =
+    (moved_why e.why k (learn (put k e.lit) (lits_of es)) ls a b z (λ x c p. learn_extends (put k e.lit) (lits_of es) o.1 x c (put_extends k e.lit o.0 x c p)) n q.0, moved_all (put k e.lit) es ls a b z o.1 n q.1)
 
 -- the trail is cut: what is quiet before each decision stays so
-pub cut_quiet : (a b : Lit) (k : Known) (es : List Entry) (i : ℕ) → QuietAt a b k es → QuietAt a b k (take i es)
-cut_quiet a b k [] zero q = tt
-cut_quiet a b k [] (suc i) q = tt
-cut_quiet a b k (e ∷ es) zero q = tt
-cut_quiet a b k (e ∷ es) (suc i) q = (q.0, cut_quiet a b (put k e.lit) es i q.1)
+pub cut_quiet : (ls : List Lit) (a b : Lit) (k : Known) (es : List Entry) (i : ℕ) → QuietAt ls a b k es → QuietAt ls a b k (take i es)
+cut_quiet ls a b k [] zero q = tt
+cut_quiet ls a b k [] (suc i) q = tt
+cut_quiet ls a b k (e ∷ es) zero q = tt
+cut_quiet ls a b k (e ∷ es) (suc i) q = (q.0, cut_quiet ls a b (put k e.lit) es i q.1)
 
 -- while entries are looked at
 
-pub pushed : (q k g : Known) (a b : Lit) → Inside k g → QuietBy q k a b → QuietBy q g a b
-pushed q k g a b i (inl t) = inl (says_within k g a.variable a.positive i t)
-pushed q k g a b i (inr (inl t)) = inr (inl (says_within k g b.variable b.positive i t))
-pushed q k g a b i (inr (inr n)) = inr (inr n)
+pub some_more : (k g : Known) (ls : List Lit) → Inside k g → SomeTrue k ls → SomeTrue g ls
+some_more k g ls i (m, h, t) = (m, h, says_within k g m.variable m.positive i t)
+
+pub pushed : (q k g : Known) (ls : List Lit) (a b : Lit) → Inside k g → QuietBy q k ls a b → QuietBy q g ls a b
+pushed q k g ls a b i (inl t) = inl (some_more k g ls i t)
+pushed q k g ls a b i (inr n) = inr n
 
 -- the next entry's literal is looked at: a pair that doesn't watch its opposite stays as it is
 pub says_same : (p b : Bool) → says (Some p) b ≡ true → p ≡ b
@@ -161,11 +161,10 @@ sign_case q l a true e n f = elim (cases_Bool (says (Some l.positive) (not a.pos
 ]
 sign_case q l a false e n f = f
 
-pub looked : (q k : Known) (l a b : Lit) → (a ≡ opposite l → ⊥) → (b ≡ opposite l → ⊥) → QuietBy q k a b → QuietBy (put q l) k a b
-looked q k l a b na nb (inl t) = inl t
-looked q k l a b na nb (inr (inl t)) = inr (inl t)
-looked q k l a b na nb (inr (inr n)) =
-    inr (inr (sign_case q l a (eqb a.variable l.variable) refl na n.0, sign_case q l b (eqb b.variable l.variable) refl nb n.1))
+pub looked : (q k : Known) (ls : List Lit) (l a b : Lit) → (a ≡ opposite l → ⊥) → (b ≡ opposite l → ⊥) → QuietBy q k ls a b → QuietBy (put q l) k ls a b
+looked q k ls l a b na nb (inl t) = inl t
+looked q k ls l a b na nb (inr n) =
+    inr (sign_case q l a (eqb a.variable l.variable) refl na n.0, sign_case q l b (eqb b.variable l.variable) refl nb n.1)
 
 -- groups: where a variable was looked at while true, the others are false
 

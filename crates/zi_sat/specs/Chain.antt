@@ -117,7 +117,7 @@ pub record Cut (es fs : List Entry) (ls : List Lit) : Type 0 where
   pub decided : (d : Entry) → (slice_index_or es place d).why ≡ Decision
   pub cut : fs ≡ take place es
   pub speaks : Speaks (known_from fs) ls
-  pub calm : (rest : List Lit) (z : Lit) → speaks.front ≡ rest ++ z ∷ [] → QuietAt speaks.last z nothing fs
+  pub calm : (rest : List Lit) (z : Lit) → speaks.front ≡ rest ++ z ∷ [] → QuietAt ls speaks.last z nothing fs
 
 -- What a conflict leaves: one lemma more, and the trail cut for it.
 pub record Grown (ms ns : List Lemma) (es fs : List Entry) : Type 0 where

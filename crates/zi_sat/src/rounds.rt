@@ -122,7 +122,7 @@ pub(crate) fn seek<D: Decider>(
     let mut w = watch_all(alloc, f)?;
     let mut marked = Marks::with_variables(alloc, t.variables())?;
     loop {
-        let hint = match advance(alloc, &mut w, f, proof.lemmas.as_slice(), t, d)? {
+        let hint = match advance(&mut w, f, proof.lemmas.as_slice(), t, d)? {
             None => return Ok(Found::Model),
             Some(hint) => hint,
         };

@@ -1,6 +1,6 @@
 //! Which constraints are looked at when a literal becomes false.
-//! Each clause of two literals or more watches two of them: it has nothing to say while one of them is true or neither is
-//! false. Each group watches the opposites of its variables. Clauses with fewer literals are looked at once.
+//! Each clause of two literals or more watches two of them: it has nothing to say while one of its literals is true or neither
+//! of the two is false. Each group watches the opposites of its variables. Clauses with fewer literals are looked at once.
 //! What a clause watches had nothing to say before any decision of the trail, so after a cut at one of them all that is left
 //! of the trail was looked at.
 
@@ -16,11 +16,11 @@ ghost use Rattle.zi_sat.specs.Trail.{known_from, silent};
 ghost use Rattle.zi_sat.specs.Fresh.{Filled};
 ghost use Rattle.zi_proof.specs.declared.proof.Lemma.{Lemma as AnyLemma};
 ghost use Rattle.zi_sat.specs.Moves.{Added, Settled};
-ghost use Rattle.zi_sat.specs.Guard.{Exhausted, row_of, pair_at, Looks, IfPair, AllHeld, AllGuard, AllCalm, ShortSet, Fitting, Steady, Ready, Adds};
+ghost use Rattle.zi_sat.specs.Guard.{Exhausted, row_of, pair_at, Looks, StaysOrClashes, IfPair, Fits, AllHeld, AllGuard, AllCalm, ShortSet, Fitting, Steady, Ready, Adds};
 ghost use Rattle.zi_formula.specs.Truth.{opposite};
 ghost use Rattle.zi_sat.specs.Marking.{Inside};
 ghost use Rattle.zi_sat.specs.Chain.{Speaks, Spoke};
-ghost use Rattle.zi_sat.specs.Rows.{In, Has};
+ghost use Rattle.zi_sat.specs.Rows.{row_at};
 ghost use Rattle.zi_sat.specs.Watching.{Watches as WatchesPair};
 ghost use Rattle.zi_formula.specs.declared.formula.Constraint.TheVariants.{Clause, AtMostOne};
 
@@ -29,9 +29,9 @@ use crate::look::{is_clause_silent, is_silent, take_clause};
 use crate::pair::{Pair, other_of, row};
 use crate::pairs::Pairs;
 use crate::propagation::take_constraint;
-use crate::rows::{add, empty_rows, put_back, take_row};
+use crate::rows::{Rows, Watcher};
 use crate::trail::Trail;
-use crate::watch::{Look, look_at};
+use crate::watch::{Look, Visit, look_at};
 use std::alloc::Global;
 use zi_formula::{Formula, Lent, Lit};
 use zi_proof::Lemma;
@@ -39,8 +39,8 @@ use zi_text::Memory;
 
 #[derive(Drop)]
 pub(crate) struct Watches {
-    // By literal, the places of what watches it.
-    rows: Vec<Vec<u32>>,
+    // By literal, what watches it.
+    rows: Rows,
     // By place, the two that a clause watches.
     pairs: Pairs,
     // How many entries were looked at.
@@ -66,128 +66,105 @@ pub(crate) fn exhaust(c: Lent<'_>, hint: u32, t: &mut Trail) -> Result<bool, Mem
 
 // Looks at a clause where the literal became false.
 fn visit_clause(
-    rows: &mut Vec<Vec<u32>>,
     pairs: &mut Pairs,
     lits: &[Lit],
     i: u32,
     l: Lit,
     t: &mut Trail,
-) -> Result<bool, Memory>
+) -> Result<Visit, Memory>
     requires within { LitsWithin t.old.variables lits.now }
     requires once { Once lits.now }
     requires few { i + 1 < 2 ^ 32 }
     requires low { i < length pairs.old }
-    requires rows { t.old.variables * 2 + 2 ≤ length rows.old.items }
-    requires high { l.variable ≤ t.old.variables }
     requires pair { IfPair (pair_at pairs.old i) (λ p. WatchesPair lits.now p.first p.second) }
     ensures variables { t.new.variables ≡ t.old.variables }
-    ensures len { length rows.new.items ≡ length rows.old.items }
-    ensures grows { (q m : ℕ) → Has rows.old.items q m → Has rows.new.items q m }
     ensures pairs { length pairs.new ≡ length pairs.old }
     ensures others { (n : ℕ) → n ≢ i → pair_at pairs.new n ≡ pair_at pairs.old n }
     ensures added { (all : List AnyConstraint) → cited all (i + 1) ≡ Some (Clause lits.now) → Added all t.old.entries t.new.entries }
-    ensures looks { Looks (Clause lits.now) l (known_from t.new.entries) (λ r. Has rows.new.items r i) (pair_at pairs.old i) (pair_at pairs.new i) result }
+    ensures looks { Looks (Clause lits.now) l (known_from t.new.entries) (pair_at pairs.old i) (pair_at pairs.new i) result }
 {
     let other = match pairs.at(i as usize) {
-        None => return Ok(false),
+        None => return Ok(Visit::Stays),
         Some(pair) => match other_of(pair, l) {
-            None => return Ok(false),
+            None => return Ok(Visit::Stays),
             Some(other) => other,
         },
     };
     match look_at(lits, other, t) {
         Look::Moves(m) => {
-            add(rows, row(m), i)?;
             let pair = Pair {
                 first: m,
                 second: other,
             };
             pairs.put(i as usize, pair);
-            Ok(false)
+            Ok(Visit::Moves(pair))
         }
-        Look::Stays => {
-            add(rows, row(l), i)?;
-            Ok(false)
-        }
+        Look::Stays => Ok(Visit::Stays),
         Look::Makes => {
-            add(rows, row(l), i)?;
             t.push(other, Why::Hint(i + 1))?;
-            Ok(false)
+            Ok(Visit::Stays)
         }
-        Look::Clashes => Ok(true),
+        Look::Clashes => Ok(Visit::Clashes),
     }
 }
 
-// Looks at a group where the literal became false.
-fn visit_group(
-    rows: &mut Vec<Vec<u32>>,
-    c: Lent<'_>,
-    i: u32,
-    l: Lit,
-    t: &mut Trail,
-) -> Result<bool, Memory>
+// Looks at a group, one of whose watched literals became false.
+fn visit_group(c: Lent<'_>, i: u32, t: &mut Trail) -> Result<Visit, Memory>
     requires within { ConstraintWithin t.old.variables (shows c) }
     requires few { i + 1 < 2 ^ 32 }
-    requires rows { t.old.variables * 2 + 2 ≤ length rows.old.items }
-    requires high { l.variable ≤ t.old.variables }
     ensures variables { t.new.variables ≡ t.old.variables }
-    ensures len { length rows.new.items ≡ length rows.old.items }
-    ensures grows { (q m : ℕ) → Has rows.old.items q m → Has rows.new.items q m }
     ensures added { (all : List AnyConstraint) → cited all (i + 1) ≡ Some (shows c.entry) → Added all t.old.entries t.new.entries }
-    ensures has { IfOk result (λ b. b ≡ false → Has rows.new.items (row_of l) i) }
-    ensures end { Exhausted (known_from t.new.entries) (shows c.entry) result }
+    ensures end { StaysOrClashes (known_from t.new.entries) (shows c.entry) result }
 {
     if exhaust(c, i + 1, t)? {
-        return Ok(true);
+        return Ok(Visit::Clashes);
     }
-    add(rows, row(l), i)?;
-    Ok(false)
+    Ok(Visit::Stays)
 }
 
-// Looks at the constraint or lemma at a place, where the literal became false.
+// Looks at the constraint or lemma of a watcher, where the literal became false.
 fn visit_one(
-    rows: &mut Vec<Vec<u32>>,
     pairs: &mut Pairs,
     f: &Formula,
     lemmas: &[Lemma],
-    i: u32,
+    w: Watcher,
     l: Lit,
     t: &mut Trail,
-) -> Result<bool, Memory>
+) -> Result<Visit, Memory>
     requires within { Within f.now }
     requires earlier { lemmas_within f.now.variables lemmas.now ≡ true }
     requires once { OnceAll (citable f.now.constraints lemmas.now) }
     requires same { t.old.variables ≡ f.now.variables }
     requires few { length f.now.constraints + length lemmas.now < 2 ^ 32 }
-    requires low { i < length f.now.constraints + length lemmas.now }
     requires paired { length pairs.old ≡ length f.now.constraints + length lemmas.now }
-    requires rows { f.now.variables * 2 + 2 ≤ length rows.old.items }
     requires high { l.variable ≤ f.now.variables }
-    requires pair { (ls : List AnyLit) → slice_get (citable f.now.constraints lemmas.now) i ≡ Some (Clause ls) → IfPair (pair_at pairs.old i) (λ p. WatchesPair ls p.first p.second) }
+    requires off { is_false (known_from t.old.entries) l ≡ true }
+    requires fits { Fits (citable f.now.constraints lemmas.now) (row_of l) w }
+    requires pair { (ls : List AnyLit) → slice_get (citable f.now.constraints lemmas.now) w.place ≡ Some (Clause ls) → IfPair (pair_at pairs.old w.place) (λ p. WatchesPair ls p.first p.second) }
     ensures variables { t.new.variables ≡ t.old.variables }
-    ensures len { length rows.new.items ≡ length rows.old.items }
-    ensures grows { (q m : ℕ) → Has rows.old.items q m → Has rows.new.items q m }
     ensures pairs { length pairs.new ≡ length pairs.old }
-    ensures others { (n : ℕ) → n ≢ i → pair_at pairs.new n ≡ pair_at pairs.old n }
+    ensures others { (n : ℕ) → n ≢ w.place → pair_at pairs.new n ≡ pair_at pairs.old n }
     ensures added { Added (citable f.now.constraints lemmas.now) t.old.entries t.new.entries }
-    ensures looks { (c : AnyConstraint) → slice_get (citable f.now.constraints lemmas.now) i ≡ Some c → Looks c l (known_from t.new.entries) (λ r. Has rows.new.items r i) (pair_at pairs.old i) (pair_at pairs.new i) result }
+    ensures looks { (c : AnyConstraint) → slice_get (citable f.now.constraints lemmas.now) w.place ≡ Some c → Looks c l (known_from t.new.entries) (pair_at pairs.old w.place) (pair_at pairs.new w.place) result }
 {
+    if t.is_true(w.block) {
+        return Ok(Visit::Stays);
+    }
     let count = f.constraints.len();
-    let place = i as usize;
+    let place = w.place as usize;
     if place >= count {
         let lits = lemmas[place - count].lits.as_slice();
-        return visit_clause(rows, pairs, lits, i, l, t);
+        return visit_clause(pairs, lits, w.place, l, t);
     }
     let c = f.constraints.at(place);
     match c {
-        Lent::Clause(lits) => visit_clause(rows, pairs, lits, i, l, t),
-        Lent::AtMostOne(_) => visit_group(rows, c, i, l, t),
+        Lent::Clause(lits) => visit_clause(pairs, lits, w.place, l, t),
+        Lent::AtMostOne(_) => visit_group(c, w.place, t),
     }
 }
 
 // Looks at all that watch the literal, which is false.
 fn visit(
-    alloc: Global,
     w: &mut Watches,
     f: &Formula,
     lemmas: &[Lemma],
@@ -200,13 +177,13 @@ fn visit(
     requires same { t.old.variables ≡ f.now.variables }
     requires few { length f.now.constraints + length lemmas.now < 2 ^ 32 }
     requires paired { length w.old.pairs ≡ length f.now.constraints + length lemmas.now }
-    requires rows { f.now.variables * 2 + 2 ≤ length w.old.rows.items }
+    requires rows { f.now.variables * 2 + 2 ≤ length w.old.rows }
     requires high { l.variable ≤ f.now.variables }
     requires off { is_false (known_from t.old.entries) l ≡ true }
     requires held { AllHeld w.old (citable f.now.constraints lemmas.now) }
     requires calm { AllCalm w.old t.old.entries (citable f.now.constraints lemmas.now) }
     ensures variables { t.new.variables ≡ t.old.variables }
-    ensures len { length w.new.rows.items ≡ length w.old.rows.items }
+    ensures len { length w.new.rows ≡ length w.old.rows }
     ensures pairs { length w.new.pairs ≡ length w.old.pairs }
     ensures seen { w.new.seen ≡ w.old.seen }
     ensures added { Added (citable f.now.constraints lemmas.now) t.old.entries t.new.entries }
@@ -217,17 +194,24 @@ fn visit(
 {
     t.are_new();
     let r = row(l);
-    let mut rest = take_row(alloc, &mut w.rows, r);
-    while let Some(i) = rest.pop() {
-        if i as usize >= w.pairs.len() {
-            continue;
-        }
-        if visit_one(&mut w.rows, &mut w.pairs, f, lemmas, i, l, t)? {
-            add(&mut w.rows, r, i)?;
-            put_back(&mut w.rows, r, rest.as_slice())?;
-            return Ok(Some(i + 1));
-        }
+    let mut j = w.rows.len_of(r);
+    while j > 0 {
+        j -= 1;
+        let e = w.rows.at(r, j);
+        let found = visit_one(&mut w.pairs, f, lemmas, e, l, t)?;
         t.are_new();
+        match found {
+            Visit::Stays => {}
+            Visit::Moves(pair) => {
+                let moved = Watcher {
+                    place: e.place,
+                    block: pair.second,
+                };
+                w.rows.add(row(pair.first), moved)?;
+                w.rows.take_out(r, j);
+            }
+            Visit::Clashes => return Ok(Some(e.place + 1)),
+        }
     }
     Ok(None)
 }
@@ -306,7 +290,6 @@ fn look_shorts(
 
 // Looks at each entry until all were looked at, or to a contradiction, whose hint is given.
 pub(crate) fn settle(
-    alloc: Global,
     w: &mut Watches,
     f: &Formula,
     lemmas: &[Lemma],
@@ -332,7 +315,7 @@ pub(crate) fn settle(
     t.are_new();
     while w.seen < t.len() {
         let l = t.entry(w.seen).lit.opposite();
-        if let Some(hint) = visit(alloc, w, f, lemmas, l, t)? {
+        if let Some(hint) = visit(w, f, lemmas, l, t)? {
             return Ok(Some(hint));
         }
         w.seen += 1;
@@ -343,12 +326,13 @@ pub(crate) fn settle(
 
 // No constraint, over so many variables.
 pub(crate) fn no_watches(alloc: Global, n: u32) -> Result<Watches, Memory>
-    ensures rows { IfOk result (λ w. n * 2 + 2 ≤ length w.rows.items) }
+    ensures rows { IfOk result (λ w. n * 2 + 2 ≤ length w.rows) }
+    ensures none { IfOk result (λ w. (r : ℕ) → row_at w.rows r ≡ []) }
     ensures pairs { IfOk result (λ w. w.pairs ≡ []) }
     ensures seen { IfOk result (λ w. w.seen ≡ 0) }
 {
     Ok(Watches {
-        rows: empty_rows(alloc, n as usize * 2 + 2)?,
+        rows: Rows::empty(alloc, n as usize * 2 + 2)?,
         pairs: Pairs::new(alloc),
         seen: 0,
     })
@@ -367,9 +351,9 @@ pub(crate) fn cut_to(w: &mut Watches, len: u32)
 pub(crate) fn add_clause(w: &mut Watches, n: u32, lits: &[Lit]) -> Result<(), Memory>
     requires within { LitsWithin n lits.now }
     requires once { Once lits.now }
-    requires rows { n * 2 + 2 ≤ length w.old.rows.items }
+    requires rows { n * 2 + 2 ≤ length w.old.rows }
     requires few { length w.old.pairs < 2 ^ 32 }
-    ensures len { length w.new.rows.items ≡ length w.old.rows.items }
+    ensures len { length w.new.rows ≡ length w.old.rows }
     ensures seen { w.new.seen ≡ w.old.seen }
     ensures adds { OnOk result (Adds w.old w.new (Clause lits.now)) }
 {
@@ -381,8 +365,16 @@ pub(crate) fn add_clause(w: &mut Watches, n: u32, lits: &[Lit]) -> Result<(), Me
     }
     let first = lits[len - 1];
     let second = lits[len - 2];
-    add(&mut w.rows, row(first), i)?;
-    add(&mut w.rows, row(second), i)?;
+    let one = Watcher {
+        place: i,
+        block: second,
+    };
+    let two = Watcher {
+        place: i,
+        block: first,
+    };
+    w.rows.add(row(first), one)?;
+    w.rows.add(row(second), two)?;
     w.pairs.push(Pair { first, second })?;
     Ok(())
 }
@@ -390,9 +382,9 @@ pub(crate) fn add_clause(w: &mut Watches, n: u32, lits: &[Lit]) -> Result<(), Me
 // Adds a group. It watches the opposites of all its variables.
 fn add_group(w: &mut Watches, n: u32, variables: &[u32]) -> Result<(), Memory>
     requires within { VarsWithin n variables.now }
-    requires rows { n * 2 + 2 ≤ length w.old.rows.items }
+    requires rows { n * 2 + 2 ≤ length w.old.rows }
     requires few { length w.old.pairs < 2 ^ 32 }
-    ensures len { length w.new.rows.items ≡ length w.old.rows.items }
+    ensures len { length w.new.rows ≡ length w.old.rows }
     ensures seen { w.new.seen ≡ w.old.seen }
     ensures adds { OnOk result (Adds w.old w.new (AtMostOne variables.now)) }
 {
@@ -402,7 +394,11 @@ fn add_group(w: &mut Watches, n: u32, variables: &[u32]) -> Result<(), Memory>
             variable: *x,
             positive: false,
         };
-        add(&mut w.rows, row(denied), i)?;
+        let watcher = Watcher {
+            place: i,
+            block: denied,
+        };
+        w.rows.add(row(denied), watcher)?;
     }
     w.pairs.push_none()?;
     Ok(())
@@ -412,9 +408,9 @@ fn add_group(w: &mut Watches, n: u32, variables: &[u32]) -> Result<(), Memory>
 fn add_constraint(w: &mut Watches, n: u32, c: Lent<'_>) -> Result<(), Memory>
     requires within { ConstraintWithin n (shows c) }
     requires once { ItemsOnce (shows c) }
-    requires rows { n * 2 + 2 ≤ length w.old.rows.items }
+    requires rows { n * 2 + 2 ≤ length w.old.rows }
     requires few { length w.old.pairs < 2 ^ 32 }
-    ensures len { length w.new.rows.items ≡ length w.old.rows.items }
+    ensures len { length w.new.rows ≡ length w.old.rows }
     ensures seen { w.new.seen ≡ w.old.seen }
     ensures adds { OnOk result (Adds w.old w.new (shows c.entry)) }
 {
@@ -444,9 +440,9 @@ pub(crate) fn watch_last(w: &mut Watches, n: u32, lemmas: &[Lemma]) -> Result<()
     requires within { lemmas_within n lemmas.now ≡ true }
     requires filled { Filled lemmas.now }
     requires some { 0 < length lemmas.now }
-    requires rows { n * 2 + 2 ≤ length w.old.rows.items }
+    requires rows { n * 2 + 2 ≤ length w.old.rows }
     requires few { length w.old.pairs < 2 ^ 32 }
-    ensures len { length w.new.rows.items ≡ length w.old.rows.items }
+    ensures len { length w.new.rows ≡ length w.old.rows }
     ensures seen { w.new.seen ≡ w.old.seen }
     ensures adds { OnOk result ((d : AnyLemma) → Adds w.old w.new (Clause (slice_index_or lemmas.now (length lemmas.now - 1) d).lits)) }
 {

@@ -28,6 +28,7 @@ fn a_sure_spawner_answers_in_order(rt: HostRuntime) -> Result<(), Fail> {
         words: List::new(rt.alloc()),
         vars: Vars::new(rt.alloc()),
         dirs: List::new(rt.alloc()),
+        shims: List::new(rt.alloc()),
     };
     spawner.answer(&[7])?;
     let first = spawner.launch(&launch);

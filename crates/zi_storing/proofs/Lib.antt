@@ -2,4 +2,5 @@ pub mod StoreLemmas
 pub mod HeldLemmas
 pub mod GatheringLemmas
 pub mod AddingLemmas
+pub mod PurgingLemmas
 pub mod RightLemmas

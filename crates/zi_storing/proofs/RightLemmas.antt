@@ -15,6 +15,7 @@ use Rattle.zi_storing.specs.StoreList.{Lists}
 use Rattle.zi_storing.specs.ManifestCommand.{Manifests}
 use Rattle.zi_storing.specs.StoreVerify.{TellsCheck, VerifiesTree}
 use Rattle.zi_storing.specs.Adding.{AddsFiles}
+use Rattle.zi_storing.specs.StorePurge.{PurgesFiles}
 
 prints_then : (text : List ℕ) (ending : Outcome) (old new : Sinking) (index : ℕ) → ending ≢ Usage index → PrintsThen text ending old new (Usage index) → ⊥
 prints_then text ending old new index ne (inl (w, e)) = ne (sym e)
@@ -49,3 +50,6 @@ verify_right name before after index d = elim d.answer [ inl f ↦ f.0 | inr s �
 
 pub add_right : (name : DigestName) (files : List Word) (before after : World) (index : ℕ) → AddsFiles name files before after (Usage index) → ⊥
 add_right name files before after index d = d.comes
+
+pub purge_right : (files : List Word) (before after : World) (index : ℕ) → PurgesFiles files before after (Usage index) → ⊥
+purge_right files before after index d = elim d.comes [ inl r ↦ r.why | inr r ↦ r.purges ]

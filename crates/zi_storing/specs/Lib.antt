@@ -3,3 +3,4 @@ pub mod ManifestCommand
 pub mod StoreVerify
 pub mod Gathering
 pub mod Adding
+pub mod StorePurge

@@ -33,9 +33,9 @@ fn names_text(alloc: Global, names: &[DigestName]) -> Result<Vec<u8>, Memory>
     Ok(text)
 }
 
-// Writes the lines of digest names.
+/// Writes the lines of digest names.
 #[tactic(auto, using(zi_outcome::proofs::WritingLemmas::printing))]
-fn put_names<O: Sink>(alloc: Global, names: &[DigestName], out: &mut O) -> Outcome
+pub(crate) fn put_names<O: Sink>(alloc: Global, names: &[DigestName], out: &mut O) -> Outcome
     ensures { Prints (names_text names.now) (O.seen out.old) (O.seen out.new) result }
 {
     match names_text(alloc, names) {

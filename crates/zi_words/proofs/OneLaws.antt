@@ -10,12 +10,12 @@ use Rattle.zi_words.specs.declared.request.Request.{Request}
 use Rattle.zi_words.specs.declared.request.Request.TheVariants as request
 use Rattle.zi_words.specs.Forms.{Word, is_address}
 use Rattle.zi_words.specs.Options.{spelled, gathered}
-use Rattle.zi_words.specs.Store.{word_of, AsksManifest, AsksAdd, AsksVerify, AsksStore}
+use Rattle.zi_words.specs.Store.{word_of, AsksManifest, AsksAdd, AsksVerify, AsksPurge, AsksStore}
 use Rattle.zi_words.specs.Words.{EndsOptions, asking, AsksLoading, Right}
 use Rattle.zi_words.proofs.KindLemmas.{dashes_address}
 use Rattle.zi_words.proofs.OptionLemmas.{after_none, all_in, no_option_ends}
 use Rattle.zi_words.proofs.EndLemmas.{ends_next}
-use Rattle.zi_words.proofs.StoreLemmas.{store_add_only, store_verify_only, store_list_only}
+use Rattle.zi_words.proofs.StoreLemmas.{store_add_only, store_verify_only, store_purge_only, store_list_only}
 use Rattle.zi_words.proofs.DemoLemmas.{one_demo}
 use Rattle.zi_words.proofs.LaunchLemmas.{one_launch}
 use Rattle.zi_words.proofs.RightLemmas.{loading_only, manifest_only, store_only, demo_only, launch_only, help_only, version_only}
@@ -65,6 +65,9 @@ one_manifest ws a b (x, n, e, h, p) (y, m, f, i, q) =
     let j = (head_same n m [] [] g.1).0 in
     p ∙ (ap (λ v. request.Manifest v n) (one_word x y g.0) ∙ (ap (request.Manifest y) j ∙ sym q))
 
+one_purge : (ws : List Word) (a b : Request) → AsksPurge ws a → AsksPurge ws b → a ≡ b
+one_purge ws a b (v, vs, e, p) (u, us, f, q) = p ∙ (ap request.Purge (sym e ∙ f) ∙ sym q)
+
 module _ (one : (x y : DigestName) → IsDigest x → IsDigest y → spelling x ≡ spelling y → x ≡ y) where
   one_add : (ws : List Word) (a b : Request) → AsksAdd ws a → AsksAdd ws b → a ≡ b
   one_add ws a b (x, n, e, d, h, p) (y, m, f, c, i, q) =
@@ -81,7 +84,9 @@ module _ (one : (x y : DigestName) → IsDigest x → IsDigest y → spelling x 
       let P : Word → Type 0 = λ v. AsksStore (v ∷ ws) b in one_add ws a b x.1 (store_add_only ws b (subst P x.0 y))
   one_store (w ∷ ws) a b (inr (inl x)) y =
       let P : Word → Type 0 = λ v. AsksStore (v ∷ ws) b in one_verify ws a b x.1 (store_verify_only ws b (subst P x.0 y))
-  one_store (w ∷ ws) a b (inr (inr x)) y =
+  one_store (w ∷ ws) a b (inr (inr (inl x))) y =
+      let P : Word → Type 0 = λ v. AsksStore (v ∷ ws) b in one_purge ws a b x.1 (store_purge_only ws b (subst P x.0 y))
+  one_store (w ∷ ws) a b (inr (inr (inr x))) y =
       let P : Word → Type 0 = λ v. AsksStore (v ∷ ws) b in x.2 ∙ sym (store_list_only ws b (subst P x.0 y)).1
 
   pub one_right : (ws : List Word) (a b : Request) → Right ws a → Right ws b → a ≡ b

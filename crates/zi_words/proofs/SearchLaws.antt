@@ -74,6 +74,7 @@ IsWithin (request.Download ask) = ask.search ≤ most_lemmas
 IsWithin (request.Run ask user) = ask.search ≤ most_lemmas
 IsWithin (request.Check ask sels proof) = ask.search ≤ most_lemmas
 IsWithin (request.Refute ask proof) = ask.search ≤ most_lemmas
+IsWithin (request.Why ask) = ask.search ≤ most_lemmas
 IsWithin (request.Demo n) = (1 ≤ n) × (n ≤ 1000)
 IsWithin other = Unit {0}
 
@@ -83,6 +84,7 @@ of_loader loader.Download ask proof named h = h
 of_loader loader.Run ask proof named h = h
 of_loader loader.Check ask proof named h = h
 of_loader loader.Refute ask proof named h = h
+of_loader loader.Why ask proof named h = h
 
 pub is_within : (ws : List Word) (r : Request) → Right ws r → IsWithin r
 is_within [] r h = absurd h
@@ -96,7 +98,8 @@ is_within (w ∷ ws) r (inr (inl (inr (e, h)))) = in_store ws h
     in_store [] s = absurd s
     in_store (u ∷ us) (inl (f, (name, files, g, d, n, is))) = let P : Request → Type 0 = λ v. IsWithin v in subst P (sym is) tt
     in_store (u ∷ us) (inr (inl (f, (name, g, d, is)))) = let P : Request → Type 0 = λ v. IsWithin v in subst P (sym is) tt
-    in_store (u ∷ us) (inr (inr (f, g, is))) = let P : Request → Type 0 = λ v. IsWithin v in subst P (sym is) tt
+    in_store (u ∷ us) (inr (inr (inl (f, (file, files, g, is))))) = let P : Request → Type 0 = λ v. IsWithin v in subst P (sym is) tt
+    in_store (u ∷ us) (inr (inr (inr (f, g, is)))) = let P : Request → Type 0 = λ v. IsWithin v in subst P (sym is) tt
 is_within (w ∷ ws) r (inr (inr (inl (e, (word, n, f, number, is))))) =
     let P : Request → Type 0 = λ v. IsWithin v in
     let Q : Option ℕ → Type 0 = λ o. IsNumber o in

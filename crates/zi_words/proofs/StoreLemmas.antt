@@ -17,7 +17,7 @@ use Rattle.zi_words.specs.declared.request.Request.TheVariants as request
 use Rattle.zi_words.specs.declared.refusal.Refusal.{Refusal}
 use Rattle.zi_words.specs.declared.refusal.Refusal.TheVariants.{Left, Memory}
 use Rattle.zi_words.specs.Forms.{Word}
-use Rattle.zi_words.specs.Store.{word_of, is_name, is_file, AsksManifest, AsksAdd, AsksVerify, AsksStore}
+use Rattle.zi_words.specs.Store.{word_of, is_name, is_file, AsksManifest, AsksAdd, AsksVerify, AsksPurge, AsksStore}
 use Rattle.zi_words.specs.Refused.{Asks, LeftAt, Refused}
 use Rattle.zi_words.specs.Taken.{IsSpelled, MissesDigest, AreFiles, IsEnded}
 use Rattle.zi_words.proofs.LeftLemmas.{behind, stuck, short}
@@ -229,37 +229,62 @@ manifest_ended ws rest (x ∷ last) w name copy a result e h g n c i =
 -- `store`
 
 begins_store : BeginsRight (Asks AsksStore) []
-begins_store = (codes "list" ∷ [], (request.Names, inr (inr (refl, refl, refl))))
+begins_store = (codes "list" ∷ [], (request.Names, inr (inr (inr (refl, refl, refl)))))
 
 pub store_none : (ws : List Word) → length ws ≡ 0 → LeftAt (Asks AsksStore) ws 0
 store_none [] e = short (Asks AsksStore) [] begins_store (λ (r, h). h)
 store_none (w ∷ ws) e = absurd (omega arith)
 
-pub store_unknown : (ws rest : List Word) (w : Word) → ws ≡ w ∷ rest → w ≢ codes "add" → w ≢ codes "verify" → w ≢ codes "list" → LeftAt (Asks AsksStore) ws (length ws)
-store_unknown ws rest w e na nv nl =
+pub store_unknown : (ws rest : List Word) (w : Word) → ws ≡ w ∷ rest → w ≢ codes "add" → w ≢ codes "verify" → w ≢ codes "purge" → w ≢ codes "list"
+    → LeftAt (Asks AsksStore) ws (length ws)
+store_unknown ws rest w e na nv np nl =
     let P : List Word → Type 0 = λ v. LeftAt (Asks AsksStore) v (length v) in
     subst P (sym e) (stuck (Asks AsksStore) [] w rest begins_store (λ (more, (r, h)). wrong more r h))
   where
     wrong : (more : List Word) (r : Request)
-        → ((w ≡ codes "add") × AsksAdd more r) ⊎ (((w ≡ codes "verify") × AsksVerify more r) ⊎ ((w ≡ codes "list") × (more ≡ []) × (r ≡ request.Names))) → ⊥
+        → ((w ≡ codes "add") × AsksAdd more r)
+        ⊎ (((w ≡ codes "verify") × AsksVerify more r) ⊎ (((w ≡ codes "purge") × AsksPurge more r) ⊎ ((w ≡ codes "list") × (more ≡ []) × (r ≡ request.Names)))) → ⊥
     wrong more r (inl h) = na h.0
     wrong more r (inr (inl h)) = nv h.0
-    wrong more r (inr (inr h)) = nl h.0
+    wrong more r (inr (inr (inl h))) = np h.0
+    wrong more r (inr (inr (inr h))) = nl h.0
 
 pub store_add_only : (u : List Word) (r : Request) → AsksStore (codes "add" ∷ u) r → AsksAdd u r
 store_add_only u r (inl h) = h.1
 store_add_only u r (inr (inl h)) = let e = h.0 in absurd cc
-store_add_only u r (inr (inr h)) = let e = h.0 in absurd cc
+store_add_only u r (inr (inr (inl h))) = let e = h.0 in absurd cc
+store_add_only u r (inr (inr (inr h))) = let e = h.0 in absurd cc
 
 pub store_verify_only : (u : List Word) (r : Request) → AsksStore (codes "verify" ∷ u) r → AsksVerify u r
 store_verify_only u r (inl h) = let e = h.0 in absurd cc
 store_verify_only u r (inr (inl h)) = h.1
-store_verify_only u r (inr (inr h)) = let e = h.0 in absurd cc
+store_verify_only u r (inr (inr (inl h))) = let e = h.0 in absurd cc
+store_verify_only u r (inr (inr (inr h))) = let e = h.0 in absurd cc
+
+pub store_purge_only : (u : List Word) (r : Request) → AsksStore (codes "purge" ∷ u) r → AsksPurge u r
+store_purge_only u r (inl h) = let e = h.0 in absurd cc
+store_purge_only u r (inr (inl h)) = let e = h.0 in absurd cc
+store_purge_only u r (inr (inr (inl h))) = h.1
+store_purge_only u r (inr (inr (inr h))) = let e = h.0 in absurd cc
 
 pub store_list_only : (u : List Word) (r : Request) → AsksStore (codes "list" ∷ u) r → (u ≡ []) × (r ≡ request.Names)
 store_list_only u r (inl h) = let e = h.0 in absurd cc
 store_list_only u r (inr (inl h)) = let e = h.0 in absurd cc
-store_list_only u r (inr (inr h)) = (h.1, h.2)
+store_list_only u r (inr (inr (inl h))) = let e = h.0 in absurd cc
+store_list_only u r (inr (inr (inr h))) = (h.1, h.2)
+
+-- `store purge`
+
+begins_purge : BeginsRight (Asks AsksPurge) []
+begins_purge = (codes "f" ∷ [], (request.Purge (codes "f" ∷ []), (codes "f", [], refl, refl)))
+
+pub purge_none : (ws : List Word) → length ws ≡ 0 → LeftAt (Asks AsksPurge) ws 0
+purge_none [] e = short (Asks AsksPurge) [] begins_purge (λ (r, (file, files, g, q)). cc)
+purge_none (w ∷ ws) e = absurd (omega arith)
+
+pub purge_right : (ws files : List Word) → (length ws ≡ 0 → ⊥) → files ≡ ws → AsksPurge ws (request.Purge files)
+purge_right [] files n e = absurd (n refl)
+purge_right (w ∷ ws) files n e = (w, ws, refl, ap request.Purge e)
 
 pub store_add : (ws rest : List Word) (w : Word) (result : Result Request Refusal) → ws ≡ w ∷ rest → w ≡ codes "add" → MatchResult result (AsksAdd rest) (Refused AsksAdd rest)
     → MatchResult result (AsksStore ws) (Refused AsksStore ws)
@@ -280,15 +305,25 @@ store_verify ws rest w (Err (Left n)) e h a =
     (behind (Asks AsksStore) (Asks AsksVerify) (codes "verify" ∷ []) rest (λ u (r, b). (r, store_verify_only u r b)) (λ u (r, b). (r, inr (inl (refl, b)))) n a)
 store_verify ws rest w (Err Memory) e h a = tt
 
+pub store_purge : (ws rest : List Word) (w : Word) (result : Result Request Refusal) → ws ≡ w ∷ rest → w ≡ codes "purge" → MatchResult result (AsksPurge rest) (Refused AsksPurge rest)
+    → MatchResult result (AsksStore ws) (Refused AsksStore ws)
+store_purge ws rest w (Ok r) e h a =
+    let P : List Word → Type 0 = λ v. AsksStore v r in subst P (sym (e ∙ ap (λ v. v ∷ rest) h)) (inr (inr (inl (refl, a))))
+store_purge ws rest w (Err (Left n)) e h a =
+    let P : List Word → Type 0 = λ v. LeftAt (Asks AsksStore) v n in
+    subst P (sym (e ∙ ap (λ v. v ∷ rest) h))
+    (behind (Asks AsksStore) (Asks AsksPurge) (codes "purge" ∷ []) rest (λ u (r, b). (r, store_purge_only u r b)) (λ u (r, b). (r, inr (inr (inl (refl, b))))) n a)
+store_purge ws rest w (Err Memory) e h a = tt
+
 pub store_list : (ws rest : List Word) (w : Word) (result : Result Request Refusal) → ws ≡ w ∷ rest → w ≡ codes "list" → IsEnded request.Names rest result
     → MatchResult result (AsksStore ws) (Refused AsksStore ws)
 store_list ws [] w result e h i =
     let P : Result Request Refusal → Type 0 = λ v. MatchResult v (AsksStore ws) (Refused AsksStore ws) in
     let Q : List Word → Type 0 = λ v. AsksStore v request.Names in
-    subst P (sym i) (subst Q (sym (e ∙ ap (λ v. v ∷ []) h)) (inr (inr (refl, refl, refl))))
+    subst P (sym i) (subst Q (sym (e ∙ ap (λ v. v ∷ []) h)) (inr (inr (inr (refl, refl, refl)))))
 store_list ws (x ∷ rest) w result e h i =
     let P : Result Request Refusal → Type 0 = λ v. MatchResult v (AsksStore ws) (Refused AsksStore ws) in
     let Q : List Word → Type 0 = λ v. LeftAt (Asks AsksStore) v (length (x ∷ rest)) in
     subst P (sym i)
     (subst Q (sym (e ∙ ap (λ v. v ∷ x ∷ rest) h))
-    (stuck (Asks AsksStore) (codes "list" ∷ []) x rest ([], (request.Names, inr (inr (refl, refl, refl)))) (λ (more, (r, a)). let j = (store_list_only (x ∷ more) r a).0 in cc)))
+    (stuck (Asks AsksStore) (codes "list" ∷ []) x rest ([], (request.Names, inr (inr (inr (refl, refl, refl))))) (λ (more, (r, a)). let j = (store_list_only (x ∷ more) r a).0 in cc)))

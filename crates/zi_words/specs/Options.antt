@@ -46,6 +46,8 @@ has_option loader.Check kind.Proof = false
 has_option loader.Check k = true
 has_option loader.Refute kind.Proof = false
 has_option loader.Refute k = true
+has_option loader.Why kind.Proof = false
+has_option loader.Why k = true
 
 -- its arguments
 abbrev pub forms : Kind → List Form

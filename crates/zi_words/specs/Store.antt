@@ -48,11 +48,16 @@ AsksAdd ws r =
 abbrev pub AsksVerify : List Word → Request → Type 0
 AsksVerify ws r = (name : DigestName) × (ws ≡ spelling name ∷ []) × IsDigest name × (r ≡ request.Verify name)
 
+-- behind `store purge`: one or more names of files, whatever they look like
+abbrev pub AsksPurge : List Word → Request → Type 0
+AsksPurge ws r = (file : Word) × (files : List Word) × (ws ≡ file ∷ files) × (r ≡ request.Purge (file ∷ files))
+
 -- behind `store`
 abbrev pub AsksStore : List Word → Request → Type 0
 AsksStore [] r = ⊥
 AsksStore (w ∷ ws) r =
-    ((w ≡ codes "add") × AsksAdd ws r) ⊎ (((w ≡ codes "verify") × AsksVerify ws r) ⊎ ((w ≡ codes "list") × (ws ≡ []) × (r ≡ request.Names)))
+    ((w ≡ codes "add") × AsksAdd ws r)
+    ⊎ (((w ≡ codes "verify") × AsksVerify ws r) ⊎ (((w ≡ codes "purge") × AsksPurge ws r) ⊎ ((w ≡ codes "list") × (ws ≡ []) × (r ≡ request.Names))))
 
 -- the commands on the store: their first word, and the words behind it
 abbrev pub InStore : Word → List Word → Request → Type 0

@@ -17,6 +17,8 @@ pub enum Loader {
     Check,
     /// `refute [options] ROOT PROOF`.
     Refute,
+    /// `why [options] ROOT`.
+    Why,
 }
 
 impl Loader {
@@ -26,10 +28,11 @@ impl Loader {
     {
         match self {
             Loader::Select => true,
-            Loader::Download | Loader::Run | Loader::Check | Loader::Refute => match kind {
-                Kind::Proof => false,
-                _ => true,
-            },
+            Loader::Download | Loader::Run | Loader::Check | Loader::Refute | Loader::Why =>
+                match kind {
+                    Kind::Proof => false,
+                    _ => true,
+                },
         }
     }
 
@@ -45,7 +48,7 @@ impl Loader {
         ensures { result ≡ count_of self }
     {
         match self {
-            Loader::Select | Loader::Download | Loader::Run => 0,
+            Loader::Select | Loader::Download | Loader::Run | Loader::Why => 0,
             Loader::Refute => 1,
             Loader::Check => 2,
         }

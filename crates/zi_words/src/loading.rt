@@ -187,6 +187,7 @@ fn request(
     match loader {
         Loader::Select => Ok(Request::Select { ask, proof }),
         Loader::Download => Ok(Request::Download { ask }),
+        Loader::Why => Ok(Request::Why { ask }),
         Loader::Run => {
             let user = copied(alloc, named)?;
             Ok(Request::Run { ask, user })

@@ -27,6 +27,7 @@ fn request(alloc: Global, words: &[Text]) -> Result<Request, Refusal>
         "run" => loading(alloc, Loader::Run, behind),
         "check" => loading(alloc, Loader::Check, behind),
         "refute" => loading(alloc, Loader::Refute, behind),
+        "why" => loading(alloc, Loader::Why, behind),
         "manifest" => manifest(alloc, behind),
         "store" => store(alloc, behind),
         "demo" => demo(behind),
@@ -41,10 +42,12 @@ impl Request {
     /// What the words of a command line ask for, the program's own name left out.
     ///
     /// Right words are `select [options] ROOT`, `download [options] ROOT`, `run [options] ROOT WORDS..`,
-    /// `launch FILE WORDS..`, `check [options] ROOT SELS PROOF`, `refute [options] ROOT PROOF`, `manifest ALG NAME`,
-    /// `store add NAME FILE..`, `store verify NAME`, `store list`, `demo N`, and `--help` or `--version` alone. The options and what
-    /// each sets are in `Kind`; they come before ROOT, and `--` may end them. A word that looks like an option is a value where a
-    /// value stands. All words behind ROOT of `run` and behind FILE of `launch` are the program's, whatever they look like.
+    /// `launch FILE WORDS..`, `check [options] ROOT SELS PROOF`, `refute [options] ROOT PROOF`, `why [options] ROOT`,
+    /// `manifest ALG NAME`, `store add NAME FILE..`, `store verify NAME`, `store list`,
+    /// `store purge FILE..` with one FILE or more, `demo N`, and `--help` or `--version` alone. The options and what each sets are
+    /// in `Kind`; they come before ROOT, and `--` may end them. A word that looks like an option is a value where a value stands,
+    /// and a FILE of `store purge`. All words behind ROOT of `run` and behind FILE of `launch` are the program's, whatever they
+    /// look like.
     ///
     /// `Usage` is answered exactly where no request is right for the words. Its index counts from 0: it is the number of
     /// words in their longest front that is also a front of some right list of words. `Memory` is answered where memory was

@@ -45,12 +45,16 @@ pub enum Request {
     Check { ask: Ask, sels: Text, proof: Text },
     /// `refute`: whether the proof of this name shows that no choice is valid.
     Refute { ask: Ask, proof: Text },
+    /// `why`: why each candidate that the best choice passes over isn't chosen.
+    Why { ask: Ask },
     /// `manifest`: the manifest and the digest of a tree in the store, under its name there.
     Manifest { algorithm: Algorithm, name: Text },
     /// `store add`: these files as a tree of the store with this digest.
     Add { name: DigestName, files: List<Text> },
     /// `store verify`: whether a tree of the store has its digest.
     Verify { name: DigestName },
+    /// `store purge`: the trees of the store but for those that a selection in one of these files has, taken away.
+    Purge { files: List<Text> },
     /// `store list`: the digest names in the store.
     Names,
     /// `demo`: the choice of the demonstration with this number, which is from 1 to 1,000.

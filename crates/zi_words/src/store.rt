@@ -3,10 +3,11 @@
 ghost use Rattle.std.specs.Prelude.{◌≡◌, ◌≢◌, ℕ, List, [], ◌∷◌, ◌<◌, length, MatchOption, MatchResult};
 ghost use Rattle.zi_digest.specs.Name.{spelling, IsDigest};
 ghost use Rattle.zi_digest.specs.declared.Algorithm.{Algorithm as AnAlgorithm};
-ghost use Rattle.zi_words.specs.Store.{word_of, is_name, last_part, AsksAdd, AsksVerify, AsksStore, AsksManifest};
+ghost use Rattle.zi_words.specs.Store.{word_of, is_name, last_part, AsksAdd, AsksVerify, AsksPurge, AsksStore, AsksManifest};
 ghost use Rattle.zi_words.specs.Refused.{Refused};
 ghost use Rattle.zi_words.specs.Taken.{MissesDigest, AreFiles, IsEnded};
 
+use crate::loading::copied;
 use crate::refusal::Refusal;
 use crate::request::Request;
 use std::alloc::Global;
@@ -122,6 +123,17 @@ fn verify(words: &[Text]) -> Result<Request, Refusal>
     ended(Request::Verify { name }, behind)
 }
 
+// The request of the words behind `store purge`.
+fn purge(alloc: Global, words: &[Text]) -> Result<Request, Refusal>
+    ensures { MatchResult result (AsksPurge words.now) (Refused AsksPurge words.now) }
+{
+    if words.is_empty() {
+        return Err(Refusal::Left(0));
+    }
+    let files = copied(alloc, words)?;
+    Ok(Request::Purge { files })
+}
+
 /// The request of the words behind `store`.
 pub fn store(alloc: Global, words: &[Text]) -> Result<Request, Refusal>
     ensures { MatchResult result (AsksStore words.now) (Refused AsksStore words.now) }
@@ -132,6 +144,7 @@ pub fn store(alloc: Global, words: &[Text]) -> Result<Request, Refusal>
     match word.as_str() {
         "add" => add(alloc, behind),
         "verify" => verify(behind),
+        "purge" => purge(alloc, behind),
         "list" => ended(Request::Names, behind),
         _ => Err(Refusal::Left(words.len())),
     }

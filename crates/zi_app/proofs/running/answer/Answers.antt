@@ -1,5 +1,6 @@
 use Rattle.std.proofs.Common.{map, refl}
 use Rattle.zi_storing.proofs.AddingLemmas.{adds_besides}
+use Rattle.zi_storing.proofs.PurgingLemmas.{purges_besides}
 use Rattle.zi_app.proofs.RunLemmas.{shows, shows_demo}
 use Rattle.zi_app.proofs.running.answer.Goals as goal
 
@@ -12,6 +13,10 @@ returns-in-Refute g c = rw c.in-Refute.is (record { does = record { does = c.ref
 pub returns-in-Add : goal.returns-in-Add
 returns-in-Add g c =
     rw c.in-Add.is (record { does = record { does = adds_besides c.in-Add.name c.in-Add.files (map g.R.Shelf.seen c.args.others.now) (g.F.Feeds.seen c.args.feeds.now) (g.F.Feeds.seen c.add.new.feeds) (g.K.Shelf.seen c.args.shelf.now) (g.K.Shelf.seen c.add.new.shelf) (g.O.Sink.seen c.args.out.now) (g.O.Sink.seen c.add.new.out) c.add.result c.add.ensures; web = refl }; started = refl })
+
+pub returns-in-Purge : goal.returns-in-Purge
+returns-in-Purge g c =
+    rw c.in-Purge.is (record { does = record { does = purges_besides c.in-Purge.files (map g.R.Shelf.seen c.args.others.now) (g.F.Feeds.seen c.args.feeds.now) (g.F.Feeds.seen c.purge.new.feeds) (g.K.Shelf.seen c.args.shelf.now) (g.K.Shelf.seen c.purge.new.shelf) (g.O.Sink.seen c.args.out.now) (g.O.Sink.seen c.purge.new.out) c.purge.result c.purge.ensures; web = refl }; started = refl })
 
 pub returns-in-Download : goal.returns-in-Download
 returns-in-Download g c = rw c.in-Download.is (record { does = c.download.ensures; started = refl })

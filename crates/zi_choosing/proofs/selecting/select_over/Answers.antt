@@ -8,7 +8,7 @@ use Rattle.zi_choosing.proofs.selecting.select_over.Goals as goal
 
 pub returns-in_default : goal.returns-in_default
 returns-in_default g c = record {
-  over = no_task c.args.ask c.args.proof c.args.known.now (record { feeds = g.F.Feeds.seen c.args.feeds.now; out = g.O.Sink.seen c.args.out.now });
+  over = no_task c.args.ask c.args.shows c.args.known.now (record { feeds = g.F.Feeds.seen c.args.feeds.now; out = g.O.Sink.seen c.args.out.now });
   feeds = feeds_same (g.F.Feeds.seen c.args.feeds.now);
 }
 
@@ -23,7 +23,7 @@ returns-in-Ok-load_over g c =
     let mid = g.F.Feeds.seen c.load_over.new.feeds in
     record {
       over =
-          selected c.args.ask c.args.proof c.args.known.now c.in-Ok.job.req c.args.ask.search (record { feeds = old; out = g.O.Sink.seen c.args.out.now }) (record { feeds = mid; out = g.O.Sink.seen c.choose-outcome.new.out })
+          selected c.args.ask c.args.shows c.args.known.now c.in-Ok.job.req c.args.ask.search (record { feeds = old; out = g.O.Sink.seen c.args.out.now }) (record { feeds = mid; out = g.O.Sink.seen c.choose-outcome.new.out })
           c.in-Ok-load_over.universe c.choose-outcome.result c.in-Ok.ensures.req refl
           (loaded_as c.args.known.now no_packages c.args.ask c.in-Ok.job.req c.in-Ok.job.policy old mid c.in-Ok-load_over.universe refl c.in-Ok.ensures.req c.in-Ok.ensures.policy c.in-Ok-load_over.ensures.loads)
           c.choose-outcome.ensures;
@@ -37,7 +37,7 @@ returns g c =
     let out = g.O.Sink.seen c.args.out.now in
     record {
       over =
-          refused_over c.args.ask c.args.proof c.args.known.now (record { feeds = old; out = out }) (record { feeds = mid; out = out }) c.in-Err.fault c.refused.result
+          refused_over c.args.ask c.args.shows c.args.known.now (record { feeds = old; out = out }) (record { feeds = mid; out = out }) c.in-Err.fault c.refused.result
           (refused_as c.args.known.now no_packages c.args.ask c.in-Ok.job.req c.in-Ok.job.policy old mid c.in-Err.fault refl c.in-Ok.ensures.req c.in-Ok.ensures.policy c.in-Err.ensures.refuses)
           refl c.refused.ensures;
       feeds = asks_stay _ old mid c.in-Err.ensures.refuses.asks;

@@ -1,5 +1,7 @@
-use Rattle.std.proofs.Common.{map, ap, ◌∙◌}
+use Rattle.std.proofs.Common.{map, sym, ap, ◌∙◌, Result, Ok}
 use Rattle.std.proofs.lemmas.Result.{err_from_is_err_and}
+use Rattle.zi_outside.specs.declared.launch.Launch.{Launch}
+use Rattle.zi_plan.specs.declared.fault.PlanFault.{PlanFault}
 use Rattle.zi_plan.specs.Placed.{exposed}
 use Rattle.zi_plan.specs.Launches.{all_bindings, bound_by}
 use Rattle.zi_plan.specs.Steps.{link_seen}
@@ -29,3 +31,4 @@ returns c =
     all_launched c.args.table.now c.args.vars.now c.args.user.now (map link_seen c.args.links.now) c.in_ok-check_last.ensures c.in_ok-apply_all.ensures.0 c.apply_all.new.vars
     (c.in_ok-apply_all.ensures.1 ∙ ap (bound_by (all_bindings c.args.table.now)) c.in_ok-vars.ensures) c.in_ok-words.words c.in_ok-dirs.dirs
     c.in_ok-words.ensures (c.in_ok-dirs.ensures ∙ ap exposed c.all.ensures)
+    ∙ ap {B = Result Launch PlanFault} (λ ss. Ok (record { words = c.in_ok-words.words; vars = c.apply_all.new.vars; dirs = c.in_ok-dirs.dirs; shims = ss })) (sym c.new.ensures)

@@ -1,7 +1,6 @@
-use Rattle.std.proofs.Common.{rules, ◌≡◌, length, subst, refl, arith, None, false, get_or, ◌-◌}
-use Rattle.zi_sat.specs.Guard.{row_of}
-use Rattle.zi_sat.specs.Rows.{Has}
-use Rattle.zi_sat.proofs.AddLaws.{last_two, last_are}
+use Rattle.std.proofs.Common.{rules, ◌≡◌, ◌-◌, length, refl, arith, None, false, get_or}
+use Rattle.zi_formula.specs.declared.formula.Constraint.TheVariants.{Clause}
+use Rattle.zi_sat.proofs.AddLaws.{last_two, last_are, pair_adds, all_fit_more}
 use Rattle.zi_sat.proofs.watches.add_clause.Goals as goal
 
 pub returns-then-len-lt2-clause-adds : goal.returns-then-len-lt2-clause-adds
@@ -12,15 +11,10 @@ returns-then-len-lt2-clause-adds c =
       held = omega (arith, c.if-len-lt2.true);
       last = tt;
       grows = λ q m h. h;
+      fits = λ all e f. all_fit_more c.args.w.now.rows all (Clause c.args.lits.now) f;
     }
 
 pub returns-clause-adds : goal.returns-clause-adds
 returns-clause-adds c =
     let n : c.len-i.result ≡ length c.args.w.now.pairs = search rules in
-    record {
-      pair = _;
-      pairs = c.in_ok-push.ensures.items;
-      held = (last_two c.args.lits.now (length c.args.lits.now) (record { variable = 0; positive = false }) (record { variable = 0; positive = false }) refl (omega (arith, c.if-len-lt2.false)) c.requires.once, c.add-2.ensures.grows _ (length c.args.w.now.pairs) (subst (Has c.add.new.rows.items (row_of (get_or c.args.lits.now (length c.args.lits.now - 1) (record { variable = 0; positive = false })))) n (subst (λ r. Has c.add.new.rows.items r c.len-i.result) c.row.ensures c.in_ok-add.ensures.ok)), subst (Has c.add-2.new.rows.items (row_of (get_or c.args.lits.now (length c.args.lits.now - 2) (record { variable = 0; positive = false })))) n (subst (λ r. Has c.add-2.new.rows.items r c.len-i.result) c.row-2.ensures c.in_ok-add-2.ensures.ok));
-      last = last_are c.args.lits.now (length c.args.lits.now) (record { variable = 0; positive = false }) (record { variable = 0; positive = false }) refl (omega (arith, c.if-len-lt2.false));
-      grows = λ q m h. c.add-2.ensures.grows q m (c.add.ensures.grows q m h);
-    }
+    pair_adds c.args.w.now _ c.add.new.self c.row.result c.row-2.result c.len-i.result c.args.n c.args.lits.now (record { first = (get_or c.args.lits.now (length c.args.lits.now - 1) (record { variable = 0; positive = false })); second = (get_or c.args.lits.now (length c.args.lits.now - 2) (record { variable = 0; positive = false })) }) c.requires.within (last_two c.args.lits.now (length c.args.lits.now) (record { variable = 0; positive = false }) (record { variable = 0; positive = false }) refl (omega (arith, c.if-len-lt2.false)) c.requires.once) (last_are c.args.lits.now (length c.args.lits.now) (record { variable = 0; positive = false }) (record { variable = 0; positive = false }) refl (omega (arith, c.if-len-lt2.false))) c.requires.rows n c.row.ensures c.row-2.ensures c.in_ok-add.ensures.ok c.in_ok-add-2.ensures.ok c.in_ok-push.ensures.items

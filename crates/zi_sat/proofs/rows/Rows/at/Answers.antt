@@ -1,0 +1,2 @@
+use Rattle.zi_sat.proofs.RowLaws.{rows_row}
+use Rattle.zi_sat.proofs.rows.Rows.at.Goals as goal
