@@ -465,7 +465,6 @@ def purged(folder):
     trees = [dict(FILES, a=b"%d" % number) for number in range(6)]
     names = [name_of(files) for files in trees]
     one, two = document(folder, "one", [names[0]]), document(folder, "two", [names[1], names[2], OTHER])
-    expect(run(["store", "purge", one], folder), 0, b"", b"")
     for files in trees:
         expect(run(tree(folder, files), folder), 0, b"stored\n", b"")
     beside = ["plain", "tmp-0", "tmp-2"]
@@ -475,7 +474,7 @@ def purged(folder):
     for words, status in (([one, "none"], 75), ([one, bad], 76), (["none", bad], 75), ([folder], 65)):
         got = run(["store", "purge", *words], folder)
         holds(f"{words}: {got}", got[:2] == (status, b""))
-    expect(run(["store", "purge"], folder), 64, b"", b"zi: usage at word 3\n")
+    expect(run(["store", "purge"], folder), 64, b"", b"zi: usage at word 2\n")
     expect(run(["store", "list"], folder), 0, lines(names), b"")
     expect(run(["store", "purge", one, two, one], folder), 0, lines(names[3:]), b"")
     expect(run(["store", "list"], folder), 0, lines(names[:3]), b"")

@@ -161,14 +161,13 @@ class Count:
                 self.of[word] = self.of.get(word, 0) + 1
 
 
-def wrong_of(asked, options, choice, count):
+def wrong_of(universe, asked, options, choice, count):
     words = [*(["--no-command"] if asked.command is None else ["--command", asked.command]), *options, asked.root]
     status, text = run("why", *words)
     if choice is None:
         return None if (status, text) == (NO_SOLUTION, b"") else f"status {status} and {text}, where nothing fits"
     if status != DONE:
         return f"status {status}"
-    universe = universes.load(asked)
     _, blocks = proofs.read(run("select", "--proof", *words)[1])
     wanted = "".join(report(universe, asked, choice, blocks))
     count.add(wanted)
@@ -180,7 +179,7 @@ def wrong_of_random(number, folder, count):
     universe = universes.load(asked)
     choice = universes.best(universe, asked)
     refutes = list(refuted(universe, asked, choice)) if choice else []
-    return f"refuted: {refutes}" if refutes else wrong_of(asked, options, choice, count)
+    return f"refuted: {refutes}" if refutes else wrong_of(universe, asked, options, choice, count)
 
 
 def wrong_of_demonstration(number, folder, count):
@@ -188,8 +187,9 @@ def wrong_of_demonstration(number, folder, count):
     demonstration.write()
     asked = Asked(demonstration.address("root"))
     ids = demonstration.chosen()
-    choice = {uri: next(c for c in candidates if c.id == ids[uri]) for uri, candidates in universes.load(asked)}
-    return wrong_of(asked, [], choice, count)
+    universe = universes.load(asked)
+    choice = {uri: next(c for c in candidates if c.id == ids[uri]) for uri, candidates in universe}
+    return wrong_of(universe, asked, [], choice, count)
 
 
 def check(what, numbers, wrong_of_number, top):
