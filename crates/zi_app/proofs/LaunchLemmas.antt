@@ -9,7 +9,7 @@ use Rattle.zi_store.specs.declared.verdicts.Verdict.{Verdict}
 use Rattle.zi_store.specs.declared.verdicts.Verdict.TheVariants as verdict
 use Rattle.zi_words.specs.declared.request.Ask.{Ask}
 use Rattle.zi_outcome.specs.declared.outcome.Outcome.{Outcome}
-use Rattle.zi_outcome.specs.declared.outcome.Outcome.TheVariants.{Done, Usage, FeedRead, NoRootFeed, BadFeed, FeedTooLong, TooManyFeeds, TooManyInterfaces, TooManyCandidates, TooLarge, NoSolution, Spent, NoFile, BadSels, BadProof, Rejected, Plan, FetchRead, NoRemote, WrongSize, Overlap, NoPath, Mismatch, MissingTree, DamagedTree, BadName, TreeTooLarge, StoreFault, Crowded, SpawnFault, SinkFault, Memory, Child}
+use Rattle.zi_outcome.specs.declared.outcome.Outcome.TheVariants.{Usage, SpawnFault, Memory, Child}
 use Rattle.zi_world.specs.Surroundings.{Surroundings}
 use Rattle.zi_world.specs.Places.{place}
 use Rattle.zi_world.proofs.StandLemmas.{never_in_store}
@@ -24,39 +24,10 @@ abbrev pub ran_in : Spawning → Option (List Ran)
 ran_in s = s.ran
 
 started_quiet : (launch : Launch) (old new : Spawning) (outcome : Outcome) → Starts launch old new outcome → ((n : ℕ) → outcome ≢ Child n) → new.ran ≡ old.ran
-started_quiet launch old new Done s ne = absurd s
-started_quiet launch old new (Usage index) s ne = absurd s
-started_quiet launch old new (FeedRead uri) s ne = absurd s
-started_quiet launch old new NoRootFeed s ne = absurd s
-started_quiet launch old new (BadFeed uri fault) s ne = absurd s
-started_quiet launch old new (FeedTooLong uri limit) s ne = absurd s
-started_quiet launch old new (TooManyFeeds limit) s ne = absurd s
-started_quiet launch old new (TooManyInterfaces limit) s ne = absurd s
-started_quiet launch old new (TooManyCandidates limit) s ne = absurd s
-started_quiet launch old new (TooLarge limit) s ne = absurd s
-started_quiet launch old new (NoSolution p) s ne = absurd s
-started_quiet launch old new (Spent p count) s ne = absurd s
-started_quiet launch old new (NoFile file) s ne = absurd s
-started_quiet launch old new (BadSels fault) s ne = absurd s
-started_quiet launch old new (BadProof line) s ne = absurd s
-started_quiet launch old new Rejected s ne = absurd s
-started_quiet launch old new (Plan fault) s ne = absurd s
-started_quiet launch old new (FetchRead href) s ne = absurd s
-started_quiet launch old new (NoRemote href) s ne = absurd s
-started_quiet launch old new (WrongSize href said got) s ne = absurd s
-started_quiet launch old new (Overlap path) s ne = absurd s
-started_quiet launch old new (NoPath path) s ne = absurd s
-started_quiet launch old new (Mismatch right found) s ne = absurd s
-started_quiet launch old new (MissingTree missing) s ne = absurd s
-started_quiet launch old new (DamagedTree damaged found) s ne = absurd s
-started_quiet launch old new (BadName path) s ne = absurd s
-started_quiet launch old new (TreeTooLarge what limit) s ne = absurd s
-started_quiet launch old new (StoreFault blame) s ne = absurd s
-started_quiet launch old new (Crowded tried) s ne = absurd s
 started_quiet launch old new SpawnFault s ne = s.0.ran
-started_quiet launch old new SinkFault s ne = absurd s
 started_quiet launch old new Memory s ne = ap ran_in s
 started_quiet launch old new (Child n) s ne = absurd (ne n refl)
+started_quiet launch old new other s ne = absurd s
 
 over_quiet : (task : Task) (before after : Lent) (outcome : Outcome) → LaunchesOver task before after outcome → ((n : ℕ) → outcome ≢ Child n) → after.spawner.ran ≡ before.spawner.ran
 over_quiet task before after outcome (inl (not, same)) ne = ap ran_in same

@@ -1,4 +1,10 @@
 pub mod KeptLemmas
 pub mod LaunchLemmas
+pub mod EndLemmas
+pub mod ChoosingEnds
+pub mod StoringEnds
+pub mod FetchingEnds
+pub mod LaunchingEnds
+pub mod WorkEnds
 pub mod RunLemmas
 pub mod CauseLaws

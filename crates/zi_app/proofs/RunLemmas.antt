@@ -43,6 +43,7 @@ use Rattle.zi_storing.proofs.AddingLemmas.{adds_use}
 use Rattle.zi_storing.proofs.PurgingLemmas.{purge_lasts, purge_spares}
 use Rattle.zi_storing.proofs.RightLemmas.{prints_right, lists_right, manifest_right, verify_right, add_right, purge_right}
 use Rattle.zi_app.proofs.KeptLemmas.{uses_last, download_right}
+use Rattle.zi_app.proofs.WorkEnds.{works_end}
 
 -- right words ask for files with names, for no more lemmas than there may be, and for a demonstration that there is
 abbrev IsLoading : Request → Type 0
@@ -301,6 +302,8 @@ works_told words vars before after err_before err_after work outcome done told s
   work = work;
   done = done;
   told = told;
+  out = (works_end words vars before after work done).out;
+  blamed = (works_end words vars before after work done).blamed;
   feeds = works_stay words vars before after work done;
   stores = (works_last words vars before after work done, each_by (Keeps is_reading) Lasts (λ b a k. keeps_lasts is_reading b a k) before.others after.others (works_read words vars before after work done));
   others = works_read words vars before after work done;

@@ -30,6 +30,7 @@ use Rattle.zi_storing.specs.StoreVerify.{VerifiesTree}
 use Rattle.zi_storing.specs.Adding.{AddsFiles}
 use Rattle.zi_storing.specs.StorePurge.{PurgesFiles, SparesNamed}
 use Rattle.zi_app.specs.Showing.{ShowsText, ShowsDemo}
+use Rattle.zi_app.specs.Outcomes.{Leaves, Blames}
 
 -- The work of a command that meets neither web nor spawner.
 abbrev pub Apart : (World → World → Outcome → Type 0) → Surroundings → Surroundings → Outcome → Type 0
@@ -81,13 +82,16 @@ StoredStays words before after =
     KeepsTrees before.shelf after.shelf
     ⊎ ((files : List (List ℕ)) × Right words (request.Purge files) × SparesNamed files (world_of (meets_of before)) (world_of (meets_of after)))
 
--- The work is done, to an outcome of its own, and the line of that is told on err. Whatever it was, feeds, stores and web can be used on;
--- what stood under a digest in the store that is written stands there, but for what a purge takes away, and each tree that has come under one
--- has it; the other stores were only read; and after every outcome but a program's status nothing was launched.
+-- The work is done, to an outcome of its own, and the line of that is told on err. That outcome says what was written, and whose calls failed.
+-- Whatever it was, feeds, stores and web can be used on; what stood under a digest in the store that is written stands there, but for what a
+-- purge takes away, and each tree that has come under one has it; the other stores were only read; and after every outcome but a program's
+-- status nothing was launched.
 pub record Runs (words : List (List ℕ)) (vars : List Var) (before after : Surroundings) (err_before err_after : Sinking) (outcome : Outcome) : Type 0 where
   pub work : Outcome
   pub done : Works words vars before after work
   pub told : Tells work err_before err_after outcome
+  pub out : Leaves work before.out after.out
+  pub blamed : Blames work before after
   pub feeds : FeedsStay before.feeds after.feeds
   pub stores : Each Lasts (before.shelf ∷ before.others) (after.shelf ∷ after.others)
   pub web : FeedsStay before.web after.web

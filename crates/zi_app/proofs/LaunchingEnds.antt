@@ -1,0 +1,138 @@
+-- What was written and whose calls failed, of `run` and `launch`.
+use Rattle.std.proofs.Common.{◌≡◌, ◌⊎◌, ℕ, zero, suc, inl, inr, List, [], ◌∷◌, Ok, Err, sym, ap, subst}
+use Rattle.zi_digest.specs.declared.DigestName.{DigestName}
+use Rattle.zi_outside.specs.Views.{Feeding}
+use Rattle.zi_outside.specs.Launched.{Spawning}
+use Rattle.zi_outside.specs.declared.launch.Launch.{Launch}
+use Rattle.zi_outside.specs.declared.var.Var.{Var}
+use Rattle.zi_shelf.specs.Shelving.{Shelving}
+use Rattle.zi_store.specs.Stores.{Each, IsCalm, Fails, SomeFails}
+use Rattle.zi_store.specs.declared.verdicts.Verdict.{Verdict}
+use Rattle.zi_store.specs.declared.verdicts.Verdict.TheVariants as verdict
+use Rattle.zi_words.specs.declared.request.Ask.{Ask}
+use Rattle.zi_outcome.specs.declared.outcome.Outcome.{Outcome}
+use Rattle.zi_outcome.specs.declared.outcome.Outcome.TheVariants.{FeedRead, FeedTooLong, NoFile, BadSels, StoreFault, SpawnFault, Memory, Child}
+use Rattle.zi_opening.specs.Opening.{GetsNot}
+use Rattle.zi_world.specs.Places.{InStore, place}
+use Rattle.zi_world.specs.Surroundings.{Surroundings, meets_of}
+use Rattle.zi_world.proofs.PlacesLemmas.{some_fails}
+use Rattle.zi_world.proofs.StandLemmas.{in_store_by}
+use Rattle.zi_fetching.specs.Download.{sources}
+use Rattle.zi_launching.specs.Verifying.{Condemns, FailsToVerify, StopsVerifying}
+use Rattle.zi_launching.specs.Launching.{Task, Lent, launching, PreparesNot, Starts, LaunchesOver}
+use Rattle.zi_launching.specs.Run.{RunsTo, RunsProgram}
+use Rattle.zi_launching.specs.Opening.{stores_of, LaunchesTo, LaunchesFile}
+use Rattle.zi_app.specs.Outcomes.{RoseOnFeedRead, RoseOnSpawnFault, FailsOnStoreFault}
+use Rattle.zi_app.proofs.EndLemmas.{IsSpared, Feeds, Stores, Web, Spawner, Output, Ends, ends, same_count, feeds_still, stores_still, web_still, spawner_still, untouched_calm, unwritten, stopped}
+use Rattle.zi_app.proofs.ChoosingEnds.{found_not}
+use Rattle.zi_app.proofs.FetchingEnds.{fetches_not, web_calm}
+
+-- An outcome that blames a store, or nothing.
+abbrev IsOfStores : Outcome → Type 0
+IsOfStores o = IsSpared Feeds o × IsSpared Web o × IsSpared Spawner o × IsSpared Output o
+
+condemned : (d : DigestName) (v : Verdict) (o : Outcome) → Condemns d v o → IsOfStores o
+condemned d verdict.Sound o w = absurd w
+condemned d verdict.Missing o w = subst IsOfStores (sym w) (tt, tt, tt, tt)
+condemned d (verdict.Damaged found) o w = subst IsOfStores (sym w) (tt, tt, tt, tt)
+condemned d (verdict.BadName path) o w = subst IsOfStores (sym w) (tt, tt, tt, tt)
+condemned d (verdict.TooLarge what limit) o w = subst IsOfStores (sym w) (tt, tt, tt, tt)
+
+unsound_of : (d : DigestName) (o : Outcome) (before after : Shelving) → FailsToVerify d before o after → IsOfStores o
+unsound_of d o before after (inl (v, w, calm, held)) = condemned d v o w
+unsound_of d o before after (inr (inl (e, f))) = subst IsOfStores (sym e) (tt, tt, tt, tt)
+unsound_of d o before after (inr (inr (e, calm))) = subst IsOfStores (sym e) (tt, tt, tt, tt)
+
+-- what is told of a store whatever it is
+in_store_so : (P : Shelving → Shelving → Type 0) (X : Type 0) → ((b a : Shelving) → P b a → X) → (i : ℕ) (before after : List Shelving) → InStore i before after P → X
+in_store_so P X by i [] after p = absurd p
+in_store_so P X by i (b ∷ bs) [] p = absurd p
+in_store_so P X by zero (b ∷ bs) (a ∷ as_) p = by b a p
+in_store_so P X by (suc i) (b ∷ bs) (a ∷ as_) p = in_store_so P X by i bs as_ p
+
+-- the store failed where that is the outcome
+blamed_fails : (d : DigestName) (name : List ℕ) (before after : Shelving) → FailsToVerify d before (StoreFault name) after → Fails before after
+blamed_fails d name before after (inl (verdict.Sound, w, calm, held)) = absurd w
+blamed_fails d name before after (inl (verdict.Missing, w, calm, held)) = absurd (cc w)
+blamed_fails d name before after (inl (verdict.Damaged found, w, calm, held)) = absurd (cc w)
+blamed_fails d name before after (inl (verdict.BadName path, w, calm, held)) = absurd (cc w)
+blamed_fails d name before after (inl (verdict.TooLarge what limit, w, calm, held)) = absurd (cc w)
+blamed_fails d name before after (inr (inl (e, f))) = f
+blamed_fails d name before after (inr (inr (e, calm))) = absurd (cc e)
+
+module _ (number : DigestName → ℕ) (names : List DigestName) (before after : List Shelving) where
+  stops : (o : Outcome) → StopsVerifying number names before o after → FailsOnStoreFault o before after
+  stops (StoreFault name) s =
+      some_fails (number s.name) before after (in_store_by (λ b a. FailsToVerify s.name b (StoreFault name) a) Fails (λ b a f. blamed_fails s.name name b a f) (number s.name) before after s.fails)
+  stops other s = elim s.calm [ inl calm ↦ calm | inr f ↦ absurd (cc f.0) ]
+
+  stops_of : (o : Outcome) → StopsVerifying number names before o after → IsOfStores o
+  stops_of o s = in_store_so (λ b a. FailsToVerify s.name b o a) (IsOfStores o) (λ b a f. unsound_of s.name o b a f) (number s.name) before after s.fails
+
+-- Nothing is launched.
+calm_stores : (o : Outcome) (x : Outcome) (before after : List Shelving) → o ≡ x → IsSpared Stores x → IsOfStores x → Each IsCalm before after → FailsOnStoreFault o before after × IsOfStores o
+calm_stores o x before after e s spared calm = subst (λ y. FailsOnStoreFault y before after × IsOfStores y) (sym e) (stores_still x before after s calm, spared)
+
+prepares_not : (task : Task) (o : Outcome) (before after : List Shelving) → PreparesNot task before o after → FailsOnStoreFault o before after × IsOfStores o
+prepares_not task o before after (inl (inl (d, m, e), calm)) = calm_stores o _ before after e tt (tt, tt, tt, tt) calm
+prepares_not task o before after (inl (inr e, calm)) = calm_stores o _ before after e tt (tt, tt, tt, tt) calm
+prepares_not task o before after (inr (inl (inl (fault, e, plan), calm))) = calm_stores o _ before after e tt (tt, tt, tt, tt) calm
+prepares_not task o before after (inr (inl (inr e, calm))) = calm_stores o _ before after e tt (tt, tt, tt, tt) calm
+prepares_not task o before after (inr (inr u)) = (stops (place task.each) _ before after o u.stops, stops_of (place task.each) _ before after o u.stops)
+
+-- What a launch comes to: it blames a store or the spawner, and nothing else.
+abbrev EndsLaunch : Outcome → Lent → Lent → Type 0
+EndsLaunch o before after =
+    FailsOnStoreFault o before.stores after.stores × RoseOnSpawnFault o before.spawner.faults after.spawner.faults × IsSpared Feeds o × IsSpared Web o × IsSpared Output o
+
+launched : (task : Task) (o : Outcome) (before after : Lent) → LaunchesOver task before after o → EndsLaunch o before after
+launched task o before after (inl (not, same)) = let p = prepares_not task o before.stores after.stores not in (p.0, spawner_still o before.spawner after.spawner p.1.2 same, p.1.0, p.1.1, p.1.3)
+launched task o before after (inr (launch, ready, starts)) = started o starts
+  where
+    started : (x : Outcome) → Starts launch before.spawner after.spawner x → EndsLaunch x before after
+    started (Child status) s = (ready.calm, s.0.faults, tt, tt, tt)
+    started SpawnFault s = (ready.calm, s.0.failed, tt, tt, tt)
+    started Memory s = (ready.calm, ap (λ (p : Spawning). p.faults) s, tt, tt, tt)
+    started other s = absurd s
+
+pub run_ends : (ask : Ask) (vars : List Var) (user : List (List ℕ)) (o : Outcome) (before after : Surroundings) → RunsProgram ask vars user before after o → Ends o before after
+run_ends ask vars user o before after r = by r.comes
+  where
+    by : RunsTo ask vars user r.tried before after o → Ends o before after
+    by (inl (found, none, started)) =
+        let f = found_not ask (sources (meets_of before)) (sources (meets_of after)) o found in
+        ends o before after f.0 f.1 (web_still o f.2 (same_count before.web after.web none.1)) (spawner_still o before.spawner after.spawner f.3 started) (unwritten o before.out after.out f.4 r.out)
+    by (inr (c, chosen, inl s)) =
+        let f = fetches_not c before.web r.tried after.web before.shelf after.shelf before.others after.others s.cost s.calm o s.fetches in
+        ends o before after (feeds_still o f.2 chosen.chosen.loaded.asked.faults) f.1 f.0 (spawner_still o before.spawner after.spawner f.3 s.nothing) (unwritten o before.out after.out f.4 r.out)
+    by (inr (c, chosen, inr l)) =
+        let f = launched _ o (launching before) (launching after) l.launches in
+        ends o before after (feeds_still o f.2 chosen.chosen.loaded.asked.faults) f.0 (web_still o f.3 (web_calm c before.web l.stored r.tried after.web l.fetched)) f.1 (unwritten o before.out after.out f.4 r.out)
+
+-- The document isn't got.
+gets_not : (file : List ℕ) (o : Outcome) (before after : Feeding) → GetsNot file before o after
+    → RoseOnFeedRead o before.faults after.faults × IsSpared Stores o × IsSpared Web o × IsSpared Spawner o × IsSpared Output o
+gets_not file (FeedRead uri) before after g = (g.2, tt, tt, tt, tt)
+gets_not file (NoFile name) before after g = (g.1.calm, tt, tt, tt, tt)
+gets_not file (FeedTooLong uri limit) before after g = (g.1.calm, tt, tt, tt, tt)
+gets_not file (BadSels fault) before after g = (g.1.asked.calm, tt, tt, tt, tt)
+gets_not file Memory before after (inl e) = (same_count before after e, tt, tt, tt, tt)
+gets_not file Memory before after (inr a) = (a.calm, tt, tt, tt, tt)
+gets_not file other before after g = absurd g
+
+pub launch_ends : (file : List ℕ) (vars : List Var) (user : List (List ℕ)) (o : Outcome) (before after : Surroundings) → LaunchesFile file vars user before after o → Ends o before after
+launch_ends file vars user o before after l = by l.comes
+  where
+    web : after.web.faults ≡ before.web.faults
+    web = same_count before.web after.web l.web
+
+    by : LaunchesTo file vars user before after o → Ends o before after
+    by (inl (gets, leaves)) =
+        let g = gets_not file o before.feeds after.feeds gets in
+        ends o before after g.0 (stores_still o (stores_of before) (stores_of after) g.1 (untouched_calm (stores_of before) (stores_of after) leaves.stores)) (web_still o g.2 web) (spawner_still o before.spawner after.spawner g.3 leaves.nothing) (unwritten o before.out after.out g.4 l.out)
+    by (inr (sels, gets, inl (none, keeps, nothing))) =
+        let s = stopped [] o (stores_of before) (stores_of after) none in
+        ends o before after (feeds_still o s.1 gets.1.asked.calm) s.0 (web_still o s.2 web) (spawner_still o before.spawner after.spawner s.3 nothing) (unwritten o before.out after.out s.4 l.out)
+    by (inr (sels, gets, inr (known, are, over))) =
+        let f = launched _ o (launching before) (launching after) over in
+        ends o before after (feeds_still o f.2 gets.1.asked.calm) f.0 (web_still o f.3 web) f.1 (unwritten o before.out after.out f.4 l.out)
