@@ -10,6 +10,10 @@ it is given. All answers are to agree; a run that takes longer than twenty secon
 
 Then come feeds: the demonstration, whose formula the other solvers get too, and programs without a solution, pigeons and three of them
 behind forty choices that have nothing to do with them. There `select --proof` tells the lemmas. 0install is given up after two minutes.
+
+Last come webs at random, with a solution and without one, near the edge between the two, where they are hard. The other solvers get their formulas: they find any
+model, where the program finds the best choice. A web for which the budget of the command line is spent is told as such. With the word
+`webs` behind its name the script runs these alone.
 """
 import collections
 import itertools
@@ -25,7 +29,7 @@ import tempfile
 import time
 
 from measure import timed_with_peak
-from shapes import knot, pigeons as pigeons_as_feeds, theirs_on, write_feeds
+from shapes import hard_web, knot, pigeons as pigeons_as_feeds, theirs_on, write_feeds
 
 sys.path.append(str(pathlib.Path(__file__).resolve().parent.parent / "tests"))
 import proofs
@@ -46,8 +50,25 @@ DEMONSTRATIONS = (10, 20, 40, 80, 1000)
 HEAD = "  <name>n</name>\n  <summary>s</summary>\n"
 RUNS = 3
 THEIR_SECONDS = 120
-DONE, NO_SOLUTION = 0, 73
+DONE, NO_SOLUTION, SPENT = 0, 73, 74
 UNSOLVABLE = (("three pigeons in two holes beside 40 choices", knot, 40), ("9 pigeons in 8 holes", pigeons_as_feeds, 9), ("11 pigeons in 10 holes", pigeons_as_feeds, 11))
+
+# interfaces, versions, what each names, the part of the versions that is admitted, the kind, the seed
+WEBS = (
+    (50, 20, 3, 0.4, "req", 0),
+    (70, 6, 3, 0.5, "req", 0),
+    (80, 7, 3, 0.45, "req", 0),
+    (100, 6, 3, 0.5, "any", 1),
+    (100, 6, 3, 0.5, "req", 0),
+    (100, 6, 3, 0.5, "req", 1),
+    (100, 8, 3, 0.4, "req", 0),
+    (100, 10, 4, 0.5, "any", 0),
+    (100, 10, 4, 0.5, "any", 1),
+    (200, 6, 2.5, 0.5, "req", 1),
+    (300, 6, 2.25, 0.5, "req", 0),
+    (100, 20, 3, 0.3, "any", 0),
+)
+WEB_SECONDS = 120
 
 # the other solvers: what they are called with before the formula, and where they tell their conflicts
 OTHERS = {
@@ -187,6 +208,48 @@ def unsolvable(what, feeds_of, count):
         on_feeds(f"{what}, as feeds", root, folder, NO_SOLUTION)
 
 
+def answered(run):
+    """Whether a run of another solver found a model."""
+    return run and run[0] == "model"
+
+
+def on_web(others, *numbers):
+    """A web as feeds, and its formula for the other solvers. The answers are to agree."""
+    count, versions, needs, admitted, kind, seed = numbers
+    with tempfile.TemporaryDirectory(prefix="zi-bench-") as folder:
+        root, _ = write_feeds(folder, hard_web(*numbers))
+        print(f"a web of {count} interfaces by {versions}, {needs} named, {admitted} admitted, {kind}, {seed}")
+        start = time.perf_counter()
+        try:
+            told = subprocess.run([ZI, "select", "--no-command", "--proof", root], capture_output=True, text=True, timeout=WEB_SECONDS)
+        except subprocess.TimeoutExpired:
+            told = None
+        taken = time.perf_counter() - start
+        if told is None:
+            print(f"  here: given up after {WEB_SECONDS} s", flush=True)
+        elif told.returncode == SPENT:
+            print(f"  here: {told.stderr.strip()}, {taken:.3f} s", flush=True)
+        elif told.returncode in (DONE, NO_SOLUTION):
+            print(f"  here: {'the best choice' if told.returncode == DONE else 'no solution'}, {told.stdout.count(chr(10) + 'l ')} lemmas, {taken:.3f} s", flush=True)
+        else:
+            sys.exit(f"{ZI}: status {told.returncode}: {told.stderr.strip()}")
+        asked = universes.Asked(root)
+        path = pathlib.Path(folder, "formula.cnf")
+        path.write_text(for_others(universes.formula(universes.load(asked), asked)))
+        for name in others:
+            run = theirs(name, path)
+            if run and told and told.returncode != SPENT and answered(run) != (told.returncode == DONE):
+                sys.exit(f"the web {numbers}: the answers are not the same")
+            ratio = f", {taken / run[2]:.2f} times its time here" if run else ""
+            print(f"  {name}: " + (f"given up after {SECONDS} s" if run is None else f"{run[0]}, {run[1]} conflicts, {run[2]:.3f} s{ratio}"), flush=True)
+        try:
+            theirs_taken = theirs_on(folder, root, 1, 1 if told and told.returncode == NO_SOLUTION else 0, THEIR_SECONDS)
+        except subprocess.TimeoutExpired:
+            print(f"  0install: given up after {THEIR_SECONDS} s", flush=True)
+            return
+        print("  0install isn't installed: no ratio to it" if theirs_taken is None else f"  0install: {theirs_taken:.2f} s", flush=True)
+
+
 def main():
     for program in (PROGRAM, pathlib.Path(ZI)):
         if not program.exists():
@@ -195,6 +258,14 @@ def main():
     missing = [name for name in OTHERS if name not in others]
     if missing:
         print(f"{' and '.join(missing)} not installed: no comparison with {'it' if len(missing) == 1 else 'them'}")
+    if sys.argv[1:] != ["webs"]:
+        on_known(others)
+    for numbers in WEBS:
+        on_web(others, *numbers)
+
+
+def on_known(others):
+    """Formulas, the demonstration and programs without a solution."""
     with tempfile.TemporaryDirectory(prefix="zi-bench-") as folder:
         for count in PIGEONS:
             compare(f"{count} pigeons in {count - 1} holes", [pigeons(count)], others, folder)

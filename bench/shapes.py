@@ -1,6 +1,7 @@
 """Feeds of programs with dependencies, and how long 0install takes to choose from them."""
 import os
 import pathlib
+import random
 import shutil
 
 from measure import timed_with_peak
@@ -30,6 +31,24 @@ def web(count):
     others = lambda n: ((n * 7 + 1) % count, (n + 1) % count, (n * 3 + 2) % count)
     needs = lambda n, v: "".join(requires(other, f' version="{v // 3}.."') for other in others(n))
     return ["".join(impl(v, needs(n, v)) for v in range(10)) for n in range(count)]
+
+
+def hard_web(count, versions, needs, admitted, kind, seed):
+    """So many interfaces of so many versions, each of which names so many others, drawn at random, and admits that part of their versions, some that follow one
+    another. Of the kind `req` each name is needed; of the kind `any` a third of them is only restricted. The numbers say how near such a web is to the edge
+    between those that have a solution and those that have none."""
+    chance = random.Random(f"{count}{kind}{versions}{float(needs)}{admitted}{seed}")
+    width = max(1, round(versions * admitted))
+
+    def named(n):
+        number = int(needs) + (chance.random() < needs % 1)
+        for other in (chance.randrange(count) for _ in range(number)):
+            if other != n:
+                first = chance.randrange(1, versions - width + 2)
+                element = "requires" if kind == "req" else chance.choice(("requires", "requires", "restricts"))
+                yield f'<{element} interface="./{other}.xml" version="{first}..!{first + width}"/>'
+
+    return ["".join(impl(v, "".join(named(n))) for v in range(1, versions + 1)) for n in range(count)]
 
 
 def differ(versions, others):

@@ -1,15 +1,25 @@
 # Completion of zi's words for bash: source this file, or put it into the folder of bash-completion under the name zi.
 
+# The digests in the stores that go on from what stands from the fourth word on, which the shell took apart at each `=`.
+_zi_digests() {
+    local typed
+    typed=$(IFS='' && printf '%s' "${COMP_WORDS[*]:3:COMP_CWORD-2}")
+    mapfile -t COMPREPLY < <(compgen -W "$("${COMP_WORDS[0]}" store list 2>/dev/null)" -- "$typed")
+    case $typed in
+        *=*) COMPREPLY=("${COMPREPLY[@]#*=}") ;;
+    esac
+}
+
 _zi() {
     local word=${COMP_WORDS[COMP_CWORD]} before=${COMP_WORDS[COMP_CWORD-1]}
     local options="--command --no-command --version --version-for --os --cpu --lang --level --network --use --rate --search --"
     COMPREPLY=()
     if [ "$COMP_CWORD" -eq 1 ]; then
-        mapfile -t COMPREPLY < <(compgen -W "select why check refute download run launch manifest store demo --help --version" -- "$word")
+        mapfile -t COMPREPLY < <(compgen -W "select why conflict check refute download run launch manifest store demo --help --version" -- "$word")
         return
     fi
     case ${COMP_WORDS[1]} in
-        select | why | check | refute | download | run)
+        select | why | conflict | check | refute | download | run)
             [ "${COMP_WORDS[1]}" = select ] && options="--proof $options"
             case $before in
                 --os) mapfile -t COMPREPLY < <(compgen -W "Linux Darwin FreeBSD Cygwin Solaris Windows POSIX" -- "$word") ;;
@@ -31,6 +41,8 @@ _zi() {
         manifest)
             if [ "$COMP_CWORD" -eq 2 ]; then
                 mapfile -t COMPREPLY < <(compgen -W "sha1new sha256 sha256new" -- "$word")
+            elif [ "$COMP_CWORD" -gt 2 ]; then
+                _zi_digests
             fi
             ;;
         store)
@@ -38,6 +50,8 @@ _zi() {
                 mapfile -t COMPREPLY < <(compgen -W "add verify list purge" -- "$word")
             elif [ "${COMP_WORDS[2]}" = purge ] || { [ "${COMP_WORDS[2]}" = add ] && [ "$COMP_CWORD" -gt 3 ]; }; then
                 mapfile -t COMPREPLY < <(compgen -f -- "$word")
+            elif [ "${COMP_WORDS[2]}" = verify ]; then
+                _zi_digests
             fi
             ;;
     esac

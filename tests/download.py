@@ -145,6 +145,32 @@ def none_is_left_running(folder):
     holds("ended", not os.path.exists(f"/proc/{int(open(os.path.join(folder, 'pid')).read())}"))
 
 
+def helpers_that_take_too_long(folder):
+    """One that may take only so long is ended then, whether it writes, keeps silent, or has written all; a quick one isn't touched."""
+    app(folder)
+    line = b"zi: cannot fetch http://example.com/a\n"
+    program = os.path.join(folder, "helper")
+    told = f"{program} http://example.com/a: "
+    for does in ("exec sleep 60", 'cat "web/${1##*/}"; exec >&-; exec sleep 60', "while :; do echo x; sleep 0.1; done"):
+        start = time.perf_counter()
+        got = run(WORDS, folder, ZI_FETCH=helper(folder, f"echo $$ > pid; {does}"), ZI_FETCH_SECONDS="1", ZI_LOG="-")
+        took = time.perf_counter() - start
+        holds(f"{does}: {got}", got[:2] == (80, b"") and got[2].startswith(line + told.encode()) and got[2].count(b"\n") == 2)
+        holds(f"{does}: {took} s", 1 <= took < 20)
+        holds("ended", not os.path.exists(f"/proc/{int(open(os.path.join(folder, 'pid')).read())}"))
+        holds("asked once", asked(folder) == ["a"])
+    holds("nothing is stored", not os.path.exists(store(folder)))
+    for seconds in ("0", "1000001", "x", "1s", "-1", "+1", " 1", "1.5"):
+        reason = "is not fetched, since ZI_FETCH_SECONDS is no number from 1 to 1000000"
+        expect(run(WORDS, folder, ZI_FETCH=helper(folder), ZI_FETCH_SECONDS=seconds, ZI_LOG="-"), 80, b"", line + f"{told}{reason}\n".encode())
+    holds("not asked", asked(folder) == [])
+    for seconds in ("", "30", "1000000"):
+        holds(f"{seconds!r}", run(WORDS, folder, ZI_FETCH=helper(folder), ZI_FETCH_SECONDS=seconds)[0] == 0)
+        whole(folder, FILES)
+        subprocess.run(["chmod", "-R", "u+w", store(folder)], check=True)
+        shutil.rmtree(store(folder))
+
+
 def strange_recipes(folder):
     held(folder, {"a": b"abc"})
     most = 2**64 - 1
@@ -219,6 +245,7 @@ ROWS = [
     one_digest_is_fetched_once,
     helpers_that_fail,
     none_is_left_running,
+    helpers_that_take_too_long,
     strange_recipes,
     a_path_of_many_parts,
     nothing_is_fetched_for_nothing,

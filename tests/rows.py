@@ -597,6 +597,30 @@ def wrong_words(folder):
         expect(run(words, folder), 64, b"", f"zi: usage at word {index}\n".encode())
 
 
+def names_on_a_terminal(folder):
+    """The line stays one line whatever a name has in it, and nothing in it is an order to a terminal; what prints stands as it is."""
+    root = write(folder, "feed.xml", feed(impl("a", "1")))
+    rows = [
+        ("no\nzi: rejected", "no\\u{a}zi: rejected"),
+        ("no\n", "no\\u{a}"),
+        ("\n", "\\u{a}"),
+        ("\n\n", "\\u{a}\\u{a}"),
+        ("\x1b[2J\x1b]0;title\x07\r\t\x7f", "\\u{1b}[2J\\u{1b}]0;title\\u{7}\\u{d}\\u{9}\\u{7f}"),
+        ("\x80\x85\x9b31m\xa0", "\\u{80}\\u{85}\\u{9b}31m\xa0"),
+        ("\u061c\u200d\u200e\u200f\u2010", "\\u{61c}\u200d\\u{200e}\\u{200f}\u2010"),
+        ("\u2027\u2028\u2029\u202a\u202e\u202f", "\u2027\\u{2028}\\u{2029}\\u{202a}\\u{202e}\u202f"),
+        ("\u2065\u2066\u2069\u206a", "\u2065\\u{2066}\\u{2069}\u206a"),
+        ("\u00e4\u4e2d\U0001f600\\u{a}", "\u00e4\u4e2d\U0001f600\\u{a}"),
+    ]
+    for name, shown in rows:
+        expect(run(["refute", "--no-command", root, name], folder), 75, b"", f"zi: no file {shown}\n".encode())
+    os.mkdir(os.path.join(folder, "d\nzi: \x9b31m\u202e"))
+    needs = '<requires interface="d&#10;zi: &#x9b;31m&#x202e;"/>'
+    forged = write(folder, "forged.xml", feed(f'<implementation id="a" version="1" local-path=".">{needs}</implementation>'))
+    line = f"zi: cannot read {folder}/d\\u{{a}}zi: \\u{{9b}}31m\\u{{202e}}\n"
+    expect(run(["select", "--no-command", forged], folder), 65, b"", line.encode())
+
+
 def demonstrations(folder):
     """The best choice of the demonstration, whatever feeds and store are there."""
     for n in (1, 2, 40):
@@ -607,7 +631,7 @@ def demonstrations(folder):
 def help_and_version(folder):
     status, out, err = run(["--help"], folder)
     options = ["--no-command", "--version", "--version-for", "--os", "--cpu", "--lang", "--level", "--network", "--use", "--rate", "--command", "--search", "--proof"]
-    missing = [word for word in ["zi select", "zi refute", "zi demo", "zi --help", "zi --version", "Linux", "x86_64", "ZI_FEEDS"] + options if word.encode() not in out]
+    missing = [word for word in ["zi select", "zi why", "zi conflict", "zi refute", "zi demo", "zi --help", "zi --version", "Linux", "x86_64", "ZI_FEEDS"] + options if word.encode() not in out]
     if status != 0 or err or missing or not out.endswith(b"\n"):
         raise Wrong(f"{status}, {missing}, {out!r}, {err!r}")
     expect(run(["--version"], folder), 0, b"zi 0.1\n", b"")
@@ -880,6 +904,7 @@ ROWS = [
     a_long_feed,
     an_output_that_fails,
     wrong_words,
+    names_on_a_terminal,
     demonstrations,
     help_and_version,
     options,

@@ -10,6 +10,7 @@ import hashlib
 import os
 import random
 import resource
+import shlex
 import shutil
 import signal
 import stat
@@ -25,6 +26,7 @@ PROGRAM = os.path.abspath(os.environ.get("ZI_PROGRAM") or os.path.join(TOP, "cra
 EMPTY = "sha256new_4OYMIQUY7QOBJGX36TEJS35ZEQT24QPEMSNZGTFESWMRW6CSXBKQ"
 OTHER = "sha256new_" + "A" * 52
 SECONDS = 120
+NOBODY = 65_534
 
 
 class Wrong(Exception):
@@ -309,15 +311,66 @@ def what_a_failed_write_leaves(folder):
     whole(folder, files)
 
 
+def a_full_disk(folder):
+    """What an adding that fails put onto it doesn't stay, so that what is smaller finds room then."""
+    large, small = {"a": b"abc", "b": b"y" * 3_000_000}, {"a": b"abc"}
+    lines = ['mount -t tmpfs -o size=1m none "$1"', *(shlex.join([PROGRAM, *tree(folder, files)]) for files in (large, small)), 'ls -A "$1"']
+    script = " || exit 99\n".join(lines[:1]) + " || exit 99\n" + "\n".join(lines[1:])
+    os.mkdir(store(folder))
+    command = ["unshare", "--map-root-user", "--mount", "sh", "-c", script, "sh", store(folder)]
+    try:
+        done = subprocess.run(command, cwd=folder, env=dict(os.environ, ZI_STORE=store(folder)), capture_output=True, timeout=SECONDS)
+    except FileNotFoundError:
+        done = None
+    if done is None or done.returncode == 99 or done.stderr.startswith(b"unshare"):
+        print("skipped: unshare isn't installed, or may not be used")
+        return
+    expect((done.returncode, done.stdout, done.stderr), 0, f"stored\n{name_of(small)}\n".encode(), b"zi: store fault at tmp-0\n")
+
+
 def a_store_that_is_no_folder(folder):
-    """A pipe that nobody writes to, and a file: told at once, and nothing is made."""
-    words = tree(folder, FILES)
-    os.mkfifo(store(folder))
-    expect(run(words, folder), 90, b"", b"zi: store fault at tmp-0\n")
-    os.remove(store(folder))
-    write(folder, "store", b"abc")
-    expect(run(words, folder), 90, b"", b"zi: store fault at tmp-0\n")
-    holds("as it was", open(store(folder), "rb").read() == b"abc")
+    """A pipe that nobody writes to, and a file: told at once by each command, and nothing is made."""
+    words, purge = tree(folder, FILES), ["store", "purge", document(folder, "kept", [OTHER])]
+    listed = [(["store", "list"], ""), (["store", "verify", OTHER], OTHER), (["manifest", "sha256", "t"], "t"), (selections(folder, OTHER), "")]
+    for make in (os.mkfifo, lambda path: write(folder, os.path.basename(path), b"abc")):
+        make(store(folder))
+        for asked, name in [(words, "tmp-0"), (purge, ""), *listed]:
+            expect(run(asked, folder), 90, b"", f"zi: store fault at {name}\n".encode())
+        os.remove(store(folder))
+        make(os.path.join(folder, "other"))
+        for asked, name in listed:
+            expect(run(asked, folder, ZI_STORES=os.path.join(folder, "other")), 90, b"", f"zi: store fault at {name}\n".encode())
+        holds("nothing is made", not os.path.exists(store(folder)))
+        os.remove(os.path.join(folder, "other"))
+
+
+def as_a_user(folder):
+    """What makes a process that of an ordinary user, who has the folder then; None where this one is of such a user already."""
+    if os.getuid() != 0:
+        return None
+    for top, _, names in os.walk(folder):
+        for name in [top, *(os.path.join(top, name) for name in names)]:
+            os.chown(name, NOBODY, NOBODY)
+
+    def become():
+        os.setgroups([])
+        os.setgid(NOBODY)
+        os.setuid(NOBODY)
+
+    return become
+
+
+def closed_folders_are_taken_out(folder):
+    """By a purge, of whoever may not write into them as they are: the folders of a stored tree are closed to their owner too."""
+    steps = [tree(folder, files) for files in ({"a": b"abc"}, {"b": b"x", "c": b""})]
+    sels = selections(folder, OTHER)[1]
+    become = as_a_user(folder)
+    for words in steps:
+        expect(run(words, folder, become), 0, b"stored\n", b"")
+    names = sorted(words[2] for words in steps)
+    holds("closed", all(stat.S_IMODE(os.stat(os.path.join(store(folder), name)).st_mode) == 0o555 for name in names))
+    expect(run(["store", "purge", sels], folder, become), 0, "".join(name + "\n" for name in names).encode(), b"")
+    holds("nothing stays", os.listdir(store(folder)) == [])
 
 
 def taken_temporary_names(folder):
@@ -465,6 +518,8 @@ def purged(folder):
     trees = [dict(FILES, a=b"%d" % number) for number in range(6)]
     names = [name_of(files) for files in trees]
     one, two = document(folder, "one", [names[0]]), document(folder, "two", [names[1], names[2], OTHER])
+    expect(run(["store", "purge", one], folder), 0, b"", b"")
+    holds("no store is made", not os.path.exists(store(folder)))
     for files in trees:
         expect(run(tree(folder, files), folder), 0, b"stored\n", b"")
     beside = ["plain", "tmp-0", "tmp-2"]
@@ -610,6 +665,56 @@ def failures_are_told(folder):
     )
 
 
+def names_that_are_no_text(folder):
+    """They are a fault, and what is told shows them, with the bytes that are no ASCII and those that print nothing as escapes."""
+    os.makedirs(os.path.join(store(folder), "t", "d"))
+    strange = os.path.join(os.fsencode(store(folder)), b"t", b"d", b"a\xe9\n\x1b[2J")
+    os.mkdir(strange)
+    told = f"{store(folder)}/t/d/a\\xe9\\x0a\\x1b[2J: ".encode()
+    got = run(["manifest", "sha256", "t"], folder, ZI_LOG="-")
+    holds(f"{got}", got[:2] == (90, b"") and got[2].startswith(b"zi: store fault at t\n" + told) and got[2].count(b"\n") == 2)
+    os.rename(strange, os.path.join(os.fsencode(store(folder)), b"\xff"))
+    got = run(["store", "list"], folder, ZI_LOG="-")
+    holds(f"{got}", got[:2] == (90, b"") and got[2].startswith(f"zi: store fault at \n{store(folder)}/\\xff: ".encode()) and got[2].count(b"\n") == 2)
+
+
+def nothing_raw_is_told(folder):
+    """What is told of a path with characters that a terminal would obey is one line, which shows them."""
+    name = "a\n\x1b[31m\x7f\x9b\u2028\u202e\u2066\u00e4\u4e2d\U0001f600"
+    shown = "a\\u{a}\\u{1b}[31m\\u{7f}\\u{9b}\\u{2028}\\u{202e}\\u{2066}\u00e4\u4e2d\U0001f600"
+    os.mkdir(os.path.join(folder, name))
+    line = f"zi: cannot read {folder}/{shown}\n{folder}/{shown}: is not a file\n".encode()
+    expect(run(["store", "add", OTHER, os.path.join(folder, name)], folder, ZI_LOG="-"), 65, b"", line)
+    write(os.path.join(folder, name), "store", b"")
+    told = f"zi: store fault at \n{folder}/{shown}/store: Not a directory (os error 20)\n".encode()
+    expect(run(["store", "list"], os.path.join(folder, name), ZI_LOG="-"), 90, b"", told)
+
+
+def digests_are_completed(folder):
+    """By bash, which takes a word apart at each `=`."""
+    top = store(folder)
+    names = [name_of({"a": b"abc"}), "sha1new=" + "a" * 40, "sha256=" + "ab" * 32, "sha256=" + "cd" * 32]
+    for name in names:
+        os.makedirs(os.path.join(top, name))
+    rows = [
+        (["store", "verify", ""], sorted(names)),
+        (["store", "verify", "sha256new"], [names[0]]),
+        (["store", "verify", "sha256", "=", "c"], ["cd" * 32]),
+        (["manifest", "sha256", "sha1"], [names[1]]),
+        (["store", "add", "sha"], [""]),
+        (["manifest", "sha256n"], ["sha256new"]),
+    ]
+    script = 'source "$1"; shift; COMP_WORDS=("$@"); COMP_CWORD=$(($# - 1)); _zi; printf "%s\\n" "${COMPREPLY[@]}"'
+    for words, offered in rows:
+        command = ["bash", "-c", script, "bash", os.path.join(TOP, "completion", "zi.bash"), PROGRAM, *words]
+        try:
+            done = subprocess.run(command, cwd=folder, env=dict(os.environ, ZI_STORE=top), capture_output=True, timeout=SECONDS)
+        except FileNotFoundError:
+            print("skipped: bash isn't installed")
+            return
+        holds(f"{words}: {done}", sorted(done.stdout.decode().splitlines()) == offered and done.stderr == b"")
+
+
 def several_stores(folder):
     """A tree is used from the first store that has it: that of the variable ZI_STORE, then the others in their order, which stay as they are."""
     folder = os.path.realpath(folder)
@@ -681,12 +786,17 @@ ROWS = [
     further_stores_that_are_none,
     an_empty_folder_under_the_name_is_present,
     stored_folders_are_closed,
+    closed_folders_are_taken_out,
     what_a_failed_write_leaves,
+    a_full_disk,
     a_store_that_is_no_folder,
     taken_temporary_names,
     wherever_it_is_started,
     pipes_and_devices_are_no_files,
     failures_are_told,
+    names_that_are_no_text,
+    nothing_raw_is_told,
+    digests_are_completed,
     a_crash_after_each_call,
     a_crash_with_many_files,
     a_sync_left_out,

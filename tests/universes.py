@@ -47,6 +47,7 @@ class Candidate(NamedTuple):
     stability: int
     needs: tuple
     commands: tuple
+    text: str = ""  # the version as it is written
 
     def command(self, name):
         return next((command for command in self.commands if command.name == name), None)
@@ -153,17 +154,19 @@ def need_reader(folder):
 
 def candidate_of(element, inner):
     os_, machine = inner.attributes.get("arch", "*-*").split("-")
+    text = inner.attributes["version"] + inner.attributes.get("version-modifier", "")
     commands = list(inner.commands)
     if "main" in inner.attributes and not any(command.name == "run" for command in commands):
         commands.append(Command("run", ()))
     return Candidate(
         element.get("id"),
-        version_of(inner.attributes["version"] + inner.attributes.get("version-modifier", "")),
+        version_of(text),
         os_,
         machine,
         STABILITIES.index(inner.attributes.get("stability", "testing")),
         tuple(inner.needs),
         tuple(commands),
+        text,
     )
 
 

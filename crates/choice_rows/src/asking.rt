@@ -4,7 +4,7 @@ ghost use Rattle.zi_universe.specs.Whole.{BeginsWith};
 
 use crate::refusing::put_load_fault;
 use crate::told::Told;
-use crate::{certificates, choices, deciding, explaining, selections, solving};
+use crate::{certificates, choices, conflicting, deciding, explaining, selections, solving};
 use std::alloc::Global;
 use zi_lines::{Sheet, halves};
 use zi_outside::SureFeeds;
@@ -69,6 +69,7 @@ fn put_asked(alloc: Global, out: &mut Sheet, word: &str, row: &str, asked: &Aske
         "search" => deciding::put_search(alloc, out, asked),
         "solve" => solving::put_solved(alloc, out, asked, row),
         "why" => explaining::put_explained(alloc, out, asked, row),
+        "conflict" => conflicting::put_conflict(alloc, out, asked, row),
         "certificate" => certificates::put_said(alloc, out, asked, row, proof),
         "refutes" => certificates::put_refuted(alloc, out, asked, proof),
         "selections" => selections::put_selections(alloc, out, asked, row),

@@ -10,6 +10,7 @@
 mod asking;
 mod certificates;
 mod choices;
+mod conflicting;
 mod deciding;
 mod explaining;
 mod refusing;

@@ -10,7 +10,10 @@ use arguments::{TextWords, feeds_folder, log_name, other_folders, store_folder, 
 use std::alloc::Global;
 use std::process::ExitCode;
 use zi_app::{Outcome, refuse, run};
-use zi_edge::{ChildSpawner, FolderFeeds, HelperWeb, StdSink, helper, variables, write_log};
+use zi_edge::{
+    ChildSpawner, FolderFeeds, HelperWeb, LineSink, StdSink, helper, helper_patience, variables,
+    write_log,
+};
 use zi_folder::FolderShelf;
 use zi_outside::Vars;
 use zi_text::{Memory, Text};
@@ -36,16 +39,18 @@ fn other_stores(rt: &HostRuntime) -> Result<Vec<FolderShelf>, Memory> {
 fn work(rt: &HostRuntime) -> Result<Outcome, Memory> {
     let alloc = rt.alloc();
     let TextWords { texts, whole } = words(rt, alloc)?;
-    let mut err = StdSink::new(alloc, "standard error", rt.stderr());
+    let mut err = LineSink::new(alloc, "standard error", rt.stderr());
     if !whole {
-        return Ok(refuse(alloc, texts.as_slice(), &mut err));
+        let outcome = refuse(alloc, texts.as_slice(), &mut err);
+        err.end();
+        return Ok(outcome);
     }
     let log_name = log_name(rt)?;
     let vars = variables(rt, alloc)?;
     let mut feeds = FolderFeeds::new(rt, feeds_folder(rt)?);
     let mut shelf = FolderShelf::new(*rt, store_folder(rt)?);
     let mut others = other_stores(rt)?;
-    let mut web = HelperWeb::new(rt, named_helper(alloc, &vars)?);
+    let mut web = HelperWeb::new(rt, named_helper(alloc, &vars)?, helper_patience(&vars));
     let mut spawner = ChildSpawner::new(rt);
     let mut out = StdSink::new(alloc, "standard output", rt.stdout());
     let outcome = run(
@@ -60,6 +65,7 @@ fn work(rt: &HostRuntime) -> Result<Outcome, Memory> {
         &mut out,
         &mut err,
     );
+    err.end();
     if let Some(name) = log_name {
         let _ = write_log(rt, &name, feeds.log().as_bytes());
         let _ = write_log(rt, &name, shelf.log().as_bytes());

@@ -1,31 +1,35 @@
 -- What was written and whose calls failed, of the commands that choose.
-use Rattle.std.proofs.Common.{◌≡◌, ℕ, ◌⊎◌, inl, inr, Bool, List, [], Option, Some, None, IsSomeAnd, Err, sym, ap, subst, ◌∙◌, arith}
+use Rattle.std.proofs.Common.{◌≡◌, ℕ, ◌⊎◌, inl, inr, Bool, List, [], Option, Some, None, Err, sym, ap, subst, ◌∙◌, arith}
 use Rattle.zi_text.specs.Count.{Rose}
 use Rattle.zi_outside.specs.Views.{Feeding, Sinking}
-use Rattle.zi_outside.specs.Outside.{WritesFront}
+use Rattle.zi_shelf.specs.Shelving.{Shelving}
 use Rattle.zi_words.specs.declared.request.Ask.{Ask}
 use Rattle.zi_universe.specs.declared.fault.LoadFault.{LoadFault}
 use Rattle.zi_universe.specs.declared.fault.LoadFault.TheVariants as load
 use Rattle.zi_universe.specs.declared.types.Interface.{Interface}
 use Rattle.zi_universe.specs.declared.types.Requirement.{Requirement}
 use Rattle.zi_universe.specs.Loading.{CountsFault}
+use Rattle.zi_packages.specs.declared.types.Packages.{Packages}
 use Rattle.zi_proof.specs.declared.proof.Certificate.{Certificate}
 use Rattle.zi_sels.specs.declared.types.Selections.{Selections}
 use Rattle.zi_outcome.specs.declared.outcome.Outcome.{Outcome}
-use Rattle.zi_outcome.specs.declared.outcome.Outcome.TheVariants.{Done, FeedRead, NoRootFeed, BadFeed, FeedTooLong, TooManyFeeds, TooManyInterfaces, TooManyCandidates, TooLarge, NoSolution, Spent, NoFile, BadSels, BadProof, Rejected, SinkFault, Memory}
-use Rattle.zi_outcome.specs.Writing.{StopsShort}
+use Rattle.zi_outcome.specs.declared.outcome.Outcome.TheVariants.{Done, FeedRead, NoRootFeed, BadFeed, FeedTooLong, TooManyFeeds, TooManyInterfaces, TooManyCandidates, TooLarge, NoSolution, Spent, NoFile, BadSels, BadProof, Rejected, SinkFault, Memory, BadPackages}
 use Rattle.zi_outcome.proofs.WritingLemmas.{nothing_put}
 use Rattle.zi_world.specs.World.{World, all_stores}
+use Rattle.zi_world.specs.Files.{AsksFor, IsAbsent, IsLonger, IsUnread}
+use Rattle.zi_choosing.specs.declared.asked.Asked.{Asked}
 use Rattle.zi_choosing.specs.declared.known.Known.{Known}
 use Rattle.zi_choosing.specs.declared.shows.Shows.{Shows}
-use Rattle.zi_choosing.specs.Loaded.{Lent, lent, IsRefused, Refused, Over, DoesOver, IsUnloaded}
-use Rattle.zi_choosing.specs.Select.{WritesSome, refutation_shown, SelectsOver}
-use Rattle.zi_choosing.specs.Refute.{proof_limit, yes_line, AsksFor, IsAbsent, IsTooLong, IsUnread, IsBad, IsChecked, Then, RefutesOver}
-use Rattle.zi_choosing.specs.Check.{sels_limit, IsLonger, ReadsSels, AreUnlike, AreJudged, Next, AtFile, ChecksOver}
+use Rattle.zi_choosing.specs.Table.{HasTable, LacksTable}
+use Rattle.zi_choosing.specs.Knowing.{Sources, IsUnknown, Starts}
+use Rattle.zi_choosing.specs.Loaded.{Lent, lent, IsRefused, Refused, Over, sources, DoesOver, IsUnloaded}
+use Rattle.zi_choosing.specs.Select.{WritesSome, SelectsOver}
+use Rattle.zi_choosing.specs.Refute.{proof_limit, yes_line, IsBad, IsChecked, Then, RefutesOver}
+use Rattle.zi_choosing.specs.Check.{sels_limit, ReadsSels, AreUnlike, AreJudged, Next, AtFile, ChecksOver}
 use Rattle.zi_choosing.specs.Demo.{none_known, demo_ask, CountsOver, Demos}
-use Rattle.zi_choosing.specs.Finding.{FindsNot, FindsOver, Sources}
+use Rattle.zi_choosing.specs.Finding.{FindsNot, FindsOver}
 use Rattle.zi_app.specs.Outcomes.{WritesText, Leaves, RoseOnFeedRead, FailsOnStoreFault}
-use Rattle.zi_app.proofs.EndLemmas.{IsSpared, Feeds, Stores, Web, Spawner, Output, EndsOut, EndsIn, same_count, feeds_still, stores_still, no_text, unwritten, stopped, stopped_in}
+use Rattle.zi_app.proofs.EndLemmas.{IsSpared, Feeds, Stores, Web, Spawner, Output, EndsOut, EndsIn, same_count, feeds_still, stores_still, no_text, unwritten, stopped}
 
 -- what the work over known stores comes to
 abbrev pub EndsOver : Outcome → Lent → Lent → Type 0
@@ -49,10 +53,6 @@ written_some : (shown : Option (List ℕ)) (old new : Sinking) → WritesSome ol
 written_some None old new e = no_text old new e
 written_some (Some text) old new w = (text, w)
 
-some_text : (shown : Option (List ℕ)) (P : List ℕ → Type 0) → IsSomeAnd shown P → (text : List ℕ) × P text
-some_text None P h = absurd h
-some_text (Some text) P h = (text, h)
-
 -- a count stood still
 abbrev Still : ℕ → ℕ → Type 0
 Still old new = new ≡ old
@@ -70,15 +70,15 @@ module _ (known : Known) (ask : Ask) (before after : Lent) where
   selects : (shows : Shows) (o : Outcome) → SelectsOver ask shows known before after o → EndsOver o before after
   selects shows Done (text, c, w) = (c.there.loaded.asked.faults, (text, w), tt, tt, tt)
   selects shows (TooLarge limit) ((universe, loaded, many), e) = (loaded.asked.faults, e, tt, tt, tt)
-  selects shows (NoSolution p) (n, w) = (n.there.loaded.asked.faults, written_some (refutation_shown shows p) before.out after.out w, tt, tt, tt)
+  selects shows (NoSolution p) (shown, n, w) = (n.has.there.loaded.asked.faults, written_some shown before.out after.out w, tt, tt, tt)
   selects shows (Spent p count) (s, e) = (s.there.loaded.asked.faults, e, tt, tt, tt)
   selects shows SinkFault (inl (text, c, w)) = (c.there.loaded.asked.faults, (text, w), tt, tt, tt)
-  selects shows SinkFault (inr (p, n, w)) = (n.there.loaded.asked.faults, some_text (refutation_shown shows p) (λ text. WritesFront before.out text after.out) w, tt, tt, tt)
+  selects shows SinkFault (inr (p, text, n, w)) = (n.has.there.loaded.asked.faults, (text, w), tt, tt, tt)
   selects shows Memory (inl e) = (ap (λ (l : Lent). l.feeds.faults) e, short (ap (λ (l : Lent). l.out) e), tt, tt, tt)
   selects shows Memory (inr (inl r)) = (r.0.count, short r.1, tt, tt, tt)
   selects shows Memory (inr (inr (inl ((universe, loaded, any), e)))) = (loaded.asked.faults, short e, tt, tt, tt)
   selects shows Memory (inr (inr (inr (inl (text, c, w))))) = (c.there.loaded.asked.faults, (text, w), tt, tt, tt)
-  selects shows Memory (inr (inr (inr (inr (p, n, w))))) = (n.there.loaded.asked.faults, some_text (refutation_shown shows p) (λ text. StopsShort before.out text after.out) w, tt, tt, tt)
+  selects shows Memory (inr (inr (inr (inr (p, text, n, w))))) = (n.has.there.loaded.asked.faults, (text, w), tt, tt, tt)
   selects shows other u = unread other u
 
   -- what is so of the feeds behind the loading, and behind the selections, is so of all
@@ -112,7 +112,7 @@ module _ (known : Known) (ask : Ask) (before after : Lent) where
   refutes name (FeedRead uri) (inl r) = unread (FeedRead uri) r
   refutes name (FeedRead uri) (inr (is, t, e)) = (behind Rose (λ f. IsUnread name f after.feeds) (λ f u. u.1) t, e, tt, tt, tt)
   refutes name (FeedTooLong uri limit) (inl r) = unread (FeedTooLong uri limit) r
-  refutes name (FeedTooLong uri limit) (inr (is, t, e)) = (behind Still (λ f. IsTooLong name f after.feeds limit) (λ f l. l.0.calm) t, e, tt, tt, tt)
+  refutes name (FeedTooLong uri limit) (inr (is, t, e)) = (behind Still (λ f. IsLonger proof_limit name f after.feeds limit) (λ f l. l.0.calm) t, e, tt, tt, tt)
   refutes name (NoFile absent) (is, t, e) = (behind Still (λ f. IsAbsent name f after.feeds) (λ f a. a.0.calm) t, e, tt, tt, tt)
   refutes name (BadProof line) (t, e) = (behind Still (λ f. IsBad name f after.feeds line) (λ f b. b.got.asked.calm) t, e, tt, tt, tt)
   refutes name Rejected (c, e) = (checked name _ c, e, tt, tt, tt)
@@ -143,21 +143,57 @@ module _ (known : Known) (ask : Ask) (before after : Lent) where
   checks sels proof Memory (inr (inr (inr (inr (j, w))))) = (judged sels proof _ j, (yes_line, w), tt, tt, tt)
   checks sels proof other u = unread other u
 
--- Over the names in the stores.
-pub does_over : (Does : Over) (o : Outcome) (before after : World) → ((known : Known) → Does known (lent before) (lent after) o → EndsOver o (lent before) (lent after)) → DoesOver Does before after o → EndsIn o before after
-does_over Does o before after over d = elim d.answer [
-  | inl s ↦ stopped_in [] o before after s.0 s.1 s.2
-  | inr w ↦ let e = over w.0 w.2 in (e.0, stores_still o (all_stores before) (all_stores after) e.2 w.1.0, e.1, e.3, e.4)
+-- Before the loading.
+
+-- the table was got by calls that didn't fail
+pub table_calm : (table : Option (List ℕ)) (old : Feeding) (packages : Packages) (new : Feeding) → HasTable table old packages new → new.faults ≡ old.faults
+table_calm None old packages new (none, same) = same_count old new same
+table_calm (Some file) old packages new (bytes, got, is) = got.asked.calm
+
+lacks_table : (table : Option (List ℕ)) (old new : Feeding) (o : Outcome) → LacksTable table old o new
+    → RoseOnFeedRead o old.faults new.faults × IsSpared Stores o × IsSpared Web o × IsSpared Spawner o × IsSpared Output o
+lacks_table None old new o l = absurd l
+lacks_table (Some file) old new (FeedRead uri) l = (l.1.1, tt, tt, tt, tt)
+lacks_table (Some file) old new (FeedTooLong uri limit) l = (l.1.0.calm, tt, tt, tt, tt)
+lacks_table (Some file) old new (NoFile name) l = (l.1.0.calm, tt, tt, tt, tt)
+lacks_table (Some file) old new (BadPackages line) (bytes, got, bad) = (got.asked.calm, tt, tt, tt, tt)
+lacks_table (Some file) old new Memory (inl e) = (same_count old new e, tt, tt, tt, tt)
+lacks_table (Some file) old new Memory (inr a) = (a.calm, tt, tt, tt, tt)
+lacks_table (Some file) old new other l = absurd l
+
+unknown : (table : Option (List ℕ)) (before after : Sources) (o : Outcome) → IsUnknown table before after o
+    → RoseOnFeedRead o before.feeds.faults after.feeds.faults × FailsOnStoreFault o before.stores after.stores × IsSpared Web o × IsSpared Spawner o × IsSpared Output o
+unknown table before after o (inl (named, e)) =
+    let t = stopped [] o before.stores after.stores named in
+    (feeds_still o t.1 (same_count before.feeds after.feeds e), t.0, t.2, t.3, t.4)
+unknown table before after o (inr (each, named, lacks)) =
+    let l = lacks_table table before.feeds after.feeds o lacks in
+    (l.0, stores_still o before.stores after.stores l.1 named.0, l.2, l.3, l.4)
+
+start_calm : (table : Option (List ℕ)) (before : Sources) (stores : List Shelving) (start : Starts table before stores) → start.feeds.faults ≡ before.feeds.faults
+start_calm table before stores start = table_calm table before.feeds start.known.packages start.feeds start.found.1
+
+-- Over what is known.
+pub does_over : (table : Option (List ℕ)) (Does : Over) (o : Outcome) (before after : World) → ((known : Known) (old : Lent) → Does known old (lent after) o → EndsOver o old (lent after)) → DoesOver table Does before after o
+    → EndsIn o before after
+does_over table Does o before after over d = elim d.answer [
+  | inl s ↦ let u = unknown table (sources before) (sources after) o s.0 in (u.0, u.1, unwritten o before.out after.out u.4 s.1, u.2, u.3)
+  | inr w ↦
+      let start : Starts table (sources before) (all_stores after) = w.0 in
+      let old : Lent = record { feeds = start.feeds; out = before.out } in
+      let e = over start.known old w.1 in
+      (subst (λ m. RoseOnFeedRead o m after.feeds.faults) (start_calm table (sources before) (all_stores after) start) e.0, stores_still o (all_stores before) (all_stores after) e.2 start.found.0.0, e.1, e.3, e.4)
 ]
 
-pub select_ends : (ask : Ask) (shows : Shows) (o : Outcome) (before after : World) → DoesOver (SelectsOver ask shows) before after o → EndsIn o before after
-select_ends ask shows o before after d = does_over (SelectsOver ask shows) o before after (λ known x. selects known ask (lent before) (lent after) shows o x) d
+module _ (table : Option (List ℕ)) (ask : Ask) where
+  pub select_ends : (shows : Shows) (o : Outcome) (before after : World) → DoesOver table (SelectsOver ask shows) before after o → EndsIn o before after
+  select_ends shows o before after d = does_over table (SelectsOver ask shows) o before after (λ known old x. selects known ask old (lent after) shows o x) d
 
-pub refute_ends : (ask : Ask) (name : List ℕ) (o : Outcome) (before after : World) → DoesOver (RefutesOver ask name) before after o → EndsIn o before after
-refute_ends ask name o before after d = does_over (RefutesOver ask name) o before after (λ known x. refutes known ask (lent before) (lent after) name o x) d
+  pub refute_ends : (name : List ℕ) (o : Outcome) (before after : World) → DoesOver table (RefutesOver ask name) before after o → EndsIn o before after
+  refute_ends name o before after d = does_over table (RefutesOver ask name) o before after (λ known old x. refutes known ask old (lent after) name o x) d
 
-pub check_ends : (ask : Ask) (sels proof : List ℕ) (o : Outcome) (before after : World) → DoesOver (ChecksOver ask sels proof) before after o → EndsIn o before after
-check_ends ask sels proof o before after d = does_over (ChecksOver ask sels proof) o before after (λ known x. checks known ask (lent before) (lent after) sels proof o x) d
+  pub check_ends : (sels proof : List ℕ) (o : Outcome) (before after : World) → DoesOver table (ChecksOver ask sels proof) before after o → EndsIn o before after
+  check_ends sels proof o before after d = does_over table (ChecksOver ask sels proof) o before after (λ known old x. checks known ask old (lent after) sels proof o x) d
 
 -- A demonstration, whose feeds never fail.
 counts : (before after : Lent) (o : Outcome) → CountsOver before after o → EndsOver o before after
@@ -194,9 +230,9 @@ finds_not known ask before after Memory (inr (inl r)) = (r.count, tt, tt, tt, tt
 finds_not known ask before after Memory (inr (inr (universe, loaded, any))) = (loaded.asked.faults, tt, tt, tt, tt, tt)
 finds_not known ask before after other u = unloaded (IsRefused known ask before after) (Unit {0}) before.faults after.faults (λ f r. (r.count, tt)) other u
 
-pub found_not : (ask : Ask) (before after : Sources) (o : Outcome) → FindsOver ask before after (Err o)
+pub found_not : (asked : Asked) (before after : Sources) (o : Outcome) → FindsOver asked before after (Err o)
     → RoseOnFeedRead o before.feeds.faults after.feeds.faults × FailsOnStoreFault o before.stores after.stores × IsSpared Web o × IsSpared Spawner o × IsSpared Output o
-found_not ask before after o (inl (s, e)) = let t = stopped [] o before.stores after.stores s in (feeds_still o t.1 (same_count before.feeds after.feeds e), t.0, t.2, t.3, t.4)
-found_not ask before after o (inr (known, are, n)) =
-    let f = finds_not known ask before.feeds after.feeds o n in
-    (f.0, stores_still o before.stores after.stores f.2 are.0, f.3, f.4, f.5)
+found_not asked before after o (inl u) = unknown asked.table before after o u
+found_not asked before after o (inr (start, n)) =
+    let f = finds_not start.known asked.ask start.feeds after.feeds o n in
+    (subst (λ m. RoseOnFeedRead o m after.feeds.faults) (start_calm asked.table before after.stores start) f.0, stores_still o before.stores after.stores f.2 start.found.0.0, f.3, f.4, f.5)

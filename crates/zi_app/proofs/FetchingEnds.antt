@@ -5,7 +5,6 @@ use Rattle.zi_outside.specs.Views.{Feeding}
 use Rattle.zi_digest.specs.Name.{spelling}
 use Rattle.zi_shelf.specs.Shelving.{Shelving}
 use Rattle.zi_store.specs.Stores.{Each, IsCalm}
-use Rattle.zi_words.specs.declared.request.Ask.{Ask}
 use Rattle.zi_universe.specs.Naming.{with_one}
 use Rattle.zi_parts.specs.declared.types.Method.{Method}
 use Rattle.zi_sels.specs.declared.types.Selection.{Selection}
@@ -19,17 +18,18 @@ use Rattle.zi_adding.specs.declared.adding.AddFault.TheVariants as add
 use Rattle.zi_adding.specs.Trying.{Tried, CostsAll}
 use Rattle.zi_adding.proofs.HistoryLaws.{AreDone, calm_done}
 use Rattle.zi_outcome.specs.declared.outcome.Outcome.{Outcome}
-use Rattle.zi_outcome.specs.declared.outcome.Outcome.TheVariants.{Memory}
+use Rattle.zi_outcome.specs.declared.outcome.Outcome.TheVariants.{Memory, NotInstalled}
 use Rattle.zi_world.specs.Surroundings.{Surroundings, meets_of}
+use Rattle.zi_choosing.specs.declared.asked.Asked.{Asked}
 use Rattle.zi_choosing.specs.declared.chosen.Chosen.{Chosen}
 use Rattle.zi_fetching.specs.Known.{Names}
 use Rattle.zi_fetching.specs.Outcomes.{unmade, unadded}
 use Rattle.zi_fetching.specs.Fetching.{From, from_chosen, names_in, FailsBy, FetchesInTurn, Fetches, StopsFetching, FetchesNot}
-use Rattle.zi_fetching.specs.Download.{sources, Downloads, DownloadsTo, FetchesThen}
+use Rattle.zi_fetching.specs.Download.{sources, HasChosen, Downloads, DownloadsTo, FetchesThen}
 use Rattle.zi_fetching.proofs.FetchLaws.{turn_done}
 use Rattle.zi_app.specs.Outcomes.{RoseOnFetchRead, FailsOnStoreFault}
 use Rattle.zi_app.proofs.EndLemmas.{IsSpared, Feeds, Web, Stores, Spawner, Output, Ends, ends, same_count, feeds_still, stores_still, web_still, spawner_still, unwritten, prints}
-use Rattle.zi_app.proofs.ChoosingEnds.{found_not}
+use Rattle.zi_app.proofs.ChoosingEnds.{table_calm, found_not}
 use Rattle.zi_app.proofs.StoringEnds.{AddCosts, none_costs, add_costs}
 
 -- The web, while a tree is made.
@@ -100,8 +100,11 @@ module _ (c : Chosen) (old : Feeding) (tried : List Tried) (new : Feeding) (shel
   all_calm xs stored t = (calm_done tried shelf then (turn_done (from_chosen c) xs stored old tried new t) cost, calm)
 
   pub fetches_not : (o : Outcome) → FetchesNot c old o tried new → EndsFetching o old.faults new.faults (shelf ∷ others) (then ∷ those)
-  fetches_not o (inl s) = fetch_stops o s
-  fetches_not o (inr s) =
+  fetches_not o (inl l) =
+      let none : IsCalm shelf then = calm_done [] shelf then tt (subst (λ t. CostsAll t shelf then) l.none cost) in
+      subst (λ x. EndsFetching x old.faults new.faults (shelf ∷ others) (then ∷ those)) (sym l.is) (same_count old new l.unasked, (none, calm), tt, tt, tt)
+  fetches_not o (inr (inl s)) = fetch_stops o s
+  fetches_not o (inr (inr s)) =
       subst (λ x. EndsFetching x old.faults new.faults (shelf ∷ others) (then ∷ those)) (sym s.is)
       (turn_calm (from_chosen c) (take s.place c.sels.items) (names_in c) old tried new s.in_turn, all_calm (take s.place c.sels.items) (names_in c) s.in_turn, tt, tt, tt)
 
@@ -111,18 +114,22 @@ module _ (c : Chosen) (old : Feeding) (tried : List Tried) (new : Feeding) (shel
 pub web_calm : (c : Chosen) (old : Feeding) (stored : Names) (tried : List Tried) (new : Feeding) → Fetches c old stored tried new → new.faults ≡ old.faults
 web_calm c old stored tried new f = turn_calm (from_chosen c) c.sels.items (names_in c) old tried new f.in_turn
 
-pub download_ends : (ask : Ask) (o : Outcome) (before after : Surroundings) → Downloads ask (meets_of before) (meets_of after) o → after.spawner ≡ before.spawner → Ends o before after
-download_ends ask o before after d started = by d.comes
+-- what was chosen was got by calls that didn't fail
+pub chosen_calm : (asked : Asked) (stores : List Shelving) (before : Feeding) (c : Chosen) (after : Feeding) → HasChosen asked stores before c after → after.faults ≡ before.faults
+chosen_calm asked stores before c after has = has.chosen.loaded.asked.faults ∙ table_calm asked.table before c.known.packages has.feeds has.table
+
+pub download_ends : (asked : Asked) (o : Outcome) (before after : Surroundings) → Downloads asked (meets_of before) (meets_of after) o → after.spawner ≡ before.spawner → Ends o before after
+download_ends asked o before after d started = by d.comes
   where
-    by : DownloadsTo ask d.tried (meets_of before) (meets_of after) o → Ends o before after
+    by : DownloadsTo asked d.tried (meets_of before) (meets_of after) o → Ends o before after
     by (inl (found, none, e)) =
-        let f = found_not ask (sources (meets_of before)) (sources (meets_of after)) o found in
+        let f = found_not asked (sources (meets_of before)) (sources (meets_of after)) o found in
         ends o before after f.0 f.1 (web_still o f.2 (same_count before.web after.web none.1)) (spawner_still o before.spawner after.spawner f.3 started) (unwritten o before.out after.out f.4 e)
     by (inr (c, chosen, cost, calm, inl (not, e))) =
         let f = fetches_not c before.web d.tried after.web before.shelf after.shelf before.others after.others cost calm o not in
-        ends o before after (feeds_still o f.2 chosen.chosen.loaded.asked.faults) f.1 f.0 (spawner_still o before.spawner after.spawner f.3 started) (unwritten o before.out after.out f.4 e)
+        ends o before after (feeds_still o f.2 (chosen_calm asked _ before.feeds c after.feeds chosen)) f.1 f.0 (spawner_still o before.spawner after.spawner f.3 started) (unwritten o before.out after.out f.4 e)
     by (inr (c, chosen, cost, calm, inr f)) =
         let p = prints (document c.sels) before.out after.out o f.printed in
         let all = fetched_calm c before.web d.tried after.web before.shelf after.shelf before.others after.others cost calm f.stored f.fetched in
-        ends o before after (feeds_still o p.1 chosen.chosen.loaded.asked.faults) (stores_still o (before.shelf ∷ before.others) (after.shelf ∷ after.others) p.2 all) (web_still o p.3 (web_calm c before.web f.stored d.tried after.web f.fetched))
+        ends o before after (feeds_still o p.1 (chosen_calm asked _ before.feeds c after.feeds chosen)) (stores_still o (before.shelf ∷ before.others) (after.shelf ∷ after.others) p.2 all) (web_still o p.3 (web_calm c before.web f.stored d.tried after.web f.fetched))
         (spawner_still o before.spawner after.spawner p.4 started) p.0

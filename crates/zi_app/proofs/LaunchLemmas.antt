@@ -7,12 +7,14 @@ use Rattle.zi_digest.specs.declared.DigestName.{DigestName}
 use Rattle.zi_shelf.specs.Shelving.{Shelving}
 use Rattle.zi_store.specs.declared.verdicts.Verdict.{Verdict}
 use Rattle.zi_store.specs.declared.verdicts.Verdict.TheVariants as verdict
-use Rattle.zi_words.specs.declared.request.Ask.{Ask}
 use Rattle.zi_outcome.specs.declared.outcome.Outcome.{Outcome}
 use Rattle.zi_outcome.specs.declared.outcome.Outcome.TheVariants.{Usage, SpawnFault, Memory, Child}
-use Rattle.zi_world.specs.Surroundings.{Surroundings}
+use Rattle.zi_world.specs.Surroundings.{Surroundings, meets_of}
 use Rattle.zi_world.specs.Places.{place}
 use Rattle.zi_world.proofs.StandLemmas.{never_in_store}
+use Rattle.zi_choosing.specs.declared.asked.Asked.{Asked}
+use Rattle.zi_choosing.proofs.KnownLemmas.{unknown_right}
+use Rattle.zi_fetching.specs.Download.{sources}
 use Rattle.zi_launching.specs.Verifying.{Condemns, FailsToVerify}
 use Rattle.zi_launching.specs.Launching.{Task, Lent, launching, PreparesNot, Starts, LaunchesOver}
 use Rattle.zi_launching.specs.Run.{RunsTo, RunsProgram}
@@ -33,11 +35,11 @@ over_quiet : (task : Task) (before after : Lent) (outcome : Outcome) → Launche
 over_quiet task before after outcome (inl (not, same)) ne = ap ran_in same
 over_quiet task before after outcome (inr (launch, ready, starts)) ne = started_quiet launch before.spawner after.spawner outcome starts ne
 
-pub run_quiet : (ask : Ask) (vars : List Var) (user : List (List ℕ)) (before after : Surroundings) (outcome : Outcome) → RunsProgram ask vars user before after outcome → ((n : ℕ) → outcome ≢ Child n)
+pub run_quiet : (asked : Asked) (vars : List Var) (user : List (List ℕ)) (before after : Surroundings) (outcome : Outcome) → RunsProgram asked vars user before after outcome → ((n : ℕ) → outcome ≢ Child n)
     → after.spawner.ran ≡ before.spawner.ran
-run_quiet ask vars user before after outcome r ne = by r.comes
+run_quiet asked vars user before after outcome r ne = by r.comes
   where
-    by : RunsTo ask vars user r.tried before after outcome → after.spawner.ran ≡ before.spawner.ran
+    by : RunsTo asked vars user r.tried before after outcome → after.spawner.ran ≡ before.spawner.ran
     by (inl (found, fetched, nothing)) = ap ran_in nothing
     by (inr (c, chosen, inl stops)) = ap ran_in stops.nothing
     by (inr (c, chosen, inr l)) = over_quiet _ (launching before) (launching after) outcome l.launches ne
@@ -76,12 +78,12 @@ over_right : (task : Task) (before after : Lent) (index : ℕ) → LaunchesOver 
 over_right task before after index (inl (not, same)) = prepares_right task before.stores after.stores index not
 over_right task before after index (inr (launch, ready, starts)) = starts
 
-pub run_right : (ask : Ask) (vars : List Var) (user : List (List ℕ)) (before after : Surroundings) (index : ℕ) → RunsProgram ask vars user before after (Usage index) → ⊥
-run_right ask vars user before after index r = by r.comes
+pub run_right : (asked : Asked) (vars : List Var) (user : List (List ℕ)) (before after : Surroundings) (index : ℕ) → RunsProgram asked vars user before after (Usage index) → ⊥
+run_right asked vars user before after index r = by r.comes
   where
-    by : RunsTo ask vars user r.tried before after (Usage index) → ⊥
-    by (inl (inl none, fetched, nothing)) = none.0
-    by (inl (inr found, fetched, nothing)) = found.2
+    by : RunsTo asked vars user r.tried before after (Usage index) → ⊥
+    by (inl (inl none, fetched, nothing)) = unknown_right asked.table (sources (meets_of before)) (sources (meets_of after)) index none
+    by (inl (inr found, fetched, nothing)) = found.1
     by (inr (c, chosen, inl stops)) = not_right c before.web index r.tried after.web stops.fetches
     by (inr (c, chosen, inr l)) = over_right _ (launching before) (launching after) index l.launches
 

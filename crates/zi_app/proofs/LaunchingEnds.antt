@@ -9,7 +9,6 @@ use Rattle.zi_shelf.specs.Shelving.{Shelving}
 use Rattle.zi_store.specs.Stores.{Each, IsCalm, Fails, SomeFails}
 use Rattle.zi_store.specs.declared.verdicts.Verdict.{Verdict}
 use Rattle.zi_store.specs.declared.verdicts.Verdict.TheVariants as verdict
-use Rattle.zi_words.specs.declared.request.Ask.{Ask}
 use Rattle.zi_outcome.specs.declared.outcome.Outcome.{Outcome}
 use Rattle.zi_outcome.specs.declared.outcome.Outcome.TheVariants.{FeedRead, FeedTooLong, NoFile, BadSels, StoreFault, SpawnFault, Memory, Child}
 use Rattle.zi_opening.specs.Opening.{GetsNot}
@@ -17,6 +16,7 @@ use Rattle.zi_world.specs.Places.{InStore, place}
 use Rattle.zi_world.specs.Surroundings.{Surroundings, meets_of}
 use Rattle.zi_world.proofs.PlacesLemmas.{some_fails}
 use Rattle.zi_world.proofs.StandLemmas.{in_store_by}
+use Rattle.zi_choosing.specs.declared.asked.Asked.{Asked}
 use Rattle.zi_fetching.specs.Download.{sources}
 use Rattle.zi_launching.specs.Verifying.{Condemns, FailsToVerify, StopsVerifying}
 use Rattle.zi_launching.specs.Launching.{Task, Lent, launching, PreparesNot, Starts, LaunchesOver}
@@ -25,7 +25,7 @@ use Rattle.zi_launching.specs.Opening.{stores_of, LaunchesTo, LaunchesFile}
 use Rattle.zi_app.specs.Outcomes.{RoseOnFeedRead, RoseOnSpawnFault, FailsOnStoreFault}
 use Rattle.zi_app.proofs.EndLemmas.{IsSpared, Feeds, Stores, Web, Spawner, Output, Ends, ends, same_count, feeds_still, stores_still, web_still, spawner_still, untouched_calm, unwritten, stopped}
 use Rattle.zi_app.proofs.ChoosingEnds.{found_not}
-use Rattle.zi_app.proofs.FetchingEnds.{fetches_not, web_calm}
+use Rattle.zi_app.proofs.FetchingEnds.{fetches_not, chosen_calm, web_calm}
 
 -- An outcome that blames a store, or nothing.
 abbrev IsOfStores : Outcome → Type 0
@@ -95,19 +95,19 @@ launched task o before after (inr (launch, ready, starts)) = started o starts
     started Memory s = (ready.calm, ap (λ (p : Spawning). p.faults) s, tt, tt, tt)
     started other s = absurd s
 
-pub run_ends : (ask : Ask) (vars : List Var) (user : List (List ℕ)) (o : Outcome) (before after : Surroundings) → RunsProgram ask vars user before after o → Ends o before after
-run_ends ask vars user o before after r = by r.comes
+pub run_ends : (asked : Asked) (vars : List Var) (user : List (List ℕ)) (o : Outcome) (before after : Surroundings) → RunsProgram asked vars user before after o → Ends o before after
+run_ends asked vars user o before after r = by r.comes
   where
-    by : RunsTo ask vars user r.tried before after o → Ends o before after
+    by : RunsTo asked vars user r.tried before after o → Ends o before after
     by (inl (found, none, started)) =
-        let f = found_not ask (sources (meets_of before)) (sources (meets_of after)) o found in
+        let f = found_not asked (sources (meets_of before)) (sources (meets_of after)) o found in
         ends o before after f.0 f.1 (web_still o f.2 (same_count before.web after.web none.1)) (spawner_still o before.spawner after.spawner f.3 started) (unwritten o before.out after.out f.4 r.out)
     by (inr (c, chosen, inl s)) =
         let f = fetches_not c before.web r.tried after.web before.shelf after.shelf before.others after.others s.cost s.calm o s.fetches in
-        ends o before after (feeds_still o f.2 chosen.chosen.loaded.asked.faults) f.1 f.0 (spawner_still o before.spawner after.spawner f.3 s.nothing) (unwritten o before.out after.out f.4 r.out)
+        ends o before after (feeds_still o f.2 (chosen_calm asked _ before.feeds c after.feeds chosen)) f.1 f.0 (spawner_still o before.spawner after.spawner f.3 s.nothing) (unwritten o before.out after.out f.4 r.out)
     by (inr (c, chosen, inr l)) =
         let f = launched _ o (launching before) (launching after) l.launches in
-        ends o before after (feeds_still o f.2 chosen.chosen.loaded.asked.faults) f.0 (web_still o f.3 (web_calm c before.web l.stored r.tried after.web l.fetched)) f.1 (unwritten o before.out after.out f.4 r.out)
+        ends o before after (feeds_still o f.2 (chosen_calm asked _ before.feeds c after.feeds chosen)) f.0 (web_still o f.3 (web_calm c before.web l.stored r.tried after.web l.fetched)) f.1 (unwritten o before.out after.out f.4 r.out)
 
 -- The document isn't got.
 gets_not : (file : List ℕ) (o : Outcome) (before after : Feeding) → GetsNot file before o after

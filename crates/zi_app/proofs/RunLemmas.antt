@@ -18,14 +18,18 @@ use Rattle.zi_words.specs.Store.{AsksStore}
 use Rattle.zi_words.specs.Demo.{AsksDemo}
 use Rattle.zi_words.proofs.SearchLaws.{IsWithin, is_within}
 use Rattle.zi_outcome.specs.declared.outcome.Outcome.{Outcome}
-use Rattle.zi_outcome.specs.declared.outcome.Outcome.TheVariants.{Usage, Child}
+use Rattle.zi_outcome.specs.declared.outcome.Outcome.TheVariants.{Usage, Memory, Child}
 use Rattle.zi_world.specs.World.{World, all_stores}
 use Rattle.zi_world.specs.Meets.{world_of}
 use Rattle.zi_world.specs.Surroundings.{Surroundings, NothingDoneAround, meets_of}
 use Rattle.zi_outcome.specs.Writing.{Prints}
 use Rattle.zi_app.specs.Showing.{ShowsText, ShowsDemo}
 use Rattle.zi_choosing.specs.Demo.{Demos}
-use Rattle.zi_app.specs.Answers.{Does, Works, StoredStays, Runs}
+use Rattle.zi_choosing.specs.Table.{table_in}
+use Rattle.zi_choosing.specs.Wanted.{asked_in}
+use Rattle.zi_choosing.specs.Loaded.{sources}
+use Rattle.zi_choosing.proofs.KnownLemmas.{unknown_right}
+use Rattle.zi_app.specs.Answers.{Does, Answers, Works, StoredStays, Runs}
 use Rattle.zi_app.specs.Words.{IsInForm, words_outcome}
 use Rattle.zi_world.specs.Asking.{FeedsStay}
 use Rattle.zi_world.proofs.AskingLemmas.{unasked_stay}
@@ -49,6 +53,7 @@ use Rattle.zi_app.proofs.WorkEnds.{works_end}
 abbrev IsLoading : Request → Type 0
 IsLoading (request.Select ask proof) = Unit {0}
 IsLoading (request.Why ask) = Unit {0}
+IsLoading (request.Conflict ask) = Unit {0}
 IsLoading (request.Refute ask proof) = Unit {0}
 IsLoading (request.Download ask) = Unit {0}
 IsLoading (request.Run ask user) = Unit {0}
@@ -69,6 +74,7 @@ loads_form ws r w (l, e, asks) = subst IsLoading (sym asks.asked) (of_loader l (
     of_loader : (l : Loader) (ask : Ask) (proof : Bool) (named : List Word) → IsLoading (request_of l ask proof named)
     of_loader loader.Select ask proof named = tt
     of_loader loader.Why ask proof named = tt
+    of_loader loader.Conflict ask proof named = tt
     of_loader loader.Refute ask proof named = tt
     of_loader loader.Download ask proof named = tt
     of_loader loader.Run ask proof named = tt
@@ -77,6 +83,7 @@ loads_form ws r w (l, e, asks) = subst IsLoading (sym asks.asked) (of_loader l (
 within_form : (r : Request) → IsWithin r → IsLoading r → IsInForm r
 within_form (request.Select ask proof) h l = h
 within_form (request.Why ask) h l = h
+within_form (request.Conflict ask) h l = h
 within_form (request.Refute ask proof) h l = tt
 within_form (request.Download ask) h l = h
 within_form (request.Run ask user) h l = h
@@ -107,13 +114,14 @@ in_form (w ∷ ws) r (inr (inr (inr (inr (are, inr (e, asked)))))) = subst IsInF
 
 -- Right words never come to Usage.
 never_usage : (asked : Request) (vars : List Var) (before after : Surroundings) (index : ℕ) → Does asked vars before after (Usage index) → ⊥
-never_usage (request.Select ask proof) vars before after index d = elim d.does.does.answer [ inl f ↦ f.0 | inr s ↦ s.2 ]
-never_usage (request.Why ask) vars before after index d = elim d.does.does.answer [ inl f ↦ f.0 | inr s ↦ s.2 ]
-never_usage (request.Run ask user) vars before after index d = run_right ask vars user before after index d
+never_usage (request.Select ask proof) vars before after index d = elim d.does.does.answer [ inl f ↦ unknown_right (table_in vars) (sources (world_of (meets_of before))) (sources (world_of (meets_of after))) index f.0 | inr s ↦ s.1 ]
+never_usage (request.Why ask) vars before after index d = elim d.does.does.answer [ inl f ↦ unknown_right (table_in vars) (sources (world_of (meets_of before))) (sources (world_of (meets_of after))) index f.0 | inr s ↦ s.1 ]
+never_usage (request.Conflict ask) vars before after index d = elim d.does.does.answer [ inl f ↦ unknown_right (table_in vars) (sources (world_of (meets_of before))) (sources (world_of (meets_of after))) index f.0 | inr s ↦ s.1 ]
+never_usage (request.Run ask user) vars before after index d = run_right (asked_in vars ask) vars user before after index d
 never_usage (request.Launch file user) vars before after index d = launch_right file vars user before after index d
-never_usage (request.Check ask sels proof) vars before after index d = elim d.does.does.answer [ inl f ↦ f.0 | inr s ↦ s.2 ]
-never_usage (request.Refute ask proof) vars before after index d = elim d.does.does.answer [ inl f ↦ f.0 | inr s ↦ s.2 ]
-never_usage (request.Download ask) vars before after index d = download_right ask (meets_of before) (meets_of after) index d.does
+never_usage (request.Check ask sels proof) vars before after index d = elim d.does.does.answer [ inl f ↦ unknown_right (table_in vars) (sources (world_of (meets_of before))) (sources (world_of (meets_of after))) index f.0 | inr s ↦ s.1 ]
+never_usage (request.Refute ask proof) vars before after index d = elim d.does.does.answer [ inl f ↦ unknown_right (table_in vars) (sources (world_of (meets_of before))) (sources (world_of (meets_of after))) index f.0 | inr s ↦ s.1 ]
+never_usage (request.Download ask) vars before after index d = download_right (asked_in vars ask) (meets_of before) (meets_of after) index d.does
 never_usage (request.Manifest algorithm name) vars before after index d = manifest_right algorithm name (world_of (meets_of before)) (world_of (meets_of after)) index d.does.does
 never_usage (request.Add name files) vars before after index d = add_right name files (world_of (meets_of before)) (world_of (meets_of after)) index d.does.does
 never_usage (request.Purge files) vars before after index d = purge_right files (world_of (meets_of before)) (world_of (meets_of after)) index d.does.does
@@ -123,12 +131,22 @@ never_usage (request.Demo n) vars before after index d = elim d.does.does.out [ 
 never_usage request.Help vars before after index d = prints_right _ before.out after.out index d.does.does.out
 never_usage request.Version vars before after index d = prints_right _ before.out after.out index d.does.does.out
 
-pub asked_done : (words : List (List ℕ)) (asked : Request) (vars : List Var) (before after : Surroundings) (outcome : Outcome) → Right words asked → Does asked vars before after outcome → Works words vars before after outcome
+asked_done : (words : List (List ℕ)) (asked : Request) (vars : List Var) (before after : Surroundings) (outcome : Outcome) → Right words asked → Does asked vars before after outcome → Works words vars before after outcome
 asked_done words asked vars before after outcome right does =
     inl (record { asked = asked; right = right; does = does; not_usage = λ index e. never_usage asked vars before after index (subst (λ x. Does asked vars before after x) e does) })
 
 nothing_met : (s : Surroundings) → NothingDoneAround s s
 nothing_met s = record { nothing = record { nothing = nothing_done (world_of (meets_of s)); web = refl }; started = refl }
+
+pub answered : (words : List (List ℕ)) (asked : Request) (vars : List Var) (before after : Surroundings) (outcome : Outcome) → Right words asked → Answers asked vars before after outcome → Works words vars before after outcome
+answered words asked vars before after outcome right (inl does) = asked_done words asked vars before after outcome right does
+answered words asked vars before after outcome right (inr none) = inr (inr none)
+
+pub is_done : (asked : Request) (vars : List Var) (before after : Surroundings) (outcome : Outcome) → Does asked vars before after outcome → Answers asked vars before after outcome
+is_done asked vars before after outcome does = inl does
+
+pub lacks_memory : (asked : Request) (vars : List Var) (s : Surroundings) → Answers asked vars s s Memory
+lacks_memory asked vars s = inr (refl, nothing_met s)
 
 words_wrong : (words : List (List ℕ)) (vars : List Var) (f : WordsFault) (s : Surroundings) → FaultMeans words f → Works words vars s s (words_outcome f)
 words_wrong words vars (fault.Usage index) s (wrong, stops) = inr (inl (record { wrong = wrong; index = index; stops = stops; usage = refl; nothing = nothing_met s }))
@@ -147,7 +165,7 @@ pub shows : (text shown : List ℕ) (world : World) (out : Sinking) (outcome : O
     → ShowsText text world (record { feeds = world.feeds; shelf = world.shelf; others = world.others; out = out }) outcome
 shows text shown world out outcome e p = record { feeds = refl; stores = each_same Untouched untouched (all_stores world); out = subst (λ t. Prints t world.out out outcome) e p }
 
-pub ruleset answering = (nothing_done)
+pub ruleset answering = (nothing_done, is_done, lacks_memory)
 
 -- The stores that are read besides are only read.
 all_read : (before after : List Shelving) → Each (Keeps is_names) before after → Each (Keeps is_reading) before after
@@ -159,6 +177,7 @@ none_touched before after u = each_by Untouched (Keeps is_reading) (λ b a h. un
 does_read : (asked : Request) (vars : List Var) (before after : Surroundings) (outcome : Outcome) → Does asked vars before after outcome → Each (Keeps is_reading) before.others after.others
 does_read (request.Select ask proof) vars before after outcome d = all_read before.others after.others d.does.does.stores.1
 does_read (request.Why ask) vars before after outcome d = all_read before.others after.others d.does.does.stores.1
+does_read (request.Conflict ask) vars before after outcome d = all_read before.others after.others d.does.does.stores.1
 does_read (request.Run ask user) vars before after outcome d = d.others
 does_read (request.Launch file user) vars before after outcome d = d.stores.1
 does_read (request.Check ask sels proof) vars before after outcome d = all_read before.others after.others d.does.does.stores.1
@@ -177,6 +196,7 @@ does_read request.Version vars before after outcome d = none_touched before.othe
 does_last : (asked : Request) (vars : List Var) (before after : Surroundings) (outcome : Outcome) → Does asked vars before after outcome → Lasts before.shelf after.shelf
 does_last (request.Select ask proof) vars before after outcome d = keeps_lasts is_names before.shelf after.shelf d.does.does.stores.0
 does_last (request.Why ask) vars before after outcome d = keeps_lasts is_names before.shelf after.shelf d.does.does.stores.0
+does_last (request.Conflict ask) vars before after outcome d = keeps_lasts is_names before.shelf after.shelf d.does.does.stores.0
 does_last (request.Run ask user) vars before after outcome d = uses_last d.tried before.shelf after.shelf d.shelf
 does_last (request.Launch file user) vars before after outcome d = keeps_lasts is_reading before.shelf after.shelf d.stores.0
 does_last (request.Check ask sels proof) vars before after outcome d = keeps_lasts is_names before.shelf after.shelf d.does.does.stores.0
@@ -194,6 +214,7 @@ does_last request.Version vars before after outcome d = untouched_lasts before.s
 does_stay : (asked : Request) (vars : List Var) (before after : Surroundings) (outcome : Outcome) → Does asked vars before after outcome → FeedsStay before.feeds after.feeds
 does_stay (request.Select ask proof) vars before after outcome d = d.does.does.feeds
 does_stay (request.Why ask) vars before after outcome d = d.does.does.feeds
+does_stay (request.Conflict ask) vars before after outcome d = d.does.does.feeds
 does_stay (request.Run ask user) vars before after outcome d = d.feeds
 does_stay (request.Launch file user) vars before after outcome d = d.feeds
 does_stay (request.Check ask sels proof) vars before after outcome d = d.does.does.feeds
@@ -211,6 +232,7 @@ does_stay request.Version vars before after outcome d = unasked_stay before.feed
 web_stays : (asked : Request) (vars : List Var) (before after : Surroundings) (outcome : Outcome) → Does asked vars before after outcome → FeedsStay before.web after.web
 web_stays (request.Select ask proof) vars before after outcome d = unasked_stay before.web after.web d.does.web
 web_stays (request.Why ask) vars before after outcome d = unasked_stay before.web after.web d.does.web
+web_stays (request.Conflict ask) vars before after outcome d = unasked_stay before.web after.web d.does.web
 web_stays (request.Run ask user) vars before after outcome d = d.web
 web_stays (request.Launch file user) vars before after outcome d = unasked_stay before.web after.web d.web
 web_stays (request.Check ask sels proof) vars before after outcome d = unasked_stay before.web after.web d.does.web
@@ -229,6 +251,7 @@ web_stays request.Version vars before after outcome d = unasked_stay before.web 
 does_keep : (words : List (List ℕ)) (asked : Request) (vars : List Var) (before after : Surroundings) (outcome : Outcome) → Right words asked → Does asked vars before after outcome → StoredStays words before after
 does_keep words (request.Select ask proof) vars before after outcome right d = inl (reading_keeps is_names before.shelf after.shelf d.does.does.stores.0)
 does_keep words (request.Why ask) vars before after outcome right d = inl (reading_keeps is_names before.shelf after.shelf d.does.does.stores.0)
+does_keep words (request.Conflict ask) vars before after outcome right d = inl (reading_keeps is_names before.shelf after.shelf d.does.does.stores.0)
 does_keep words (request.Run ask user) vars before after outcome right d = inl (uses_keep d.tried before.shelf after.shelf d.shelf)
 does_keep words (request.Launch file user) vars before after outcome right d = inl (reading_keeps is_reading before.shelf after.shelf d.stores.0)
 does_keep words (request.Check ask sels proof) vars before after outcome right d = inl (reading_keeps is_names before.shelf after.shelf d.does.does.stores.0)
@@ -250,8 +273,9 @@ does_keep words request.Version vars before after outcome right d = inl (told_ke
 does_quiet : (asked : Request) (vars : List Var) (before after : Surroundings) (outcome : Outcome) → Does asked vars before after outcome → ((n : ℕ) → outcome ≢ Child n) → after.spawner.ran ≡ before.spawner.ran
 does_quiet (request.Select ask proof) vars before after outcome d ne = ap ran_in d.started
 does_quiet (request.Why ask) vars before after outcome d ne = ap ran_in d.started
+does_quiet (request.Conflict ask) vars before after outcome d ne = ap ran_in d.started
 does_quiet (request.Download ask) vars before after outcome d ne = ap ran_in d.started
-does_quiet (request.Run ask user) vars before after outcome d ne = run_quiet ask vars user before after outcome d ne
+does_quiet (request.Run ask user) vars before after outcome d ne = run_quiet (asked_in vars ask) vars user before after outcome d ne
 does_quiet (request.Launch file user) vars before after outcome d ne = launch_quiet file vars user before after outcome d ne
 does_quiet (request.Check ask sels proof) vars before after outcome d ne = ap ran_in d.started
 does_quiet (request.Refute ask proof) vars before after outcome d ne = ap ran_in d.started

@@ -10,6 +10,8 @@ use Rattle.zi_world.specs.World.{World, all_stores}
 use Rattle.zi_world.specs.Meets.{Within, world_of}
 use Rattle.zi_world.specs.Surroundings.{Surroundings, meets_of}
 use Rattle.zi_choosing.specs.declared.shows.Shows.TheVariants as form
+use Rattle.zi_choosing.specs.Table.{table_in}
+use Rattle.zi_choosing.specs.Wanted.{asked_in}
 use Rattle.zi_choosing.specs.Select.{shown_by}
 use Rattle.zi_app.specs.Showing.{ShowsText, ShowsDemo}
 use Rattle.zi_app.specs.Answers.{Apart, Does, Works}
@@ -31,13 +33,14 @@ module _ (o : Outcome) (before after : Surroundings) where
   within P d by = apart o before after (by (world_of (meets_of before)) (world_of (meets_of after)) d.does.does) d.does.web d.started
 
   does_end : (asked : Request) (vars : List Var) → Does asked vars before after o → Ends o before after
-  does_end (request.Select ask proof) vars d = within _ d (select_ends ask (shown_by proof) o)
-  does_end (request.Why ask) vars d = within _ d (select_ends ask form.Reasons o)
-  does_end (request.Download ask) vars d = download_ends ask o before after d.does d.started
-  does_end (request.Run ask user) vars d = run_ends ask vars user o before after d
+  does_end (request.Select ask proof) vars d = within _ d (select_ends (table_in vars) ask (shown_by proof) o)
+  does_end (request.Why ask) vars d = within _ d (select_ends (table_in vars) ask form.Reasons o)
+  does_end (request.Conflict ask) vars d = within _ d (select_ends (table_in vars) ask form.Conflict o)
+  does_end (request.Download ask) vars d = download_ends (asked_in vars ask) o before after d.does d.started
+  does_end (request.Run ask user) vars d = run_ends (asked_in vars ask) vars user o before after d
   does_end (request.Launch file user) vars d = launch_ends file vars user o before after d
-  does_end (request.Check ask sels proof) vars d = within _ d (check_ends ask sels proof o)
-  does_end (request.Refute ask proof) vars d = within _ d (refute_ends ask proof o)
+  does_end (request.Check ask sels proof) vars d = within _ d (check_ends (table_in vars) ask sels proof o)
+  does_end (request.Refute ask proof) vars d = within _ d (refute_ends (table_in vars) ask proof o)
   does_end (request.Manifest algorithm name) vars d = within _ d (manifest_ends algorithm name o)
   does_end (request.Add name files) vars d = within _ d (add_ends name files o)
   does_end (request.Purge files) vars d = within _ d (purge_ends files o)

@@ -18,9 +18,10 @@ use Rattle.zi_world.specs.Meets.{Meets, Within, world_of}
 use Rattle.zi_world.specs.Surroundings.{Surroundings, NothingDoneAround, Unstarted, meets_of}
 use Rattle.zi_outcome.specs.Line.{Tells}
 use Rattle.zi_adding.specs.Gains.{KeepsTrees}
+use Rattle.zi_choosing.specs.Wanted.{asked_in}
 use Rattle.zi_choosing.specs.Check.{ChecksBest}
 use Rattle.zi_choosing.specs.Refute.{ChecksNone}
-use Rattle.zi_choosing.specs.Select.{Selects, Explains}
+use Rattle.zi_choosing.specs.Select.{Selects, Explains, TellsConflict}
 use Rattle.zi_fetching.specs.Download.{Downloads}
 use Rattle.zi_launching.specs.Run.{RunsProgram}
 use Rattle.zi_launching.specs.Opening.{LaunchesFile}
@@ -39,13 +40,14 @@ Apart Does before after outcome = Unstarted (λ (b a : Meets) o. Within Does b a
 -- What a request asks for is done over these variables, to this outcome. Of all commands only `download` and `run` meet the web, and only
 -- `run` and `launch` the spawner.
 abbrev pub Does : Request → List Var → Surroundings → Surroundings → Outcome → Type 0
-Does (request.Select ask proof) vars before after outcome = Apart (Selects ask proof) before after outcome
-Does (request.Why ask) vars before after outcome = Apart (Explains ask) before after outcome
-Does (request.Download ask) vars before after outcome = Unstarted (Downloads ask) before after outcome
-Does (request.Run ask user) vars before after outcome = RunsProgram ask vars user before after outcome
+Does (request.Select ask proof) vars before after outcome = Apart (Selects (asked_in vars ask) proof) before after outcome
+Does (request.Why ask) vars before after outcome = Apart (Explains (asked_in vars ask)) before after outcome
+Does (request.Conflict ask) vars before after outcome = Apart (TellsConflict (asked_in vars ask)) before after outcome
+Does (request.Download ask) vars before after outcome = Unstarted (Downloads (asked_in vars ask)) before after outcome
+Does (request.Run ask user) vars before after outcome = RunsProgram (asked_in vars ask) vars user before after outcome
 Does (request.Launch file user) vars before after outcome = LaunchesFile file vars user before after outcome
-Does (request.Check ask sels proof) vars before after outcome = Apart (ChecksBest ask sels proof) before after outcome
-Does (request.Refute ask proof) vars before after outcome = Apart (ChecksNone ask proof) before after outcome
+Does (request.Check ask sels proof) vars before after outcome = Apart (ChecksBest (asked_in vars ask) sels proof) before after outcome
+Does (request.Refute ask proof) vars before after outcome = Apart (ChecksNone (asked_in vars ask) proof) before after outcome
 Does (request.Manifest algorithm name) vars before after outcome = Apart (Manifests algorithm name) before after outcome
 Does (request.Add name files) vars before after outcome = Apart (AddsFiles name files) before after outcome
 Does (request.Purge files) vars before after outcome = Apart (PurgesFiles files) before after outcome
@@ -54,6 +56,10 @@ Does request.Names vars before after outcome = Apart Lists before after outcome
 Does (request.Demo n) vars before after outcome = Apart (ShowsDemo n) before after outcome
 Does request.Help vars before after outcome = Apart (ShowsText HELP.now) before after outcome
 Does request.Version vars before after outcome = Apart (ShowsText VERSION.now) before after outcome
+
+-- That is done; or memory was refused before it was begun, and nothing is done.
+abbrev pub Answers : Request → List Var → Surroundings → Surroundings → Outcome → Type 0
+Answers asked vars before after outcome = Does asked vars before after outcome ⊎ ((outcome ≡ Memory) × NothingDoneAround before after)
 
 -- The words are right, and what they ask for is done. It never comes to Usage.
 pub record AreDone (words : List (List ℕ)) (vars : List Var) (before after : Surroundings) (outcome : Outcome) : Type 0 where
@@ -70,7 +76,7 @@ pub record AreWrong (words : List (List ℕ)) (before after : Surroundings) (out
   pub usage : outcome ≡ Usage index
   pub nothing : NothingDoneAround before after
 
--- The work of any words. Where memory is refused in reading them nothing is done.
+-- The work of any words. Where memory is refused before what they ask for is begun nothing is done.
 abbrev pub Works : List (List ℕ) → List Var → Surroundings → Surroundings → Outcome → Type 0
 Works words vars before after outcome =
     AreDone words vars before after outcome ⊎ (AreWrong words before after outcome ⊎ ((outcome ≡ Memory) × NothingDoneAround before after))

@@ -18,6 +18,7 @@ use Rattle.zi_outcome.specs.Line.{Tells}
 abbrev pub IsInForm : Request → Type 0
 IsInForm (request.Select ask proof) = ask.search ≤ most_lemmas
 IsInForm (request.Why ask) = ask.search ≤ most_lemmas
+IsInForm (request.Conflict ask) = ask.search ≤ most_lemmas
 IsInForm (request.Download ask) = ask.search ≤ most_lemmas
 IsInForm (request.Run ask user) = ask.search ≤ most_lemmas
 IsInForm (request.Add name files) = list_all is_file files ≡ true

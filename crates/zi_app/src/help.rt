@@ -14,6 +14,9 @@ zi select [options] ROOT
 zi why [options] ROOT
     Selects as select does, and writes why nothing better is selected: for each interface the
     implementation that is, and below it each that goes before it, with the reason.
+zi conflict [options] ROOT
+    Selects as select does. Where nothing fits together it writes the few facts of the feeds
+    that leave no choice, and the status is 73; otherwise it writes nothing.
 zi check [options] ROOT SELS PROOF
     Writes yes where the file SELS is the selections document of the best implementations for
     ROOT that fit together, and the certificate in the file PROOF proves that.
@@ -52,7 +55,7 @@ zi --help
 zi --version
     Writes the name and the version.
 
-Options of select, why, check, refute, download and run, before ROOT:
+Options of select, why, conflict, check, refute, download and run, before ROOT:
     --command NAME              The command of the program that is wanted (default: run).
     --no-command                Needs no command of the program.
     --version RANGE             Versions of ROOT, as 1.2..!2 | 3 (default: every version).
@@ -81,8 +84,10 @@ Feeds of web addresses are files in the folder that ZI_FEEDS names (default: fee
 named by its address with every byte but letters, digits, -, . and _ percent-encoded.
 Trees are stored in the folder that ZI_STORE names (default: store), each under its digest.
 Those in the folders that ZI_STORES names, with : between, are used too, and stay as they are.
+Where ZI_PACKAGES names a file, the packages of the system that stand in it may be selected.
 ZI_FETCH names the helper that fetches: a program that is run with an address, and writes what is
-there, or ends with status 44 where nothing is.
+there, or ends with status 44 where nothing is. ZI_FETCH_SECONDS says how many seconds it may take
+for one address (default: as long as it likes).
 Where ZI_LOG names a file, the path and the system's reason of each failure are added to it,
 or written to standard error where it is -.
 
@@ -119,6 +124,8 @@ Status, and the line on standard error behind \"zi: \":
     92  cannot start the program
     93  cannot write
     94  out of memory
+    96  bad package table at line N   lines of the file that ZI_PACKAGES names count from 1
+    97  NAME is not installed         a package of the system that is selected
 
 Kinds of faults of documents:
     1  not UTF-8                      5  a reference that means nothing
@@ -143,8 +150,9 @@ Faults of selections:
 Faults of a launch:
     1  nothing selected for a runner  5  a $ that stands for nothing
     2  no such command                6  an element that isn't supported
-    3  no path to run                 7  a path that isn't relative, or is empty
-    4  commands that lead in a ring   8  a selection without a path or a digest
+    3  no path to run                 7  a path that isn't relative, or is empty; a package's
+    4  commands that lead in a ring      that doesn't begin with /
+                                      8  a selection without a path or a digest, but a package
 ";
 
 /// The answer to `--version`.

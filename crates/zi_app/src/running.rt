@@ -1,13 +1,13 @@
 //! The work of any words, and the line of how it ended.
 ghost use Rattle.std.specs.Prelude.{◌≡◌, ℕ, map};
-ghost use Rattle.zi_app.specs.Answers.{Does, Works, Runs};
+ghost use Rattle.zi_app.specs.Answers.{Answers, Works, Runs};
 ghost use Rattle.zi_outcome.specs.declared.outcome.Outcome.TheVariants.{Child};
 ghost use Rattle.zi_outcome.specs.Line.{Tells};
 ghost use Rattle.zi_app.specs.Words.{IsInForm, Stops, RefusesWords, words_outcome};
 
 use crate::help::{HELP, VERSION};
 use std::alloc::Global;
-use zi_choosing::{check, demonstrate, explain, refute, select};
+use zi_choosing::{Asked, check, demonstrate, explain, refute, select, tell_conflict};
 use zi_fetching::download;
 use zi_launching::launch;
 use zi_outcome::{Outcome, put_text, tell};
@@ -22,14 +22,16 @@ use zi_words::{Request, WordsFault};
 /// Trees are stored in several stores: `shelf` is the one that is written, and `others` are read besides, in the order in which
 /// they are searched, behind it.
 ///
-/// `select` finds out which digests are in which store, loads the universe that its words ask for, and writes the document of the best
-/// choice, a certificate of it, or a proof that there is none; `why` chooses so too, and writes why each candidate that the best choice passes
-/// over isn't chosen; `refute` loads it too, and says whether a proof shows that there
-/// is none, and `check` whether selections are the best choice; `download` chooses as `select` does, fetches from the web what is
-/// selected and no store has, and writes the document; `run` fetches as `download` does and starts the program, and `launch` starts
-/// that of a document of selections, each once every stored tree in it was read and found to be what its name says;
+/// `select` finds out which digests are in which store and, by the table that `ZI_PACKAGES` names among the variables, which packages the
+/// system has; it loads the universe that its words ask for, and writes the document of the best choice, a certificate of it, or a
+/// proof that there is none. `why` chooses so too, and writes why each candidate that the best choice passes over isn't chosen;
+/// `conflict` writes what leaves no choice; `refute` loads the same, and says whether a proof shows that there is none, and `check`
+/// whether selections are the best choice. `download` chooses as `select` does, fetches from the web what is selected and no store has,
+/// and writes the document, where each package that is selected is installed; `run` fetches as `download` does and starts the program,
+/// and `launch` starts that of a document of selections, each once every stored tree in it was read and found to be what its name says.
 /// `manifest` and `store verify` read the first store that has the tree, and `store list` reads all; `store add` puts files into the
-/// one that is written, as a tree, and `store purge` takes away from it each tree whose digest no selection in its files has; `demo` counts what the best choice of a demonstration selects, whose feeds it makes itself; `--help` and `--version`
+/// one that is written, as a tree, and `store purge` takes away from it each tree whose digest no selection in its files has. `demo`
+/// counts what the best choice of a demonstration selects, whose feeds it makes itself; `--help` and `--version`
 /// write their texts.
 pub fn run<F: Feeds, K: Shelf, R: Shelf, W: Web, P: Spawner, O: Sink, E: Sink>(
     alloc: Global,
@@ -112,19 +114,48 @@ fn answer<F: Feeds, K: Shelf, R: Shelf, W: Web, P: Spawner, O: Sink>(
     out: &mut O,
 ) -> Outcome
     requires { IsInForm request }
-    ensures { Does request vars.now
+    ensures { Answers request vars.now
         (record { feeds = F.seen feeds.old; shelf = K.seen shelf.old; others = map R.seen others.old; web = W.seen web.old; spawner = P.seen spawner.old; out = O.seen out.old })
         (record { feeds = F.seen feeds.new; shelf = K.seen shelf.new; others = map R.seen others.new; web = W.seen web.new; spawner = P.seen spawner.new; out = O.seen out.new })
         result }
 {
     match request {
-        Request::Select { ask, proof } => select(alloc, ask, proof, feeds, shelf, others, out),
-        Request::Why { ask } => explain(alloc, ask, feeds, shelf, others, out),
-        Request::Refute { ask, proof } => refute(alloc, ask, proof, feeds, shelf, others, out),
-        Request::Download { ask } => download(alloc, ask, feeds, shelf, others, web, out),
+        Request::Select { ask, proof } => {
+            let Ok(asked) = Asked::by(alloc, ask, vars) else {
+                return Outcome::Memory;
+            };
+            select(alloc, asked, proof, feeds, shelf, others, out)
+        }
+        Request::Why { ask } => {
+            let Ok(asked) = Asked::by(alloc, ask, vars) else {
+                return Outcome::Memory;
+            };
+            explain(alloc, asked, feeds, shelf, others, out)
+        }
+        Request::Conflict { ask } => {
+            let Ok(asked) = Asked::by(alloc, ask, vars) else {
+                return Outcome::Memory;
+            };
+            tell_conflict(alloc, asked, feeds, shelf, others, out)
+        }
+        Request::Refute { ask, proof } => {
+            let Ok(asked) = Asked::by(alloc, ask, vars) else {
+                return Outcome::Memory;
+            };
+            refute(alloc, asked, proof, feeds, shelf, others, out)
+        }
+        Request::Download { ask } => {
+            let Ok(asked) = Asked::by(alloc, ask, vars) else {
+                return Outcome::Memory;
+            };
+            download(alloc, asked, feeds, shelf, others, web, out)
+        }
         Request::Run { ask, user } => {
+            let Ok(asked) = Asked::by(alloc, ask, vars) else {
+                return Outcome::Memory;
+            };
             let user = user.as_slice();
-            zi_launching::run(alloc, ask, user, vars, feeds, shelf, others, web, spawner)
+            zi_launching::run(alloc, asked, user, vars, feeds, shelf, others, web, spawner)
         }
         Request::Launch { file, user } => {
             launch(
@@ -138,9 +169,12 @@ fn answer<F: Feeds, K: Shelf, R: Shelf, W: Web, P: Spawner, O: Sink>(
                 spawner,
             )
         }
-        Request::Check { ask, sels, proof } => check(
-            alloc, ask, sels, proof, feeds, shelf, others, out,
-        ),
+        Request::Check { ask, sels, proof } => {
+            let Ok(asked) = Asked::by(alloc, ask, vars) else {
+                return Outcome::Memory;
+            };
+            check(alloc, asked, sels, proof, feeds, shelf, others, out)
+        }
         Request::Manifest { algorithm, name } => manifest(
             alloc, algorithm, name, shelf, others, out,
         ),

@@ -42,7 +42,7 @@ new_value Append separator extra None = extra
 new_value Append separator extra (Some old) = old ++ (separator ++ extra)
 new_value Replace separator extra old = extra
 
--- the variables after one binding; one that isn't built changes nothing
+-- the variables after one binding; one that isn't built, or that makes a command available, changes nothing
 unfoldable pub with_binding : List ℕ → Binding → List Var → List Var
 with_binding folder (Env name extra mode separator default) vars = with_var name (new_value mode separator (extra_text folder extra) (old_value vars name default)) vars
 with_binding folder (ExecVar name command) vars = vars
@@ -59,12 +59,11 @@ abbrev pub fault_of_extra : Extra → Option ApplyFault
 fault_of_extra (Insert path) = if is_some (parts_of path) then None else Some (fault.BadPath path)
 fault_of_extra (Value text) = None
 
--- why a binding can't be applied: it isn't built, as none is that makes a command known as a program, or what it inserts is no
--- relative path
+-- why a binding can't be applied: it isn't built, or what it inserts is no relative path
 unfoldable pub fault_of : Binding → Option ApplyFault
 fault_of (Env name extra mode separator default) = fault_of_extra extra
-fault_of (ExecVar name command) = Some (fault.Unbuilt (codes "executable-in-var"))
-fault_of (ExecPath name command) = Some (fault.Unbuilt (codes "executable-in-path"))
+fault_of (ExecVar name command) = None
+fault_of (ExecPath name command) = None
 fault_of (Unbuilt element) = Some (fault.Unbuilt element)
 
 -- the fault of the first binding that can't be applied

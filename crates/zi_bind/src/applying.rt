@@ -1,8 +1,11 @@
 //! Bindings are applied to variables.
-ghost use Rattle.std.specs.Prelude.{◌≡◌, ◌++◌, IfOk, option_copied};
+ghost use Rattle.std.specs.Prelude.{◌≡◌, ◌++◌, ◌∷◌, IfOk, OnOk, OnErr, None, codes, option_copied};
 ghost use Rattle.std.specs.Option.{option_or};
+ghost use Rattle.zi_outside.specs.Vars.{with_var};
 ghost use Rattle.zi_parts.specs.declared.types.Extra.TheVariants.{Insert};
+ghost use Rattle.zi_parts.specs.declared.types.Mode.TheVariants.{Prepend};
 ghost use Rattle.zi_bind.specs.Bound.{standard_value, is_folder_itself, extra_text, old_value, new_value, with_binding, fault_of_extra};
+ghost use Rattle.zi_bind.specs.Shims.{is_shimmed, with_shim};
 ghost use Rattle.zi_bind.specs.Answers.{Applies, AppliesOne, ExtraIs};
 
 use crate::ApplyFault;
@@ -93,9 +96,9 @@ fn extra_text(alloc: Global, folder: &str, extra: &Extra) -> Result<Text, ApplyF
     }
 }
 
-// Applies one binding.
+/// Applies one binding, with the folder of what is selected. One that makes a command available is passed over.
 #[tactic(auto, unfolding(crate::specs::Bound::with_binding, crate::specs::Bound::fault_of))]
-fn apply_one(
+pub fn apply_binding(
     alloc: Global,
     binding: &Binding,
     folder: &str,
@@ -104,12 +107,6 @@ fn apply_one(
     ensures { AppliesOne folder.now binding.now vars.old result vars.new }
 {
     match binding {
-        Binding::ExecVar { .. } => Err(ApplyFault::Unbuilt {
-            element: Text::from_str(alloc, "executable-in-var")?,
-        }),
-        Binding::ExecPath { .. } => Err(ApplyFault::Unbuilt {
-            element: Text::from_str(alloc, "executable-in-path")?,
-        }),
         Binding::Unbuilt { element } => Err(ApplyFault::Unbuilt {
             element: element.copy(alloc)?,
         }),
@@ -126,6 +123,7 @@ fn apply_one(
             vars.set(name.as_str(), value.as_str())?;
             Ok(())
         }
+        Binding::ExecVar { .. } | Binding::ExecPath { .. } => Ok(()),
     }
 }
 
@@ -143,10 +141,58 @@ pub fn apply(
     ensures { Applies folder.now bindings.now vars.old result vars.new }
 {
     for binding in bindings {
-        match apply_one(alloc, binding, folder, vars) {
+        match apply_binding(alloc, binding, folder, vars) {
             Ok(()) => {}
             Err(fault) => return Err(fault),
         }
     }
     Ok(())
+}
+
+/// Whether a binding makes a command available.
+pub fn is_shimmed(binding: &Binding) -> bool
+    ensures { result ≡ is_shimmed binding.now }
+{
+    matches!(binding, Binding::ExecVar { .. } | Binding::ExecPath { .. })
+}
+
+// Sets a variable to a shim's path.
+fn set_path(alloc: Global, name: &str, folder: &str, vars: &mut Vars) -> Result<(), Memory>
+    ensures ok { OnOk result (vars.new ≡ with_var name.now (folder.now ++ 47 ∷ name.now) vars.old) }
+    ensures err { OnErr result (vars.new ≡ vars.old) }
+{
+    let path = joined(alloc, folder, "/", name)?;
+    vars.set(name, path.as_str())
+}
+
+// Puts a shim's folder before what is in PATH.
+fn put_first(alloc: Global, folder: &str, vars: &mut Vars) -> Result<(), Memory>
+    ensures ok { OnOk result (vars.new ≡ with_var (codes "PATH") (new_value Prepend (codes ":") folder.now (old_value vars.old (codes "PATH") None)) vars.old) }
+    ensures err { OnErr result (vars.new ≡ vars.old) }
+{
+    let extra = Text::from_str(alloc, folder)?;
+    let value = {
+        let old = old_value(vars, "PATH", &None);
+        new_value(alloc, Mode::Prepend, ":", extra, old)?
+    };
+    vars.set("PATH", value.as_str())
+}
+
+/// Applies a binding that makes a command available, with the folder of its shim. Any other is passed over. After want of memory
+/// the variables are as before.
+#[tactic(auto, unfolding(crate::specs::Shims::with_shim, crate::specs::Bound::with_binding, crate::specs::Bound::extra_text))]
+pub fn apply_shim(
+    alloc: Global,
+    binding: &Binding,
+    folder: &str,
+    vars: &mut Vars,
+) -> Result<(), Memory>
+    ensures ok { OnOk result (vars.new ≡ with_shim folder.now binding.now vars.old) }
+    ensures err { OnErr result (vars.new ≡ vars.old) }
+{
+    match binding {
+        Binding::ExecVar { name, .. } => set_path(alloc, name.as_str(), folder, vars),
+        Binding::ExecPath { .. } => put_first(alloc, folder, vars),
+        _ => Ok(()),
+    }
 }

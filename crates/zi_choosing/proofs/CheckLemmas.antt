@@ -20,22 +20,24 @@ use Rattle.zi_sels.specs.declared.types.Selection.{Selection}
 use Rattle.zi_sels.specs.declared.types.Selections.{Selections}
 use Rattle.zi_sels.specs.declared.fault.SelsFault.{SelsFault}
 use Rattle.zi_sels.specs.declared.fault.SelsFault.TheVariants as fault
-use Rattle.zi_sels.specs.Reading.{Says, HasFault, FaultMeans as SelsFaultMeans}
+use Rattle.zi_sels.specs.Reading.{HasFault, FaultMeans as SelsFaultMeans}
 use Rattle.zi_outcome.specs.declared.outcome.Outcome.{Outcome}
-use Rattle.zi_outcome.specs.declared.outcome.Outcome.TheVariants.{Done, Usage, FeedRead, NoRootFeed, BadFeed, FeedTooLong, TooManyFeeds, TooManyInterfaces, TooManyCandidates, TooLarge, NoSolution, Spent, NoFile, BadSels, BadProof, Rejected, Plan, FetchRead, NoRemote, WrongSize, Overlap, NoPath, Mismatch, MissingTree, DamagedTree, BadName, TreeTooLarge, StoreFault, Crowded, SpawnFault, SinkFault, Memory, Child}
+use Rattle.zi_outcome.specs.declared.outcome.Outcome.TheVariants.{FeedRead, FeedTooLong, TooLarge, NoFile, BadSels, BadProof, Rejected, Memory}
 use Rattle.zi_outcome.specs.Refused.{outcome_of}
 use Rattle.zi_outcome.specs.Writing.{Prints}
 use Rattle.std.proofs.lemmas.Bool.{false≢true}
 use Rattle.zi_world.specs.Asking.{FeedsStay}
-use Rattle.zi_world.proofs.AskingLemmas.{asks_stay, unasked_stay}
+use Rattle.zi_world.specs.Files.{AsksFor, GetsWithin, IsAbsent, IsLonger, IsUnread, IsMissing}
+use Rattle.zi_world.proofs.AskingLemmas.{unasked_stay, stays_then}
+use Rattle.zi_world.proofs.FilesLemmas.{file_stays as asked_stays, missing_stays}
 use Rattle.zi_choosing.specs.declared.known.Known.{Known}
 use Rattle.zi_choosing.specs.Wanted.{requirement_of}
 use Rattle.zi_choosing.specs.Loaded.{Lent, IsLoaded, IsRefused, AreFew, build_outcome}
-use Rattle.zi_choosing.specs.Refute.{proof_limit, yes_line, Loads, AsksFor, Gets, IsAbsent, IsUnread}
+use Rattle.zi_choosing.specs.Refute.{proof_limit, yes_line, Loads}
 use Rattle.zi_choosing.specs.RefuteParts.{IsUnreadable}
 use Rattle.zi_choosing.specs.Named.{AreCandidates, choice_of, AreAskedFor, AreOwn}
-use Rattle.zi_choosing.specs.Check.{sels_limit, GetsWithin, IsLonger, ReadsSels, AreRight, AreFound, IsCertified, AreWrong, AreTooLarge, ChecksOver}
-use Rattle.zi_choosing.specs.CheckParts.{Judges, JudgesNot, AreNot, SaysOf, SaysBy, IsMissing, ChecksBy, AreUnsaid, ChecksText, ChecksFile}
+use Rattle.zi_choosing.specs.Check.{sels_limit, ReadsSels, AreRight, IsCertified, AreWrong, AreTooLarge, ChecksOver}
+use Rattle.zi_choosing.specs.CheckParts.{Judges, JudgesNot, AreNot, SaysOf, ChecksBy, AreUnsaid, ChecksText, ChecksFile}
 
 fails : {P : Type 0} (said : Bool) → Decides said P → said ≡ false → P → ⊥
 fails said tells e p = false≢true (sym e ∙ tells.1 p)
@@ -112,154 +114,37 @@ Missing most name before after outcome =
     ⊎ (Cause outcome (FeedRead name) (IsUnread name before after) ⊎ Cause outcome Memory (after ≡ before)))
 
 missing : (most : ℕ) (name : List ℕ) (before after : Feeding) (outcome : Outcome) → IsMissing most name before after outcome → Missing most name before after outcome
-missing most name before after Done why = absurd why
-missing most name before after (Usage index) why = absurd why
 missing most name before after (FeedRead uri) why = inr (inr (inl (ap FeedRead why.0, why.1)))
-missing most name before after NoRootFeed why = absurd why
-missing most name before after (BadFeed uri fault) why = absurd why
 missing most name before after (FeedTooLong uri limit) why = inr (inl (limit, (ap (λ n. FeedTooLong n limit) why.0, why.1)))
-missing most name before after (TooManyFeeds limit) why = absurd why
-missing most name before after (TooManyInterfaces limit) why = absurd why
-missing most name before after (TooManyCandidates limit) why = absurd why
-missing most name before after (TooLarge limit) why = absurd why
-missing most name before after (NoSolution refutation) why = absurd why
-missing most name before after (Spent refutation count) why = absurd why
 missing most name before after (NoFile absent) why = inl (ap NoFile why.0, why.1)
-missing most name before after (BadSels fault) why = absurd why
-missing most name before after (BadProof line) why = absurd why
-missing most name before after Rejected why = absurd why
-missing most name before after (Plan fault) why = absurd why
-missing most name before after (FetchRead href) why = absurd why
-missing most name before after (NoRemote href) why = absurd why
-missing most name before after (WrongSize href said got) why = absurd why
-missing most name before after (Overlap path) why = absurd why
-missing most name before after (NoPath path) why = absurd why
-missing most name before after (Mismatch wanted found) why = absurd why
-missing most name before after (MissingTree lost) why = absurd why
-missing most name before after (DamagedTree damaged found) why = absurd why
-missing most name before after (BadName path) why = absurd why
-missing most name before after (TreeTooLarge what limit) why = absurd why
-missing most name before after (StoreFault top) why = absurd why
-missing most name before after (Crowded tried) why = absurd why
-missing most name before after SpawnFault why = absurd why
-missing most name before after SinkFault why = absurd why
 missing most name before after Memory why = inr (inr (inr (refl, why)))
-missing most name before after (Child status) why = absurd why
+missing most name before after other why = absurd why
 
 abbrev Unsaid : List ℕ → Outcome → Type 0
 Unsaid bytes outcome = ((f : SelsFault) × Cause outcome (BadSels f) (HasFault bytes f)) ⊎ (outcome ≡ Memory)
 
 unsaid : (bytes : List ℕ) (outcome : Outcome) → AreUnsaid bytes outcome → Unsaid bytes outcome
-unsaid bytes Done why = absurd why
-unsaid bytes (Usage index) why = absurd why
-unsaid bytes (FeedRead uri) why = absurd why
-unsaid bytes NoRootFeed why = absurd why
-unsaid bytes (BadFeed uri fault) why = absurd why
-unsaid bytes (FeedTooLong uri limit) why = absurd why
-unsaid bytes (TooManyFeeds limit) why = absurd why
-unsaid bytes (TooManyInterfaces limit) why = absurd why
-unsaid bytes (TooManyCandidates limit) why = absurd why
-unsaid bytes (TooLarge limit) why = absurd why
-unsaid bytes (NoSolution refutation) why = absurd why
-unsaid bytes (Spent refutation count) why = absurd why
-unsaid bytes (NoFile absent) why = absurd why
 unsaid bytes (BadSels fault) why = inl (fault, (refl, why))
-unsaid bytes (BadProof line) why = absurd why
-unsaid bytes Rejected why = absurd why
-unsaid bytes (Plan fault) why = absurd why
-unsaid bytes (FetchRead href) why = absurd why
-unsaid bytes (NoRemote href) why = absurd why
-unsaid bytes (WrongSize href said got) why = absurd why
-unsaid bytes (Overlap path) why = absurd why
-unsaid bytes (NoPath path) why = absurd why
-unsaid bytes (Mismatch wanted found) why = absurd why
-unsaid bytes (MissingTree lost) why = absurd why
-unsaid bytes (DamagedTree damaged found) why = absurd why
-unsaid bytes (BadName path) why = absurd why
-unsaid bytes (TreeTooLarge what limit) why = absurd why
-unsaid bytes (StoreFault top) why = absurd why
-unsaid bytes (Crowded tried) why = absurd why
-unsaid bytes SpawnFault why = absurd why
-unsaid bytes SinkFault why = absurd why
 unsaid bytes Memory why = inr refl
-unsaid bytes (Child status) why = absurd why
+unsaid bytes other why = absurd why
 
 abbrev Unreadable : List ℕ → Outcome → Type 0
 Unreadable bytes outcome = ((line : ℕ) × Cause outcome (BadProof line) (ProofFaultMeans bytes (Bad line))) ⊎ (outcome ≡ Memory)
 
 unreadable : (bytes : List ℕ) (outcome : Outcome) → IsUnreadable bytes outcome → Unreadable bytes outcome
-unreadable bytes Done why = absurd why
-unreadable bytes (Usage index) why = absurd why
-unreadable bytes (FeedRead uri) why = absurd why
-unreadable bytes NoRootFeed why = absurd why
-unreadable bytes (BadFeed uri fault) why = absurd why
-unreadable bytes (FeedTooLong uri limit) why = absurd why
-unreadable bytes (TooManyFeeds limit) why = absurd why
-unreadable bytes (TooManyInterfaces limit) why = absurd why
-unreadable bytes (TooManyCandidates limit) why = absurd why
-unreadable bytes (TooLarge limit) why = absurd why
-unreadable bytes (NoSolution refutation) why = absurd why
-unreadable bytes (Spent refutation count) why = absurd why
-unreadable bytes (NoFile absent) why = absurd why
-unreadable bytes (BadSels fault) why = absurd why
 unreadable bytes (BadProof line) why = inl (line, (refl, why))
-unreadable bytes Rejected why = absurd why
-unreadable bytes (Plan fault) why = absurd why
-unreadable bytes (FetchRead href) why = absurd why
-unreadable bytes (NoRemote href) why = absurd why
-unreadable bytes (WrongSize href said got) why = absurd why
-unreadable bytes (Overlap path) why = absurd why
-unreadable bytes (NoPath path) why = absurd why
-unreadable bytes (Mismatch wanted found) why = absurd why
-unreadable bytes (MissingTree lost) why = absurd why
-unreadable bytes (DamagedTree damaged found) why = absurd why
-unreadable bytes (BadName path) why = absurd why
-unreadable bytes (TreeTooLarge what limit) why = absurd why
-unreadable bytes (StoreFault top) why = absurd why
-unreadable bytes (Crowded tried) why = absurd why
-unreadable bytes SpawnFault why = absurd why
-unreadable bytes SinkFault why = absurd why
 unreadable bytes Memory why = inr refl
-unreadable bytes (Child status) why = absurd why
+unreadable bytes other why = absurd why
 
 abbrev Not : List Interface → Requirement → Selections → Certificate → Outcome → Type 0
 Not u req sels c outcome =
     Cause outcome Rejected (AreWrong u req sels c) ⊎ (((limit : ℕ) × Cause outcome (TooLarge limit) (AreTooLarge u req sels limit)) ⊎ (outcome ≡ Memory))
 
 are_not : (u : List Interface) (req : Requirement) (sels : Selections) (c : Certificate) (outcome : Outcome) → AreNot u req sels c outcome → Not u req sels c outcome
-are_not u req sels c Done why = absurd why
-are_not u req sels c (Usage index) why = absurd why
-are_not u req sels c (FeedRead uri) why = absurd why
-are_not u req sels c NoRootFeed why = absurd why
-are_not u req sels c (BadFeed uri fault) why = absurd why
-are_not u req sels c (FeedTooLong uri limit) why = absurd why
-are_not u req sels c (TooManyFeeds limit) why = absurd why
-are_not u req sels c (TooManyInterfaces limit) why = absurd why
-are_not u req sels c (TooManyCandidates limit) why = absurd why
 are_not u req sels c (TooLarge limit) why = inr (inl (limit, (refl, why)))
-are_not u req sels c (NoSolution refutation) why = absurd why
-are_not u req sels c (Spent refutation count) why = absurd why
-are_not u req sels c (NoFile absent) why = absurd why
-are_not u req sels c (BadSels fault) why = absurd why
-are_not u req sels c (BadProof line) why = absurd why
 are_not u req sels c Rejected why = inl (refl, why)
-are_not u req sels c (Plan fault) why = absurd why
-are_not u req sels c (FetchRead href) why = absurd why
-are_not u req sels c (NoRemote href) why = absurd why
-are_not u req sels c (WrongSize href said got) why = absurd why
-are_not u req sels c (Overlap path) why = absurd why
-are_not u req sels c (NoPath path) why = absurd why
-are_not u req sels c (Mismatch wanted found) why = absurd why
-are_not u req sels c (MissingTree lost) why = absurd why
-are_not u req sels c (DamagedTree damaged found) why = absurd why
-are_not u req sels c (BadName path) why = absurd why
-are_not u req sels c (TreeTooLarge what limit) why = absurd why
-are_not u req sels c (StoreFault top) why = absurd why
-are_not u req sels c (Crowded tried) why = absurd why
-are_not u req sels c SpawnFault why = absurd why
-are_not u req sels c SinkFault why = absurd why
 are_not u req sels c Memory why = inr (inr refl)
-are_not u req sels c (Child status) why = absurd why
+are_not u req sels c other why = absurd why
 
 -- Behind the loading.
 module _ (ask : Ask) (name proof : List ℕ) (known : Known) (before after : Lent) where
@@ -268,7 +153,7 @@ module _ (ask : Ask) (name proof : List ℕ) (known : Known) (before after : Len
 
   -- behind the selections
   module _ (read : ReadsSels known ask name before.feeds) where
-    module _ (c : Certificate) (bytes : List ℕ) (got : Gets proof read.feeds after.feeds bytes) (text : IsProofText bytes c) where
+    module _ (c : Certificate) (bytes : List ℕ) (got : GetsWithin proof_limit proof read.feeds after.feeds bytes) (text : IsProofText bytes c) where
       yes_as : (outcome : Outcome) → AreRight read.there.universe (requirement_of ask) read.sels c → Prints yes_line before.out after.out outcome → Over outcome
       yes_as outcome right (inl (w, e)) =
           subst Over (sym e) (record { read = read; certificate = c; reads = record { bytes = bytes; got = got; text = text }; are = right }, w)
@@ -284,7 +169,7 @@ module _ (ask : Ask) (name proof : List ℕ) (known : Known) (before after : Len
           subst Over (sym e) (record { read = read; certificate = c; reads = record { bytes = bytes; got = got; text = text }; are = large }, w)
       not_as outcome (inr (inr e)) w = subst Over (sym e) (inr (inr (inr (inl ((read, got.asked), w)))))
 
-    bad_as : (bytes : List ℕ) (outcome : Outcome) → Gets proof read.feeds after.feeds bytes → Unreadable bytes outcome → after.out ≡ before.out → Over outcome
+    bad_as : (bytes : List ℕ) (outcome : Outcome) → GetsWithin proof_limit proof read.feeds after.feeds bytes → Unreadable bytes outcome → after.out ≡ before.out → Over outcome
     bad_as bytes outcome got (inl (line, (e, bad))) w = subst Over (sym e) ((read, record { bytes = bytes; got = got; bad = bad }), w)
     bad_as bytes outcome got (inr e) w = subst Over (sym e) (inr (inr (inr (inl ((read, got.asked), w)))))
 
@@ -349,19 +234,10 @@ pub check_no_task : (ask : Ask) (name proof : List ℕ) (known : Known) (lent : 
 check_no_task ask name proof known lent = inl refl
 
 -- The feeds hold what they held.
-stay_then : (before mid after : Feeding) → FeedsStay before mid → FeedsStay mid after → FeedsStay before after
-stay_then before mid after a b = record { holds = b.holds ∙ a.holds; plan = b.plan ∙ a.plan }
-
-missing_stays : (most : ℕ) (name : List ℕ) (before after : Feeding) (outcome : Outcome) → Missing most name before after outcome → FeedsStay before after
-missing_stays most name before after outcome (inl (e, absent)) = asks_stay _ before after absent.0.asked
-missing_stays most name before after outcome (inr (inl (limit, (e, longer)))) = asks_stay _ before after longer.0.asked
-missing_stays most name before after outcome (inr (inr (inl (e, unread)))) = asks_stay _ before after unread.0
-missing_stays most name before after outcome (inr (inr (inr (e, same)))) = unasked_stay before after same
-
 by_stays : (u : List Interface) (req : Requirement) (sels : Selections) (proof : List ℕ) (before after : Lent) (outcome : Outcome) → ChecksBy u req sels proof before after outcome → FeedsStay before.feeds after.feeds
-by_stays u req sels proof before after outcome (inl (bytes, got, says)) = asks_stay _ before.feeds after.feeds got.asked.asked
+by_stays u req sels proof before after outcome (inl (bytes, got, says)) = asked_stays proof before.feeds after.feeds got.asked
 by_stays u req sels proof before after outcome (inr (why, w)) =
-    missing_stays proof_limit proof before.feeds after.feeds outcome (missing proof_limit proof before.feeds after.feeds outcome why)
+    missing_stays proof_limit proof before.feeds after.feeds outcome why
 
 text_stays : (u : List Interface) (req : Requirement) (bytes proof : List ℕ) (before after : Lent) (outcome : Outcome) → ChecksText u req bytes proof before after outcome → FeedsStay before.feeds after.feeds
 text_stays u req bytes proof before after outcome (inl (sels, says, checks)) = by_stays u req sels proof before after outcome checks
@@ -369,11 +245,11 @@ text_stays u req bytes proof before after outcome (inr (why, same)) = unasked_st
 
 file_stays : (u : List Interface) (req : Requirement) (name proof : List ℕ) (before after : Lent) (outcome : Outcome) → ChecksFile u req name proof before after outcome → FeedsStay before.feeds after.feeds
 file_stays u req name proof before after outcome (inl (mid, bytes, got, checks)) =
-    stay_then before.feeds mid after.feeds (asks_stay _ before.feeds mid got.asked.asked)
+    stays_then before.feeds mid after.feeds (asked_stays name before.feeds mid got.asked)
     (text_stays u req bytes proof (record { feeds = mid; out = before.out }) after outcome checks)
 file_stays u req name proof before after outcome (inr (why, w)) =
-    missing_stays sels_limit name before.feeds after.feeds outcome (missing sels_limit name before.feeds after.feeds outcome why)
+    missing_stays sels_limit name before.feeds after.feeds outcome why
 
 pub check_stays : (u : List Interface) (req : Requirement) (name proof : List ℕ) (before : Feeding) (lent after : Lent) (outcome : Outcome) → FeedsStay before lent.feeds
     → ChecksFile u req name proof lent after outcome → FeedsStay before after.feeds
-check_stays u req name proof before lent after outcome s checks = stay_then before lent.feeds after.feeds s (file_stays u req name proof lent after outcome checks)
+check_stays u req name proof before lent after outcome s checks = stays_then before lent.feeds after.feeds s (file_stays u req name proof lent after outcome checks)

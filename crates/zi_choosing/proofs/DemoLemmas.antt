@@ -22,7 +22,7 @@ use Rattle.zi_proof.specs.declared.proof.Certificate.{Certificate}
 use Rattle.zi_certificate.specs.Certificates.{Excludes, Refutes}
 use Rattle.zi_solve.specs.Answers.{IsSpent}
 use Rattle.zi_outcome.specs.declared.outcome.Outcome.{Outcome}
-use Rattle.zi_outcome.specs.declared.outcome.Outcome.TheVariants.{Done, Usage, FeedRead, NoRootFeed, BadFeed, FeedTooLong, TooManyFeeds, TooManyInterfaces, TooManyCandidates, TooLarge, NoSolution, Spent, NoFile, BadSels, BadProof, Rejected, Plan, FetchRead, NoRemote, WrongSize, Overlap, NoPath, Mismatch, MissingTree, DamagedTree, BadName, TreeTooLarge, StoreFault, Crowded, SpawnFault, SinkFault, Memory, Child}
+use Rattle.zi_outcome.specs.declared.outcome.Outcome.TheVariants.{TooLarge, NoSolution, Spent, Memory}
 use Rattle.zi_outcome.specs.Refused.{outcome_of}
 use Rattle.zi_outcome.specs.Writing.{Prints}
 use Rattle.zi_choosing.specs.Wanted.{requirement_of}
@@ -95,15 +95,6 @@ module _ (before after : Lent) where
 
   uncounted_as : (u : List Interface) (outcome : Outcome) → IsLoaded none_known demo_ask before.feeds after.feeds u → CountsNothing (requirement_of demo_ask) u outcome
       → after.out ≡ before.out → CountsOver before after outcome
-  uncounted_as u Done loaded why w = absurd why
-  uncounted_as u (Usage index) loaded why w = absurd why
-  uncounted_as u (FeedRead uri) loaded why w = absurd why
-  uncounted_as u NoRootFeed loaded why w = absurd why
-  uncounted_as u (BadFeed uri fault) loaded why w = absurd why
-  uncounted_as u (FeedTooLong uri limit) loaded why w = absurd why
-  uncounted_as u (TooManyFeeds limit) loaded why w = absurd why
-  uncounted_as u (TooManyInterfaces limit) loaded why w = absurd why
-  uncounted_as u (TooManyCandidates limit) loaded why w = absurd why
   uncounted_as u (TooLarge limit) loaded why w = ((u, loaded, why), w)
   uncounted_as u (NoSolution p) loaded why w = (record { there = record { universe = u; loaded = loaded; few = why.0 }; refutes = why.1; none = why.2 }, w)
   uncounted_as u (Spent p count) loaded why w = (
@@ -114,27 +105,8 @@ module _ (before after : Lent) where
     },
     w,
   )
-  uncounted_as u (NoFile absent) loaded why w = absurd why
-  uncounted_as u (BadProof line) loaded why w = absurd why
-  uncounted_as u Rejected loaded why w = absurd why
-  uncounted_as u (FetchRead href) loaded why w = absurd why
-  uncounted_as u (NoRemote href) loaded why w = absurd why
-  uncounted_as u (WrongSize href said got) loaded why w = absurd why
-  uncounted_as u (Overlap path) loaded why w = absurd why
-  uncounted_as u (NoPath path) loaded why w = absurd why
-  uncounted_as u (Mismatch wanted found) loaded why w = absurd why
-  uncounted_as u (MissingTree missing) loaded why w = absurd why
-  uncounted_as u (DamagedTree damaged found) loaded why w = absurd why
-  uncounted_as u (BadName path) loaded why w = absurd why
-  uncounted_as u (Plan fault) loaded why w = absurd why
-  uncounted_as u (BadSels fault) loaded why w = absurd why
-  uncounted_as u SpawnFault loaded why w = absurd why
-  uncounted_as u (Child status) loaded why w = absurd why
-  uncounted_as u (TreeTooLarge what limit) loaded why w = absurd why
-  uncounted_as u (StoreFault top) loaded why w = absurd why
-  uncounted_as u (Crowded tried) loaded why w = absurd why
-  uncounted_as u SinkFault loaded why w = absurd why
   uncounted_as u Memory loaded why w = inr (inr (inl ((u, loaded, tt), w)))
+  uncounted_as u other loaded why w = absurd why
 
   counted_over : (u : List Interface) (outcome : Outcome) → IsLoaded none_known demo_ask before.feeds after.feeds u
       → CountsFrom (requirement_of demo_ask) u before.out after.out outcome → CountsOver before after outcome

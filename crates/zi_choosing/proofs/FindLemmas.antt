@@ -12,14 +12,15 @@ use Rattle.zi_build.specs.declared.building.BuildFault.TheVariants as build
 use Rattle.zi_build.specs.Answers.{FaultMeans}
 use Rattle.zi_sels.specs.Chosen.{AreSelected}
 use Rattle.zi_outcome.specs.declared.outcome.Outcome.{Outcome}
-use Rattle.zi_outcome.specs.declared.outcome.Outcome.TheVariants.{Done, Usage, FeedRead, NoRootFeed, BadFeed, FeedTooLong, TooManyFeeds, TooManyInterfaces, TooManyCandidates, TooLarge, NoSolution, Spent, NoFile, BadSels, BadProof, Rejected, Plan, FetchRead, NoRemote, WrongSize, Overlap, NoPath, Mismatch, MissingTree, DamagedTree, BadName, TreeTooLarge, StoreFault, Crowded, SpawnFault, SinkFault, Memory, Child}
+use Rattle.zi_outcome.specs.declared.outcome.Outcome.TheVariants.{TooLarge, NoSolution, Spent, Memory}
 use Rattle.zi_outcome.specs.Refused.{outcome_of}
+use Rattle.zi_choosing.specs.declared.asked.Asked.{Asked}
 use Rattle.zi_choosing.specs.declared.known.Known.{Known}
 use Rattle.zi_choosing.specs.declared.chosen.Chosen.{Chosen}
-use Rattle.zi_choosing.specs.Knowing.{IsKnown}
+use Rattle.zi_choosing.specs.Knowing.{Sources, IsKnown}
 use Rattle.zi_choosing.specs.Wanted.{requirement_of}
 use Rattle.zi_choosing.specs.Loaded.{IsLoaded, IsRefused, AreFew, build_outcome}
-use Rattle.zi_choosing.specs.Finding.{Sources, SolvesNot, IsChosen, FindsNot, FindsOver}
+use Rattle.zi_choosing.specs.Finding.{SolvesNot, IsChosen, FindsNot, FindsOver}
 
 -- there was no formula
 pub formula_lacks : (req : Requirement) (budget : ℕ) (u : List Interface) (fault : BuildFault) (outcome : Outcome) → FaultMeans u req fault → outcome ≡ build_outcome fault → SolvesNot req budget u outcome
@@ -30,39 +31,11 @@ pub ruleset solving = (formula_lacks)
 
 module _ (ask : Ask) (known : Known) (before after : Feeding) where
   unsolved_as : (u : List Interface) (outcome : Outcome) → IsLoaded known ask before after u → SolvesNot (requirement_of ask) ask.search u outcome → FindsNot known ask before after outcome
-  unsolved_as u Done loaded why = absurd why
-  unsolved_as u (Usage index) loaded why = absurd why
-  unsolved_as u (FeedRead uri) loaded why = absurd why
-  unsolved_as u NoRootFeed loaded why = absurd why
-  unsolved_as u (BadFeed uri fault) loaded why = absurd why
-  unsolved_as u (FeedTooLong uri limit) loaded why = absurd why
-  unsolved_as u (TooManyFeeds limit) loaded why = absurd why
-  unsolved_as u (TooManyInterfaces limit) loaded why = absurd why
-  unsolved_as u (TooManyCandidates limit) loaded why = absurd why
   unsolved_as u (TooLarge limit) loaded why = (u, loaded, why)
   unsolved_as u (NoSolution p) loaded why = record { there = record { universe = u; loaded = loaded; few = why.0 }; refutes = why.1; none = why.2 }
   unsolved_as u (Spent p count) loaded why = record { there = record { universe = u; loaded = loaded; few = why.0 }; count_is = why.1; spent = why.2 }
-  unsolved_as u (NoFile name) loaded why = absurd why
-  unsolved_as u (BadProof line) loaded why = absurd why
-  unsolved_as u Rejected loaded why = absurd why
-  unsolved_as u (FetchRead href) loaded why = absurd why
-  unsolved_as u (NoRemote href) loaded why = absurd why
-  unsolved_as u (WrongSize href said got) loaded why = absurd why
-  unsolved_as u (Overlap path) loaded why = absurd why
-  unsolved_as u (NoPath path) loaded why = absurd why
-  unsolved_as u (Mismatch name found) loaded why = absurd why
-  unsolved_as u (MissingTree name) loaded why = absurd why
-  unsolved_as u (DamagedTree name found) loaded why = absurd why
-  unsolved_as u (BadName path) loaded why = absurd why
-  unsolved_as u (Plan fault) loaded why = absurd why
-  unsolved_as u (BadSels fault) loaded why = absurd why
-  unsolved_as u SpawnFault loaded why = absurd why
-  unsolved_as u (Child status) loaded why = absurd why
-  unsolved_as u (TreeTooLarge what limit) loaded why = absurd why
-  unsolved_as u (StoreFault name) loaded why = absurd why
-  unsolved_as u (Crowded tried) loaded why = absurd why
-  unsolved_as u SinkFault loaded why = absurd why
   unsolved_as u Memory loaded why = inr (inr (u, loaded, tt))
+  unsolved_as u other loaded why = absurd why
 
   -- what a loading that was refused comes to
   pub refused_find : (e : LoadFault) (outcome : Outcome) → IsRefused known ask before after e → outcome ≡ outcome_of e → FindsNot known ask before after outcome
@@ -102,8 +75,10 @@ module _ (ask : Ask) (known : Known) (before after : Feeding) where
 pub no_job : (ask : Ask) (known : Known) (feeds : Feeding) (outcome : Outcome) → outcome ≡ Memory → FindsNot known ask feeds feeds outcome
 no_job ask known feeds outcome e = subst (λ x. FindsNot known ask feeds feeds x) (sym e) (inl refl)
 
--- over the names in the stores
-pub finds_over : (ask : Ask) (known : Known) (before after : Sources) (result : Result Chosen Outcome) → IsKnown before.stores after.stores (Ok known)
-    → MatchResult result (λ c. (c.known ≡ known) × IsChosen ask before.feeds c after.feeds) (FindsNot known ask before.feeds after.feeds) → FindsOver ask before after result
-finds_over ask known before after (Ok c) is (e, chosen) = (subst (λ k. IsKnown before.stores after.stores (Ok k)) (sym e) is, chosen)
-finds_over ask known before after (Err outcome) is why = inr (known, is, why)
+-- over what is known
+pub finds_over : (asked : Asked) (known : Known) (feeds : Feeding) (before after : Sources) (result : Result Chosen Outcome)
+    → IsKnown asked.table before (record { feeds = feeds; stores = after.stores }) (Ok known)
+    → MatchResult result (λ c. (c.known ≡ known) × IsChosen asked.ask feeds c after.feeds) (FindsNot known asked.ask feeds after.feeds) → FindsOver asked before after result
+finds_over asked known feeds before after (Ok c) is (e, chosen) =
+    (feeds, subst (λ k. IsKnown asked.table before (record { feeds = feeds; stores = after.stores }) (Ok k)) (sym e) is, chosen)
+finds_over asked known feeds before after (Err outcome) is why = inr (record { known = known; feeds = feeds; found = is }, why)

@@ -1,5 +1,5 @@
 -- Selections looked up by their interfaces, and the candidates that they name.
-use Rattle.std.proofs.Common.{◌≡◌, ℕ, suc, ◌+◌, ◌<◌, ◌≤◌, Bool, true, false, cond, List, [], ◌∷◌, ◌++◌, length, take, get_or, refl, sym, ap, ◌∙◌, arith, Option, Some, None, ltb}
+use Rattle.std.proofs.Common.{◌≡◌, ℕ, suc, ◌+◌, ◌<◌, ◌≤◌, Bool, true, false, cond, List, [], ◌∷◌, length, take, get_or, refl, sym, ap, ◌∙◌, arith, Option, Some, None, ltb}
 use Rattle.std.specs.Prelude.{slice_get, bytes_eq, find, option_and_then}
 use Rattle.std.specs.Option.{option_map}
 use Rattle.std.specs.List.{position_from}
@@ -7,7 +7,7 @@ use Rattle.std.proofs.lemmas.Bool.Decides.{nat_tests}
 use Rattle.zi_universe.specs.declared.types.Interface.{Interface}
 use Rattle.zi_universe.specs.Whole.{IsWhole}
 use Rattle.zi_choice.specs.Tables.{first_of, IsAdded}
-use Rattle.zi_choice.specs.Vars.{total, before, own_candidates}
+use Rattle.zi_choice.specs.Vars.{own_candidates}
 use Rattle.zi_choice.proofs.SumLaws.{before_below, total_few, length_taken}
 use Rattle.zi_choice.proofs.TaskLaws.{slice_some}
 use Rattle.zi_sels.specs.declared.types.Selection.{Selection}

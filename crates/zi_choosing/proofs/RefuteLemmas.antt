@@ -1,5 +1,5 @@
 -- The check of a proof, and what it means for the words that asked for it.
-use Rattle.std.proofs.Common.{◌≡◌, ◌≢◌, ℕ, inl, inr, List, [], refl, sym, subst, ◌∙◌}
+use Rattle.std.proofs.Common.{◌≡◌, ◌≢◌, ℕ, inl, inr, List, [], refl, sym, subst}
 use Rattle.zi_outside.specs.Views.{Feeding, Sinking}
 use Rattle.zi_words.specs.declared.request.Ask.{Ask}
 use Rattle.zi_universe.specs.declared.types.Interface.{Interface}
@@ -13,16 +13,18 @@ use Rattle.zi_build.specs.Answers.{FaultMeans}
 use Rattle.zi_proof.specs.declared.proof.Certificate.{Certificate}
 use Rattle.zi_certificate.specs.Certificates.{Refutes}
 use Rattle.zi_outcome.specs.declared.outcome.Outcome.{Outcome}
-use Rattle.zi_outcome.specs.declared.outcome.Outcome.TheVariants.{Done, Usage, FeedRead, NoRootFeed, BadFeed, FeedTooLong, TooManyFeeds, TooManyInterfaces, TooManyCandidates, TooLarge, NoSolution, Spent, NoFile, BadSels, BadProof, Rejected, Plan, FetchRead, NoRemote, WrongSize, Overlap, NoPath, Mismatch, MissingTree, DamagedTree, BadName, TreeTooLarge, StoreFault, Crowded, SpawnFault, SinkFault, Memory, Child}
+use Rattle.zi_outcome.specs.declared.outcome.Outcome.TheVariants.{FeedRead, FeedTooLong, TooLarge, NoFile, BadProof, Rejected, Memory}
 use Rattle.zi_outcome.specs.Refused.{outcome_of}
 use Rattle.zi_outcome.specs.Writing.{Prints}
 use Rattle.zi_world.specs.Asking.{FeedsStay}
-use Rattle.zi_world.proofs.AskingLemmas.{asks_stay, unasked_stay}
+use Rattle.zi_world.specs.Files.{GetsWithin, IsMissing}
+use Rattle.zi_world.proofs.AskingLemmas.{stays_then}
+use Rattle.zi_world.proofs.FilesLemmas.{file_stays as asked_stays, missing_stays}
 use Rattle.zi_choosing.specs.declared.known.Known.{Known}
 use Rattle.zi_choosing.specs.Wanted.{requirement_of}
 use Rattle.zi_choosing.specs.Loaded.{Lent, IsLoaded, IsRefused, AreFew, build_outcome}
-use Rattle.zi_choosing.specs.Refute.{yes_line, Loads, Gets, Reads, IsRight, RefutesOver}
-use Rattle.zi_choosing.specs.RefuteParts.{IsNone, ChecksRead, IsUnreadable, IsNoFile, ChecksFile}
+use Rattle.zi_choosing.specs.Refute.{proof_limit, yes_line, Loads, Reads, IsRight, RefutesOver}
+use Rattle.zi_choosing.specs.RefuteParts.{IsNone, ChecksRead, IsUnreadable, ChecksFile}
 
 -- it has a block
 pub has_block : (req : Requirement) (u : List Interface) (c : Certificate) (out : Sinking) → c.blocks ≢ [] → ChecksRead req u c out out Rejected
@@ -58,110 +60,23 @@ module _ (ask : Ask) (name : List ℕ) (known : Known) (before after : Lent) (th
 
   none_as : (c : Certificate) (outcome : Outcome) → Reads name there.feeds after.feeds c → IsNone (requirement_of ask) there.universe c outcome → after.out ≡ before.out
       → RefutesOver ask name known before after outcome
-  none_as c Done reads why w = absurd why
-  none_as c (Usage index) reads why w = absurd why
-  none_as c (FeedRead uri) reads why w = absurd why
-  none_as c NoRootFeed reads why w = absurd why
-  none_as c (BadFeed uri fault) reads why w = absurd why
-  none_as c (FeedTooLong uri limit) reads why w = absurd why
-  none_as c (TooManyFeeds limit) reads why w = absurd why
-  none_as c (TooManyInterfaces limit) reads why w = absurd why
-  none_as c (TooManyCandidates limit) reads why w = absurd why
   none_as c (TooLarge limit) reads why w = (record { there = there; certificate = c; reads = reads; is = why }, w)
-  none_as c (NoSolution proof) reads why w = absurd why
-  none_as c (Spent proof count) reads why w = absurd why
-  none_as c (NoFile absent) reads why w = absurd why
-  none_as c (BadProof line) reads why w = absurd why
   none_as c Rejected reads why w = (record { there = there; certificate = c; reads = reads; is = why }, w)
-  none_as c (FetchRead href) reads why w = absurd why
-  none_as c (NoRemote href) reads why w = absurd why
-  none_as c (WrongSize href said got) reads why w = absurd why
-  none_as c (Overlap path) reads why w = absurd why
-  none_as c (NoPath path) reads why w = absurd why
-  none_as c (Mismatch wanted found) reads why w = absurd why
-  none_as c (MissingTree missing) reads why w = absurd why
-  none_as c (DamagedTree damaged found) reads why w = absurd why
-  none_as c (BadName path) reads why w = absurd why
-  none_as c (Plan fault) reads why w = absurd why
-  none_as c (BadSels fault) reads why w = absurd why
-  none_as c SpawnFault reads why w = absurd why
-  none_as c (Child status) reads why w = absurd why
-  none_as c (TreeTooLarge what limit) reads why w = absurd why
-  none_as c (StoreFault top) reads why w = absurd why
-  none_as c (Crowded tried) reads why w = absurd why
-  none_as c SinkFault reads why w = absurd why
   none_as c Memory reads why w = inr (inr (inl ((there, inr reads.got.asked), w)))
+  none_as c other reads why w = absurd why
 
-  bad_as : (bytes : List ℕ) (outcome : Outcome) → Gets name there.feeds after.feeds bytes → IsUnreadable bytes outcome → after.out ≡ before.out
+  bad_as : (bytes : List ℕ) (outcome : Outcome) → GetsWithin proof_limit name there.feeds after.feeds bytes → IsUnreadable bytes outcome → after.out ≡ before.out
       → RefutesOver ask name known before after outcome
-  bad_as bytes Done got why w = absurd why
-  bad_as bytes (Usage index) got why w = absurd why
-  bad_as bytes (FeedRead uri) got why w = absurd why
-  bad_as bytes NoRootFeed got why w = absurd why
-  bad_as bytes (BadFeed uri fault) got why w = absurd why
-  bad_as bytes (FeedTooLong uri limit) got why w = absurd why
-  bad_as bytes (TooManyFeeds limit) got why w = absurd why
-  bad_as bytes (TooManyInterfaces limit) got why w = absurd why
-  bad_as bytes (TooManyCandidates limit) got why w = absurd why
-  bad_as bytes (TooLarge limit) got why w = absurd why
-  bad_as bytes (NoSolution proof) got why w = absurd why
-  bad_as bytes (Spent proof count) got why w = absurd why
-  bad_as bytes (NoFile absent) got why w = absurd why
   bad_as bytes (BadProof line) got why w = ((there, record { bytes = bytes; got = got; bad = why }), w)
-  bad_as bytes Rejected got why w = absurd why
-  bad_as bytes (FetchRead href) got why w = absurd why
-  bad_as bytes (NoRemote href) got why w = absurd why
-  bad_as bytes (WrongSize href said size) got why w = absurd why
-  bad_as bytes (Overlap path) got why w = absurd why
-  bad_as bytes (NoPath path) got why w = absurd why
-  bad_as bytes (Mismatch wanted found) got why w = absurd why
-  bad_as bytes (MissingTree missing) got why w = absurd why
-  bad_as bytes (DamagedTree damaged found) got why w = absurd why
-  bad_as bytes (BadName path) got why w = absurd why
-  bad_as bytes (Plan fault) got why w = absurd why
-  bad_as bytes (BadSels fault) got why w = absurd why
-  bad_as bytes SpawnFault got why w = absurd why
-  bad_as bytes (Child status) got why w = absurd why
-  bad_as bytes (TreeTooLarge what limit) got why w = absurd why
-  bad_as bytes (StoreFault top) got why w = absurd why
-  bad_as bytes (Crowded tried) got why w = absurd why
-  bad_as bytes SinkFault got why w = absurd why
   bad_as bytes Memory got why w = inr (inr (inl ((there, inr got.asked), w)))
+  bad_as bytes other got why w = absurd why
 
-  no_file_as : (outcome : Outcome) → IsNoFile name there.feeds after.feeds outcome → after.out ≡ before.out → RefutesOver ask name known before after outcome
-  no_file_as Done why w = absurd why
-  no_file_as (Usage index) why w = absurd why
+  no_file_as : (outcome : Outcome) → IsMissing proof_limit name there.feeds after.feeds outcome → after.out ≡ before.out → RefutesOver ask name known before after outcome
   no_file_as (FeedRead uri) why w = inr (why.0, (there, why.1), w)
-  no_file_as NoRootFeed why w = absurd why
-  no_file_as (BadFeed uri fault) why w = absurd why
   no_file_as (FeedTooLong uri limit) why w = inr (why.0, (there, why.1), w)
-  no_file_as (TooManyFeeds limit) why w = absurd why
-  no_file_as (TooManyInterfaces limit) why w = absurd why
-  no_file_as (TooManyCandidates limit) why w = absurd why
-  no_file_as (TooLarge limit) why w = absurd why
-  no_file_as (NoSolution proof) why w = absurd why
-  no_file_as (Spent proof count) why w = absurd why
   no_file_as (NoFile absent) why w = (why.0, (there, why.1), w)
-  no_file_as (BadProof line) why w = absurd why
-  no_file_as Rejected why w = absurd why
-  no_file_as (FetchRead href) why w = absurd why
-  no_file_as (NoRemote href) why w = absurd why
-  no_file_as (WrongSize href said got) why w = absurd why
-  no_file_as (Overlap path) why w = absurd why
-  no_file_as (NoPath path) why w = absurd why
-  no_file_as (Mismatch wanted found) why w = absurd why
-  no_file_as (MissingTree missing) why w = absurd why
-  no_file_as (DamagedTree damaged found) why w = absurd why
-  no_file_as (BadName path) why w = absurd why
-  no_file_as (Plan fault) why w = absurd why
-  no_file_as (BadSels fault) why w = absurd why
-  no_file_as SpawnFault why w = absurd why
-  no_file_as (Child status) why w = absurd why
-  no_file_as (TreeTooLarge what limit) why w = absurd why
-  no_file_as (StoreFault top) why w = absurd why
-  no_file_as (Crowded tried) why w = absurd why
-  no_file_as SinkFault why w = absurd why
   no_file_as Memory why w = inr (inr (inl ((there, inl why), w)))
+  no_file_as other why w = absurd why
 
   pub file_as : (outcome : Outcome) → ChecksFile (requirement_of ask) there.universe name (record { feeds = there.feeds; out = before.out }) after outcome
       → RefutesOver ask name known before after outcome
@@ -197,50 +112,12 @@ refuted ask name known req before after mid u outcome at_req loaded checks =
     (subst (λ r. ChecksFile r u name (record { feeds = mid; out = before.out }) after outcome) at_req checks)
 
 -- The feeds hold what they held.
-no_file_stays : (name : List ℕ) (before after : Feeding) (outcome : Outcome) → IsNoFile name before after outcome → FeedsStay before after
-no_file_stays name before after Done why = absurd why
-no_file_stays name before after (Usage index) why = absurd why
-no_file_stays name before after (FeedRead uri) why = asks_stay _ before after why.1.0
-no_file_stays name before after NoRootFeed why = absurd why
-no_file_stays name before after (BadFeed uri fault) why = absurd why
-no_file_stays name before after (FeedTooLong uri limit) why = asks_stay _ before after why.1.0.asked
-no_file_stays name before after (TooManyFeeds limit) why = absurd why
-no_file_stays name before after (TooManyInterfaces limit) why = absurd why
-no_file_stays name before after (TooManyCandidates limit) why = absurd why
-no_file_stays name before after (TooLarge limit) why = absurd why
-no_file_stays name before after (NoSolution proof) why = absurd why
-no_file_stays name before after (Spent proof count) why = absurd why
-no_file_stays name before after (NoFile absent) why = asks_stay _ before after why.1.0.asked
-no_file_stays name before after (BadProof line) why = absurd why
-no_file_stays name before after Rejected why = absurd why
-no_file_stays name before after (FetchRead href) why = absurd why
-no_file_stays name before after (NoRemote href) why = absurd why
-no_file_stays name before after (WrongSize href said got) why = absurd why
-no_file_stays name before after (Overlap path) why = absurd why
-no_file_stays name before after (NoPath path) why = absurd why
-no_file_stays name before after (Mismatch wanted found) why = absurd why
-no_file_stays name before after (MissingTree missing) why = absurd why
-no_file_stays name before after (DamagedTree damaged found) why = absurd why
-no_file_stays name before after (BadName path) why = absurd why
-no_file_stays name before after (Plan fault) why = absurd why
-no_file_stays name before after (BadSels fault) why = absurd why
-no_file_stays name before after SpawnFault why = absurd why
-no_file_stays name before after (Child status) why = absurd why
-no_file_stays name before after (TreeTooLarge what limit) why = absurd why
-no_file_stays name before after (StoreFault top) why = absurd why
-no_file_stays name before after (Crowded tried) why = absurd why
-no_file_stays name before after SinkFault why = absurd why
-no_file_stays name before after Memory why = unasked_stay before after why
-
 file_stays : (req : Requirement) (u : List Interface) (name : List ℕ) (before after : Lent) (outcome : Outcome) → ChecksFile req u name before after outcome → FeedsStay before.feeds after.feeds
-file_stays req u name before after outcome (inl (bytes, got, checks)) = asks_stay _ before.feeds after.feeds got.asked.asked
-file_stays req u name before after outcome (inr (why, w)) = no_file_stays name before.feeds after.feeds outcome why
-
-stay_then : (before mid after : Feeding) → FeedsStay before mid → FeedsStay mid after → FeedsStay before after
-stay_then before mid after a b = record { holds = b.holds ∙ a.holds; plan = b.plan ∙ a.plan }
+file_stays req u name before after outcome (inl (bytes, got, checks)) = asked_stays name before.feeds after.feeds got.asked
+file_stays req u name before after outcome (inr (why, w)) = missing_stays proof_limit name before.feeds after.feeds outcome why
 
 pub stays_over : (req : Requirement) (u : List Interface) (name : List ℕ) (before : Feeding) (lent after : Lent) (outcome : Outcome) → FeedsStay before lent.feeds
     → ChecksFile req u name lent after outcome → FeedsStay before after.feeds
-stays_over req u name before lent after outcome s checks = stay_then before lent.feeds after.feeds s (file_stays req u name lent after outcome checks)
+stays_over req u name before lent after outcome s checks = stays_then before lent.feeds after.feeds s (file_stays req u name lent after outcome checks)
 
 pub ruleset checking = (has_block, says_yes, says_no, no_formula)

@@ -1,6 +1,5 @@
 -- The comparison of selections tells when they are the same value, part by part.
-use Rattle.std.proofs.Common.{◌≡◌, ◌==◌, ℕ, Bool, true, false, List, [], ◌∷◌, refl, sym, ap, rules, Option, Some, None, Decides}
-use Rattle.std.specs.Prelude.{◌&&◌}
+use Rattle.std.proofs.Common.{◌≡◌, ◌==◌, Bool, refl, ap, rules, Some, None, Decides}
 use Rattle.std.specs.Option.{option_eq}
 use lib.Pointwise.{pointwise}
 use denote.Enum.Bare.{sameb, same_true, true_same}
@@ -9,27 +8,15 @@ use Rattle.std.proofs.lemmas.Bool.Decides.{Decides-and, Decides-like}
 use Rattle.std.specs.Cmp.Lexicographic.{bytes_decides}
 use Rattle.std.proofs.lemmas.Slice.Eq.{slice_eq-Decides}
 use Rattle.std.proofs.lemmas.Option.{same_Some}
-use Rattle.zi_version.specs.declared.alternative.Alternative.{Alternative}
 use Rattle.zi_version.specs.declared.alternative.Alternative.TheVariants.{Equal, Other, Within}
-use Rattle.zi_version.specs.declared.alternative.Range.{Range}
 use Rattle.zi_version.specs.declared.alternative.Range.TheVariants.{One, Any}
 use Rattle.zi_version.specs.contracts.alternative.AlternativePartialEq.TheImpl as alternative
 use Rattle.zi_version.specs.contracts.alternative.RangePartialEq.TheImpl as range
-use Rattle.zi_policy.specs.declared.types.Condition.{Condition}
-use Rattle.zi_digest.specs.declared.DigestName.{DigestName}
 use Rattle.zi_digest.specs.declared.DigestName.TheVariants.{Sha1new, Sha256, Sha256new}
 use Rattle.zi_digest.specs.contracts.DigestNamePartialEq.TheImpl as digest
-use Rattle.zi_parts.specs.declared.types.Dep.{Dep}
-use Rattle.zi_parts.specs.declared.types.DepKind.{DepKind}
-use Rattle.zi_parts.specs.declared.types.Command.{Command}
-use Rattle.zi_parts.specs.declared.types.Runner.{Runner}
-use Rattle.zi_parts.specs.declared.types.Word.{Word}
 use Rattle.zi_parts.specs.declared.types.Word.TheVariants.{Arg, ForEach}
-use Rattle.zi_parts.specs.declared.types.Binding.{Binding}
 use Rattle.zi_parts.specs.declared.types.Binding.TheVariants.{Env, ExecVar, ExecPath, Unbuilt}
-use Rattle.zi_parts.specs.declared.types.Extra.{Extra}
 use Rattle.zi_parts.specs.declared.types.Extra.TheVariants.{Insert, Value}
-use Rattle.zi_parts.specs.declared.types.Mode.{Mode}
 use Rattle.zi_parts.specs.contracts.types.DepKind.{the_type as kinds}
 use Rattle.zi_parts.specs.contracts.types.Mode.{the_type as modes}
 use Rattle.zi_parts.specs.contracts.types.DepPartialEq.TheImpl as dep
@@ -38,8 +25,6 @@ use Rattle.zi_parts.specs.contracts.types.RunnerPartialEq.TheImpl as runner
 use Rattle.zi_parts.specs.contracts.types.WordPartialEq.TheImpl as word
 use Rattle.zi_parts.specs.contracts.types.BindingPartialEq.TheImpl as binding
 use Rattle.zi_parts.specs.contracts.types.ExtraPartialEq.TheImpl as extra
-use Rattle.zi_sels.specs.declared.types.Selection.{Selection}
-use Rattle.zi_sels.specs.declared.types.Selections.{Selections}
 use Rattle.zi_sels.specs.contracts.types.SelectionPartialEq.TheImpl as selection
 use Rattle.zi_sels.specs.contracts.types.SelectionsPartialEq.TheImpl as selections
 

@@ -1,6 +1,6 @@
 -- The choice, and what it means for the words that asked for it.
-use Rattle.std.specs.Prelude.{IsSomeAnd}
-use Rattle.std.proofs.Common.{◌≡◌, ◌≢◌, ℕ, inl, inr, List, Option, Some, None, refl, sym, subst, ◌∙◌}
+use Rattle.std.proofs.Common.{◌≡◌, ◌≢◌, ℕ, inl, inr, List, [], Option, Some, None, refl, sym, subst, ap, ◌∙◌}
+use Rattle.std.proofs.lemmas.List.{append-nil}
 use Rattle.zi_outside.specs.Views.{Sinking}
 use Rattle.zi_words.specs.declared.request.Ask.{Ask}
 use Rattle.zi_universe.specs.declared.types.Interface.{Interface}
@@ -8,31 +8,32 @@ use Rattle.zi_universe.specs.declared.types.Requirement.{Requirement}
 use Rattle.zi_universe.specs.declared.fault.LoadFault.{LoadFault}
 use Rattle.zi_universe.specs.declared.fault.LoadFault.TheVariants as load
 use Rattle.zi_choice.specs.Choice.{Choice}
-use Rattle.zi_choice.specs.Best.{IsBest}
 use Rattle.zi_build.specs.declared.building.BuildFault.{BuildFault}
 use Rattle.zi_build.specs.declared.building.BuildFault.TheVariants as build
 use Rattle.zi_build.specs.Answers.{FaultMeans}
 use Rattle.zi_proof.specs.declared.proof.Proof.{Proof}
 use Rattle.zi_proof.specs.declared.proof.Certificate.{Certificate}
 use Rattle.zi_proof.specs.ProofText.{certificate_text}
-use Rattle.zi_certificate.specs.Certificates.{Excludes}
+use Rattle.zi_choice.specs.Valid.{NoneIsValid}
+use Rattle.zi_certificate.specs.Certificates.{Excludes, Refutes}
 use Rattle.zi_sels.specs.declared.types.Selections.{Selections}
 use Rattle.zi_sels.specs.Chosen.{AreSelected}
 use Rattle.zi_sels.specs.Written.{document}
 use Rattle.zi_report.specs.Reported.{IsReported}
+use Rattle.zi_conflict.specs.Conflict.{IsConflictText}
 use Rattle.zi_outcome.specs.declared.outcome.Outcome.{Outcome}
-use Rattle.zi_outcome.specs.declared.outcome.Outcome.TheVariants.{Done, Usage, FeedRead, NoRootFeed, BadFeed, FeedTooLong, TooManyFeeds, TooManyInterfaces, TooManyCandidates, TooLarge, NoSolution, Spent, NoFile, BadSels, BadProof, Rejected, Plan, FetchRead, NoRemote, WrongSize, Overlap, NoPath, Mismatch, MissingTree, DamagedTree, BadName, TreeTooLarge, StoreFault, Crowded, SpawnFault, SinkFault, Memory, Child}
+use Rattle.zi_outcome.specs.declared.outcome.Outcome.TheVariants.{Done, TooLarge, NoSolution, Spent, SinkFault, Memory}
 use Rattle.zi_outcome.specs.Refused.{outcome_of}
-use Rattle.zi_outside.specs.Outside.{WritesFront}
-use Rattle.zi_outcome.specs.Writing.{StopsShort, Prints}
+use Rattle.zi_outside.specs.Outside.{gained, Writes}
+use Rattle.zi_outcome.specs.Writing.{Prints, PrintsThen}
 use Rattle.zi_outcome.proofs.WritingLemmas.{nothing_put}
 use Rattle.zi_choosing.specs.declared.known.Known.{Known}
 use Rattle.zi_choosing.specs.Wanted.{requirement_of}
 use Rattle.zi_choosing.specs.Loaded.{Lent, IsLoaded, IsRefused, AreFew, build_outcome}
 use Rattle.zi_choosing.specs.declared.shows.Shows.{Shows}
 use Rattle.zi_choosing.specs.declared.shows.Shows.TheVariants as form
-use Rattle.zi_choosing.specs.Select.{refutation_text, refutation_shown, WritesSome, Chooses, HasNone, SelectsOver}
-use Rattle.zi_choosing.specs.SelectParts.{PrintsChoice, PrintsRefutation, PrintsSome, PrintsNone, Search, ChoosesNothing, ChoosesBest, ChoosesNone, ChoosesFrom}
+use Rattle.zi_choosing.specs.Select.{refutation_text, IsNoneShown, ShowsNone, Chooses, HasNone, SelectsOver}
+use Rattle.zi_choosing.specs.SelectParts.{PrintsChoice, PrintsRefutation, PrintsSome, PrintsNone, HasNoFormula, PutsNone, Search, ChoosesNothing, ChoosesBest, ChoosesNone, ChoosesFrom}
 
 -- a certificate was printed, or there was no memory for it
 pub text_printed : (wanted text : List ℕ) (old new : Sinking) (outcome : Outcome) → text ≡ wanted → Prints text old new outcome → Prints wanted old new outcome
@@ -67,22 +68,67 @@ report_shown u req choice c text old new outcome excludes is w = inl (text, (c, 
 pub unreported : (u : List Interface) (req : Requirement) (choice : Choice) (out : Sinking) → PrintsChoice form.Reasons u req choice out out Memory
 unreported u req choice out = inr (refl, refl)
 
--- a refutation was printed whole
-pub refutation_printed : (p : Proof) (old new : Sinking) (outcome : Outcome) → outcome ≡ Done → Prints (refutation_text p) old new outcome → PrintsRefutation p old new (NoSolution p)
-refutation_printed p old new outcome done (inl (w, e)) = inl (w, refl)
-refutation_printed p old new outcome done (inr (inl (w, e))) = let f : Done ≡ SinkFault = sym done ∙ e in absurd cc
-refutation_printed p old new outcome done (inr (inr (w, e))) = let f : Done ≡ Memory = sym done ∙ e in absurd cc
+-- nothing is written of a choice
+gained_nothing : (told : Option (List ℕ)) → told ≡ gained told []
+gained_nothing None = refl
+gained_nothing (Some bytes) = ap Some (sym (append-nil bytes))
+
+pub nothing_written : (s : Sinking) → Prints [] s s Done
+nothing_written s = inl (record { written = gained_nothing s.written; faults = refl; plan = refl }, refl)
+
+pub nothing_shown : (u : List Interface) (req : Requirement) (choice : Choice) (old new : Sinking) (outcome : Outcome) → Prints [] old new outcome → PrintsChoice form.Conflict u req choice old new outcome
+nothing_shown u req choice old new outcome w = inl ([], refl, w)
+
+-- a text was printed whole, and there is no solution
+pub then_printed : (text : List ℕ) (p : Proof) (old new : Sinking) (outcome : Outcome) → outcome ≡ Done → Prints text old new outcome → PrintsThen text (NoSolution p) old new (NoSolution p)
+then_printed text p old new outcome done (inl (w, e)) = inl (w, refl)
+then_printed text p old new outcome done (inr (inl (w, e))) = let f : Done ≡ SinkFault = sym done ∙ e in absurd cc
+then_printed text p old new outcome done (inr (inr (w, e))) = let f : Done ≡ Memory = sym done ∙ e in absurd cc
 
 -- or it wasn't
-pub refutation_stopped : (p : Proof) (old new : Sinking) (outcome : Outcome) → outcome ≢ Done → Prints (refutation_text p) old new outcome → PrintsRefutation p old new outcome
-refutation_stopped p old new outcome other (inl (w, e)) = absurd (other e)
-refutation_stopped p old new outcome other (inr h) = inr h
+pub then_stopped : (text : List ℕ) (p : Proof) (old new : Sinking) (outcome : Outcome) → outcome ≢ Done → Prints text old new outcome → PrintsThen text (NoSolution p) old new outcome
+then_stopped text p old new outcome other (inl (w, e)) = absurd (other e)
+then_stopped text p old new outcome other (inr h) = inr h
+
+-- what is shown of there being no solution
+pub refutation_put : (u : List Interface) (req : Requirement) (p : Proof) (old new : Sinking) (outcome : Outcome) → PrintsRefutation p old new outcome → PutsNone form.Document u req p old new outcome
+refutation_put u req p old new outcome w = inl (Some (refutation_text p), refl, w)
+
+pub proof_put : (u : List Interface) (req : Requirement) (p : Proof) (old new : Sinking) (outcome : Outcome) → PrintsRefutation p old new outcome → PutsNone form.Certificate u req p old new outcome
+proof_put u req p old new outcome w = inl (Some (refutation_text p), refl, w)
+
+pub no_reasons_put : (u : List Interface) (req : Requirement) (p : Proof) (out : Sinking) → PutsNone form.Reasons u req p out out (NoSolution p)
+no_reasons_put u req p out = inl (None, refl, (refl, refl))
+
+pub facts_put : (u : List Interface) (req : Requirement) (p : Proof) (text : List ℕ) (old new : Sinking) (outcome : Outcome) → IsConflictText u req p text → PrintsThen text (NoSolution p) old new outcome → PutsNone form.Conflict u req p old new outcome
+facts_put u req p text old new outcome is w = inl (Some text, is, w)
+
+pub no_facts_put : (shows : Shows) (u : List Interface) (req : Requirement) (p : Proof) (fault : BuildFault) (out : Sinking) (outcome : Outcome) → FaultMeans u req fault → outcome ≡ build_outcome fault → PutsNone shows u req p out out outcome
+no_facts_put shows u req p (build.TooLarge limit) out outcome means e = subst (λ x. PutsNone shows u req p out out x) (sym e) (inr (means, refl))
+no_facts_put shows u req p build.Memory out outcome means e = subst (λ x. PutsNone shows u req p out out x) (sym e) (inr (tt, refl))
+
+no_formula_nothing : (s : Search) (u : List Interface) (outcome : Outcome) → HasNoFormula u s.req outcome → ChoosesNothing s u outcome
+no_formula_nothing s u (TooLarge limit) h = h
+no_formula_nothing s u Memory h = tt
+no_formula_nothing s u other h = absurd h
+
+pub none_chosen : (s : Search) (u : List Interface) (p : Proof) (old new : Sinking) (outcome : Outcome) → AreFew u s.req → Refutes u s.req p → NoneIsValid u s.req → PutsNone s.shows u s.req p old new outcome → ChoosesFrom s u old new outcome
+none_chosen s u p old new outcome few refutes none (inl printed) = inr (inl (record { few = few; refutation = p; refutes = refutes; none = none; printed = printed }))
+none_chosen s u p old new outcome few refutes none (inr (why, w)) = inr (inr (no_formula_nothing s u outcome why, w))
 
 -- there was no formula
 pub no_formula : (s : Search) (u : List Interface) (fault : BuildFault) (out : Sinking) (outcome : Outcome) → FaultMeans u s.req fault → outcome ≡ build_outcome fault
     → ChoosesFrom s u out out outcome
 no_formula s u (build.TooLarge limit) out outcome means e = subst (λ x. ChoosesFrom s u out out x) (sym e) (inr (inr (means, refl)))
 no_formula s u build.Memory out outcome means e = subst (λ x. ChoosesFrom s u out out x) (sym e) (inr (inr (tt, refl)))
+
+pub ruleset choice_showing = (certificate_shown, report_shown, nothing_shown)
+
+pub ruleset none_showing = (refutation_put, proof_put, no_reasons_put)
+
+pub ruleset facts_printing = (then_printed, then_stopped)
+
+pub ruleset facts_putting = (facts_put, no_facts_put)
 
 -- Behind the loading.
 abbrev search_of : Ask → Shows → Search
@@ -107,54 +153,26 @@ module _ (ask : Ask) (shows : Shows) (known : Known) (before after : Lent) where
 
   none_as : (u : List Interface) (outcome : Outcome) → IsLoaded known ask before.feeds after.feeds u → ChoosesNone (search_of ask shows) u before.out after.out outcome
       → SelectsOver ask shows known before after outcome
-  none_as u outcome loaded n = by (refutation_shown shows n.refutation) refl n.printed
+  none_as u outcome loaded n = by n.printed
     where
       has : HasNone known ask before.feeds after.feeds n.refutation
       has = record { there = record { universe = u; loaded = loaded; few = n.few }; refutes = n.refutes; none = n.none }
 
-      by : (o : Option (List ℕ)) → o ≡ refutation_shown shows n.refutation → PrintsSome o (NoSolution n.refutation) before.out after.out outcome → SelectsOver ask shows known before after outcome
-      by None at (e, w) = subst (λ x. SelectsOver ask shows known before after x) (sym e) (has, subst (λ o. WritesSome before.out o after.out) at w)
-      by (Some text) at (inl (w, e)) = subst (λ x. SelectsOver ask shows known before after x) (sym e) (has, subst (λ o. WritesSome before.out o after.out) at w)
-      by (Some text) at (inr (inl (w, e))) =
-          subst (λ x. SelectsOver ask shows known before after x) (sym e) (inr (n.refutation, has, subst (λ o. IsSomeAnd o (λ t. WritesFront before.out t after.out)) at w))
-      by (Some text) at (inr (inr (w, e))) =
-          subst (λ x. SelectsOver ask shows known before after x) (sym e) (inr (inr (inr (inr (n.refutation, has, subst (λ o. IsSomeAnd o (λ t. StopsShort before.out t after.out)) at w)))))
+      of_text : (o : Option (List ℕ)) → ShowsNone known ask shows before.feeds after.feeds n.refutation o → PrintsSome o (NoSolution n.refutation) before.out after.out outcome → SelectsOver ask shows known before after outcome
+      of_text None is (e, w) = subst (λ x. SelectsOver ask shows known before after x) (sym e) (None, is, w)
+      of_text (Some text) is (inl (w, e)) = subst (λ x. SelectsOver ask shows known before after x) (sym e) (Some text, is, w)
+      of_text (Some text) is (inr (inl (w, e))) = subst (λ x. SelectsOver ask shows known before after x) (sym e) (inr (n.refutation, text, is, w))
+      of_text (Some text) is (inr (inr (w, e))) = subst (λ x. SelectsOver ask shows known before after x) (sym e) (inr (inr (inr (inr (n.refutation, text, is, w)))))
+
+      by : PrintsNone shows u (requirement_of ask) n.refutation before.out after.out outcome → SelectsOver ask shows known before after outcome
+      by (o, shown, w) = of_text o (record { has = has; shown = shown }) w
 
   nothing_as : (u : List Interface) (outcome : Outcome) → IsLoaded known ask before.feeds after.feeds u → ChoosesNothing (search_of ask shows) u outcome
       → after.out ≡ before.out → SelectsOver ask shows known before after outcome
-  nothing_as u Done loaded why w = absurd why
-  nothing_as u (Usage index) loaded why w = absurd why
-  nothing_as u (FeedRead uri) loaded why w = absurd why
-  nothing_as u NoRootFeed loaded why w = absurd why
-  nothing_as u (BadFeed uri fault) loaded why w = absurd why
-  nothing_as u (FeedTooLong uri limit) loaded why w = absurd why
-  nothing_as u (TooManyFeeds limit) loaded why w = absurd why
-  nothing_as u (TooManyInterfaces limit) loaded why w = absurd why
-  nothing_as u (TooManyCandidates limit) loaded why w = absurd why
   nothing_as u (TooLarge limit) loaded why w = ((u, loaded, why), w)
-  nothing_as u (NoSolution p) loaded why w = absurd why
   nothing_as u (Spent p count) loaded why w = (record { there = record { universe = u; loaded = loaded; few = why.0 }; count_is = why.1; spent = why.2 }, w)
-  nothing_as u (NoFile absent) loaded why w = absurd why
-  nothing_as u (BadProof line) loaded why w = absurd why
-  nothing_as u Rejected loaded why w = absurd why
-  nothing_as u (FetchRead href) loaded why w = absurd why
-  nothing_as u (NoRemote href) loaded why w = absurd why
-  nothing_as u (WrongSize href said got) loaded why w = absurd why
-  nothing_as u (Overlap path) loaded why w = absurd why
-  nothing_as u (NoPath path) loaded why w = absurd why
-  nothing_as u (Mismatch wanted found) loaded why w = absurd why
-  nothing_as u (MissingTree missing) loaded why w = absurd why
-  nothing_as u (DamagedTree damaged found) loaded why w = absurd why
-  nothing_as u (BadName path) loaded why w = absurd why
-  nothing_as u (Plan fault) loaded why w = absurd why
-  nothing_as u (BadSels fault) loaded why w = absurd why
-  nothing_as u SpawnFault loaded why w = absurd why
-  nothing_as u (Child status) loaded why w = absurd why
-  nothing_as u (TreeTooLarge what limit) loaded why w = absurd why
-  nothing_as u (StoreFault top) loaded why w = absurd why
-  nothing_as u (Crowded tried) loaded why w = absurd why
-  nothing_as u SinkFault loaded why w = absurd why
   nothing_as u Memory loaded why w = inr (inr (inl ((u, loaded, tt), w)))
+  nothing_as u other loaded why w = absurd why
 
   pub chosen_over : (u : List Interface) (outcome : Outcome) → IsLoaded known ask before.feeds after.feeds u
       → ChoosesFrom (search_of ask shows) u before.out after.out outcome → SelectsOver ask shows known before after outcome

@@ -1,6 +1,6 @@
 -- `check`: whether selections are those of the best choice, by a certificate.
-use Rattle.std.specs.Prelude.{◌≡◌, ℕ, ◌<◌, ◌≤◌, ◌⊎◌, List, length, Some, None, IfSome, IsSomeAnd}
-use Rattle.zi_outside.specs.Views.{Feeding, holding}
+use Rattle.std.specs.Prelude.{◌≡◌, ℕ, ◌⊎◌, List}
+use Rattle.zi_outside.specs.Views.{Feeding}
 use Rattle.zi_outside.specs.Outside.{Writes, WritesFront}
 use Rattle.zi_words.specs.declared.request.Ask.{Ask}
 use Rattle.zi_universe.specs.declared.types.Interface.{Interface}
@@ -17,26 +17,17 @@ use Rattle.zi_outcome.specs.declared.outcome.Outcome.{Outcome}
 use Rattle.zi_outcome.specs.declared.outcome.Outcome.TheVariants.{Done, FeedRead, FeedTooLong, TooLarge, NoFile, BadSels, BadProof, Rejected, SinkFault, Memory}
 use Rattle.zi_outcome.specs.Writing.{StopsShort}
 use Rattle.zi_world.specs.World.{World}
+use Rattle.zi_world.specs.Files.{AsksFor, GetsWithin, IsAbsent, IsLonger, IsUnread}
+use Rattle.zi_choosing.specs.declared.asked.Asked.{Asked}
 use Rattle.zi_choosing.specs.declared.known.Known.{Known}
 use Rattle.zi_choosing.specs.Wanted.{requirement_of}
-use Rattle.zi_choosing.specs.Loaded.{Lent, IsRefused, Refused, AreFew, AreMany, DoesOver, IsUnloaded}
-use Rattle.zi_choosing.specs.Refute.{proof_limit, yes_line, Loads, AsksFor, IsAbsent, IsUnread, Reads, IsBad, Then}
+use Rattle.zi_choosing.specs.Loaded.{Lent, Refused, AreFew, AreMany, DoesOver, IsUnloaded}
+use Rattle.zi_choosing.specs.Refute.{proof_limit, yes_line, Loads, Reads, IsBad, Then}
 use Rattle.zi_choosing.specs.Named.{AreCandidates, choice_of, AreAskedFor, AreOwn}
 
 -- so many bytes selections may have: 4 MiB
 abbrev pub sels_limit : ℕ
 sels_limit = 4194304
-
--- the file has these bytes, no more than a limit
-pub record GetsWithin (limit : ℕ) (name : List ℕ) (before after : Feeding) (bytes : List ℕ) : Type 0 where
-  pub asked : AsksFor name before after
-  pub small : length bytes ≤ limit
-  pub held : IfSome (holding before) (λ holds. holds name ≡ Some bytes)
-
--- it has more bytes than a limit
-abbrev pub IsLonger : ℕ → List ℕ → Feeding → Feeding → ℕ → Type 0
-IsLonger most name before after limit =
-    AsksFor name before after × (limit ≡ most) × IfSome (holding before) (λ holds. IsSomeAnd (holds name) (λ bytes. most < length bytes))
 
 -- The universe that the words ask for is loaded, the selections of this name are read, and then the feeds are as they are seen here.
 pub record ReadsSels (known : Known) (ask : Ask) (name : List ℕ) (before : Feeding) : Type 0 where
@@ -103,7 +94,7 @@ AtFile known ask sels proof before after name Is =
     (((name ≡ sels) × Then known ask before.feeds (λ feeds. Is sels_limit sels feeds after.feeds))
     ⊎ ((name ≡ proof) × Next known ask sels before.feeds (λ feeds. Is proof_limit proof feeds after.feeds))) × (after.out ≡ before.out)
 
--- over stores with these names
+-- over what is known
 abbrev pub ChecksOver : Ask → List ℕ → List ℕ → Known → Lent → Lent → Outcome → Type 0
 -- all tests hold, and that was written
 ChecksOver ask sels proof known before after Done =
@@ -136,5 +127,5 @@ ChecksOver ask sels proof known before after Memory =
 ChecksOver ask sels proof known before after other = IsUnloaded (Refused known ask before after) other
 
 -- The universe that the words ask for is loaded, and the selections of the first name are checked by the certificate of the second.
-abbrev pub ChecksBest : Ask → List ℕ → List ℕ → World → World → Outcome → Type 0
-ChecksBest ask sels proof before after outcome = DoesOver (ChecksOver ask sels proof) before after outcome
+abbrev pub ChecksBest : Asked → List ℕ → List ℕ → World → World → Outcome → Type 0
+ChecksBest asked sels proof before after outcome = DoesOver asked.table (ChecksOver asked.ask sels proof) before after outcome

@@ -10,12 +10,13 @@ use Rattle.zi_proof.specs.ProofText.{IsProofText}
 use Rattle.zi_sels.specs.declared.types.Selections.{Selections}
 use Rattle.zi_sels.specs.Reading.{Says, HasFault}
 use Rattle.zi_outcome.specs.declared.outcome.Outcome.{Outcome}
-use Rattle.zi_outcome.specs.declared.outcome.Outcome.TheVariants.{FeedRead, FeedTooLong, TooLarge, NoFile, BadSels, Rejected, Memory}
+use Rattle.zi_outcome.specs.declared.outcome.Outcome.TheVariants.{TooLarge, BadSels, Rejected, Memory}
 use Rattle.zi_outcome.specs.Writing.{Prints}
+use Rattle.zi_world.specs.Files.{GetsWithin, IsMissing}
 use Rattle.zi_choosing.specs.Loaded.{Lent}
-use Rattle.zi_choosing.specs.Refute.{proof_limit, yes_line, Gets, IsAbsent, IsUnread}
+use Rattle.zi_choosing.specs.Refute.{proof_limit, yes_line}
 use Rattle.zi_choosing.specs.RefuteParts.{IsUnreadable}
-use Rattle.zi_choosing.specs.Check.{sels_limit, GetsWithin, IsLonger, AreRight, AreWrong, AreTooLarge}
+use Rattle.zi_choosing.specs.Check.{sels_limit, AreRight, AreWrong, AreTooLarge}
 
 -- the answer of the tests
 abbrev pub Judges : List Interface → Requirement → Selections → Certificate → Bool → Type 0
@@ -44,18 +45,10 @@ abbrev pub SaysBy : List Interface → Requirement → Selections → List ℕ �
 SaysBy u req sels bytes old new outcome =
     ((c : Certificate) × IsProofText bytes c × SaysOf u req sels c old new outcome) ⊎ (IsUnreadable bytes outcome × (new ≡ old))
 
--- a file isn't there to be read
-abbrev pub IsMissing : ℕ → List ℕ → Feeding → Feeding → Outcome → Type 0
-IsMissing most name before after (NoFile absent) = (absent ≡ name) × IsAbsent name before after
-IsMissing most name before after (FeedTooLong uri limit) = (uri ≡ name) × IsLonger most name before after limit
-IsMissing most name before after (FeedRead uri) = (uri ≡ name) × IsUnread name before after
-IsMissing most name before after Memory = after ≡ before
-IsMissing most name before after other = ⊥
-
 -- what the check by a file says
 abbrev pub ChecksBy : List Interface → Requirement → Selections → List ℕ → Lent → Lent → Outcome → Type 0
 ChecksBy u req sels proof before after outcome =
-    ((bytes : List ℕ) × Gets proof before.feeds after.feeds bytes × SaysBy u req sels bytes before.out after.out outcome)
+    ((bytes : List ℕ) × GetsWithin proof_limit proof before.feeds after.feeds bytes × SaysBy u req sels bytes before.out after.out outcome)
     ⊎ (IsMissing proof_limit proof before.feeds after.feeds outcome × (after.out ≡ before.out))
 
 -- the bytes are no document of selections, or memory was refused

@@ -17,6 +17,7 @@ use Rattle.zi_outcome.specs.declared.outcome.Outcome.TheVariants.{Done, TooLarge
 use Rattle.zi_outcome.specs.Writing.{StopsShort}
 use Rattle.zi_choosing.specs.declared.known.Known.{Known}
 use Rattle.zi_choosing.specs.declared.counting.Counts.{Counts}
+use Rattle.zi_choosing.specs.Table.{no_packages}
 use Rattle.zi_choosing.specs.Wanted.{requirement_of}
 use Rattle.zi_choosing.specs.Loaded.{Lent, Refused, AreMany, IsUnloaded}
 use Rattle.zi_choosing.specs.Select.{IsThere, HasNone, WasSpent, OfLoaded}
@@ -52,9 +53,9 @@ lines counts =
     ++ (count_line (codes "first") counts.first
     ++ codes "checked yes\n")))
 
--- no store is asked
+-- no store is asked, and there are no packages
 abbrev pub none_known : Known
-none_known = record { each = [] }
+none_known = record { each = []; packages = no_packages }
 
 -- The universe is there, a choice is the best one from it, a certificate shows that of every other, and these are the lines of it.
 pub record IsCounted (before after : Feeding) (text : List ℕ) : Type 0 where

@@ -1,7 +1,6 @@
 -- The best choice from what the words ask for, and what it selects, before anything is done with it.
 use Rattle.std.specs.Prelude.{◌≡◌, ℕ, ◌⊎◌, List, Result, Ok, Err}
 use Rattle.zi_outside.specs.Views.{Feeding}
-use Rattle.zi_shelf.specs.Shelving.{Shelving}
 use Rattle.zi_store.specs.Keeping.{Keeps, is_names}
 use Rattle.zi_store.specs.Stores.{Each}
 use Rattle.zi_words.specs.declared.request.Ask.{Ask}
@@ -16,20 +15,15 @@ use Rattle.zi_sels.specs.Chosen.{AreSelected}
 use Rattle.zi_outcome.specs.declared.outcome.Outcome.{Outcome}
 use Rattle.zi_outcome.specs.declared.outcome.Outcome.TheVariants.{TooLarge, NoSolution, Spent, Memory}
 use Rattle.zi_world.specs.Asking.{FeedsStay}
+use Rattle.zi_choosing.specs.declared.asked.Asked.{Asked}
 use Rattle.zi_choosing.specs.declared.known.Known.{Known}
 use Rattle.zi_choosing.specs.declared.chosen.Chosen.{Chosen}
-use Rattle.zi_choosing.specs.Knowing.{IsKnown}
+use Rattle.zi_choosing.specs.Knowing.{Sources, IsUnknown, IsKnown, Starts}
 use Rattle.zi_choosing.specs.Wanted.{requirement_of}
 use Rattle.zi_choosing.specs.Loaded.{IsLoaded, IsRefused, AreFew, AreMany, IsUnloaded}
 use Rattle.zi_choosing.specs.Select.{HasNone, WasSpent, OfLoaded}
 
--- what the choosing is lent
-pub record Sources : Type 1 where
-  pub feeds : Feeding
-  -- the one that is written first, then those that are read besides
-  pub stores : List Shelving
-
--- The universe that the words ask for was loaded over the names in the stores, this is the best choice from it, and these are its selections.
+-- The universe that the words ask for was loaded over what is known, this is the best choice from it, and these are its selections.
 pub record IsChosen (ask : Ask) (before : Feeding) (c : Chosen) (after : Feeding) : Type 0 where
   pub req : c.req ≡ requirement_of ask
   pub loaded : IsLoaded c.known ask before after c.universe
@@ -37,7 +31,7 @@ pub record IsChosen (ask : Ask) (before : Feeding) (c : Chosen) (after : Feeding
   pub best : IsBest c.universe (requirement_of ask) c.choice.picks
   pub selected : AreSelected c.universe (requirement_of ask) c.choice.picks c.sels
 
--- Over stores with these names there is no choice, and this is why.
+-- Over what is known there is no choice, and this is why.
 abbrev pub FindsNot : Known → Ask → Feeding → Feeding → Outcome → Type 0
 FindsNot known ask before after (TooLarge limit) = OfLoaded known ask before after (λ universe. AreMany universe (requirement_of ask) limit)
 -- no choice is valid
@@ -50,18 +44,19 @@ FindsNot known ask before after Memory =
 -- the loading was refused
 FindsNot known ask before after other = IsUnloaded (IsRefused known ask before after) other
 
--- The names in the stores are found out, and over them the choice is made; where they aren't, the feeds are asked for nothing.
-abbrev pub FindsOver : Ask → Sources → Sources → Result Chosen Outcome → Type 0
-FindsOver ask before after (Ok c) = IsKnown before.stores after.stores (Ok c.known) × IsChosen ask before.feeds c after.feeds
-FindsOver ask before after (Err outcome) =
-    (IsKnown before.stores after.stores (Err outcome) × (after.feeds ≡ before.feeds))
-    ⊎ ((known : Known) × IsKnown before.stores after.stores (Ok known) × FindsNot known ask before.feeds after.feeds outcome)
+-- The names in the stores and the packages are found out, and over them the choice is made; or they aren't.
+abbrev pub FindsOver : Asked → Sources → Sources → Result Chosen Outcome → Type 0
+FindsOver asked before after (Ok c) =
+    (feeds : Feeding) × IsKnown asked.table before (record { feeds = feeds; stores = after.stores }) (Ok c.known) × IsChosen asked.ask feeds c after.feeds
+FindsOver asked before after (Err outcome) =
+    IsUnknown asked.table before after outcome
+    ⊎ ((start : Starts asked.table before after.stores) × FindsNot start.known asked.ask start.feeds after.feeds outcome)
 
 -- The stores are asked for their names alone.
-pub record FindsBest (ask : Ask) (before after : Sources) (result : Result Chosen Outcome) : Type 0 where
+pub record FindsBest (asked : Asked) (before after : Sources) (result : Result Chosen Outcome) : Type 0 where
   pub feeds : FeedsStay before.feeds after.feeds
   pub stores : Each (Keeps is_names) before.stores after.stores
-  pub answer : FindsOver ask before after result
+  pub answer : FindsOver asked before after result
 
 -- Parts of the work.
 

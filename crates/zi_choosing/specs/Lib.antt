@@ -1,3 +1,4 @@
+pub mod Table
 pub mod Wanted
 pub mod Knowing
 pub mod Loaded

@@ -1,10 +1,9 @@
--- What the commands that load a universe have in common: what the words ask for, over the names in the stores.
-use Rattle.std.specs.Prelude.{◌≡◌, ℕ, ◌<◌, ◌≤◌, ◌⊎◌, List, [], Ok, Err}
+-- What the commands that load a universe have in common: what the words ask for, over the names in the stores and the packages.
+use Rattle.std.specs.Prelude.{◌≡◌, ℕ, ◌<◌, ◌≤◌, ◌⊎◌, List, Option}
 use Rattle.zi_outside.specs.Views.{Feeding, Sinking}
 use Rattle.zi_store.specs.Keeping.{Keeps, is_names}
 use Rattle.zi_store.specs.Stores.{Each}
 use Rattle.zi_words.specs.declared.request.Ask.{Ask}
-use Rattle.zi_packages.specs.declared.types.Packages.{Packages}
 use Rattle.zi_universe.specs.declared.types.Interface.{Interface}
 use Rattle.zi_universe.specs.declared.types.Requirement.{Requirement}
 use Rattle.zi_universe.specs.declared.fault.LoadFault.{LoadFault}
@@ -16,18 +15,14 @@ use Rattle.zi_build.specs.Clauses.{formula, literals, most_literals}
 use Rattle.zi_outcome.specs.declared.outcome.Outcome.{Outcome}
 use Rattle.zi_outcome.specs.declared.outcome.Outcome.TheVariants.{FeedRead, NoRootFeed, BadFeed, FeedTooLong, TooManyFeeds, TooManyInterfaces, TooManyCandidates, TooLarge, Memory}
 use Rattle.zi_world.specs.Asking.{FeedsStay}
-use Rattle.zi_world.specs.World.{World, all_stores, FeedsUnasked, NothingWritten}
+use Rattle.zi_world.specs.World.{World, all_stores, NothingWritten}
 use Rattle.zi_choosing.specs.declared.known.Known.{Known}
-use Rattle.zi_choosing.specs.Knowing.{all_names, IsKnown}
+use Rattle.zi_choosing.specs.Knowing.{all_names, Sources, IsUnknown, Starts}
 use Rattle.zi_choosing.specs.Wanted.{requirement_of}
 
--- no packages of the operating system, as none is chosen from
-abbrev pub no_packages : Packages
-no_packages = record { distribution = []; rows = [] }
-
--- what the words ask for, over stores with these names
+-- what the words ask for, over what is known
 abbrev pub task_of : Known → Ask → Task
-task_of known ask = record { req = requirement_of ask; policy = ask.policy; stored = names_of (all_names known.each) no_packages }
+task_of known ask = record { req = requirement_of ask; policy = ask.policy; stored = names_of (all_names known.each) known.packages }
 
 -- the loading of that gives these interfaces, the root first
 abbrev pub IsLoaded : Known → Ask → Feeding → Feeding → List Interface → Type 0
@@ -61,7 +56,7 @@ abbrev pub build_outcome : BuildFault → Outcome
 build_outcome (build.TooLarge limit) = TooLarge limit
 build_outcome build.Memory = Memory
 
--- what the work over the names in the stores is lent
+-- what the work over what is known is lent
 pub record Lent : Type 0 where
   pub feeds : Feeding
   pub out : Sinking
@@ -73,18 +68,22 @@ lent world = record { feeds = world.feeds; out = world.out }
 abbrev pub Refused : Known → Ask → Lent → Lent → LoadFault → Type 0
 Refused known ask before after fault = IsRefused known ask before.feeds after.feeds fault × (after.out ≡ before.out)
 
--- the work over the names in the stores
+-- the work over what is known
 abbrev pub Over : Type 1
 Over = Known → Lent → Lent → Outcome → Type 0
 
--- The names in the stores are found out, and the work is done over them; where they aren't, the feeds are asked for nothing, and nothing is written.
-abbrev pub FindsOut : Over → World → World → Outcome → Type 0
-FindsOut Does before after outcome =
-    (IsKnown (all_stores before) (all_stores after) (Err outcome) × FeedsUnasked before after × NothingWritten before after)
-    ⊎ ((known : Known) × IsKnown (all_stores before) (all_stores after) (Ok known) × Does known (lent before) (lent after) outcome)
+-- what is asked before it
+abbrev pub sources : World → Sources
+sources world = record { feeds = world.feeds; stores = all_stores world }
 
--- The stores are asked for their names alone, and over these the work is done.
-pub record DoesOver (Does : Over) (before after : World) (outcome : Outcome) : Type 0 where
+-- The names in the stores and the packages are found out, and the work is done over them; where they aren't, nothing is written.
+abbrev pub FindsOut : Option (List ℕ) → Over → World → World → Outcome → Type 0
+FindsOut table Does before after outcome =
+    (IsUnknown table (sources before) (sources after) outcome × NothingWritten before after)
+    ⊎ ((start : Starts table (sources before) (all_stores after)) × Does start.known (record { feeds = start.feeds; out = before.out }) (lent after) outcome)
+
+-- The stores are asked for their names alone, and over these and the table in this file the work is done.
+pub record DoesOver (table : Option (List ℕ)) (Does : Over) (before after : World) (outcome : Outcome) : Type 0 where
   pub feeds : FeedsStay before.feeds after.feeds
   pub stores : Each (Keeps is_names) (all_stores before) (all_stores after)
-  pub answer : FindsOut Does before after outcome
+  pub answer : FindsOut table Does before after outcome

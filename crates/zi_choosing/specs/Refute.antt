@@ -1,8 +1,7 @@
 -- `refute`: whether a proof shows that no choice is valid.
-use Rattle.std.specs.Prelude.{◌≡◌, ◌≢◌, ℕ, ◌<◌, ◌≤◌, ◌⊎◌, List, [], ◌∷◌, length, codes, None, Some, IfSome, IsSomeAnd}
-use Rattle.zi_text.specs.Count.{Rose}
-use Rattle.zi_outside.specs.Views.{Feeding, holding}
-use Rattle.zi_outside.specs.Outside.{Asks, Writes, WritesFront}
+use Rattle.std.specs.Prelude.{◌≡◌, ◌≢◌, ℕ, ◌⊎◌, List, [], codes}
+use Rattle.zi_outside.specs.Views.{Feeding}
+use Rattle.zi_outside.specs.Outside.{Writes, WritesFront}
 use Rattle.zi_words.specs.declared.request.Ask.{Ask}
 use Rattle.zi_universe.specs.declared.types.Interface.{Interface}
 use Rattle.zi_universe.specs.declared.types.Requirement.{Requirement}
@@ -16,6 +15,8 @@ use Rattle.zi_outcome.specs.declared.outcome.Outcome.{Outcome}
 use Rattle.zi_outcome.specs.declared.outcome.Outcome.TheVariants.{Done, FeedRead, FeedTooLong, TooLarge, NoFile, BadProof, Rejected, SinkFault, Memory}
 use Rattle.zi_outcome.specs.Writing.{StopsShort}
 use Rattle.zi_world.specs.World.{World}
+use Rattle.zi_world.specs.Files.{AsksFor, GetsWithin, IsAbsent, IsLonger, IsUnread}
+use Rattle.zi_choosing.specs.declared.asked.Asked.{Asked}
 use Rattle.zi_choosing.specs.declared.known.Known.{Known}
 use Rattle.zi_choosing.specs.Wanted.{requirement_of}
 use Rattle.zi_choosing.specs.Loaded.{Lent, IsLoaded, Refused, AreFew, AreMany, DoesOver, IsUnloaded}
@@ -34,40 +35,16 @@ pub record Loads (known : Known) (ask : Ask) (before : Feeding) : Type 0 where
   pub feeds : Feeding
   pub loaded : IsLoaded known ask before feeds universe
 
--- a file was asked for, and no call failed
-pub record AsksFor (name : List ℕ) (before after : Feeding) : Type 0 where
-  pub asked : Asks (name ∷ []) before after
-  pub calm : after.faults ≡ before.faults
-
--- the file has these bytes, no more than the limit
-pub record Gets (name : List ℕ) (before after : Feeding) (bytes : List ℕ) : Type 0 where
-  pub asked : AsksFor name before after
-  pub small : length bytes ≤ proof_limit
-  pub held : IfSome (holding before) (λ holds. holds name ≡ Some bytes)
-
--- there is no such file
-abbrev pub IsAbsent : List ℕ → Feeding → Feeding → Type 0
-IsAbsent name before after = AsksFor name before after × IfSome (holding before) (λ holds. holds name ≡ None)
-
--- it has more bytes than the limit
-abbrev pub IsTooLong : List ℕ → Feeding → Feeding → ℕ → Type 0
-IsTooLong name before after limit =
-    AsksFor name before after × (limit ≡ proof_limit) × IfSome (holding before) (λ holds. IsSomeAnd (holds name) (λ bytes. proof_limit < length bytes))
-
--- the feeds failed at it
-abbrev pub IsUnread : List ℕ → Feeding → Feeding → Type 0
-IsUnread name before after = Asks (name ∷ []) before after × Rose before.faults after.faults
-
 -- what is read in the file is this
 pub record Reads (name : List ℕ) (before after : Feeding) (c : Certificate) : Type 0 where
   pub bytes : List ℕ
-  pub got : Gets name before after bytes
+  pub got : GetsWithin proof_limit name before after bytes
   pub text : IsProofText bytes c
 
 -- what is read in the file is no proof: it stops being one at this line
 pub record IsBad (name : List ℕ) (before after : Feeding) (line : ℕ) : Type 0 where
   pub bytes : List ℕ
-  pub got : Gets name before after bytes
+  pub got : GetsWithin proof_limit name before after bytes
   pub bad : FaultMeans bytes (Bad line)
 
 -- What is read has no block, and its lemmas refute: so no choice is valid.
@@ -96,7 +73,7 @@ pub record IsChecked (known : Known) (ask : Ask) (name : List ℕ) (before after
 abbrev pub Then : Known → Ask → Feeding → (Feeding → Type 0) → Type 0
 Then known ask before Is = (there : Loads known ask before) × Is there.feeds
 
--- over stores with these names
+-- over what is known
 abbrev pub RefutesOver : Ask → List ℕ → Known → Lent → Lent → Outcome → Type 0
 -- the proof refutes, and that was written
 RefutesOver ask name known before after Done =
@@ -106,7 +83,7 @@ RefutesOver ask name known before after (FeedRead uri) =
     ⊎ ((uri ≡ name) × Then known ask before.feeds (λ feeds. IsUnread name feeds after.feeds) × (after.out ≡ before.out))
 RefutesOver ask name known before after (FeedTooLong uri limit) =
     Refused known ask before after (load.FeedTooLong uri limit)
-    ⊎ ((uri ≡ name) × Then known ask before.feeds (λ feeds. IsTooLong name feeds after.feeds limit) × (after.out ≡ before.out))
+    ⊎ ((uri ≡ name) × Then known ask before.feeds (λ feeds. IsLonger proof_limit name feeds after.feeds limit) × (after.out ≡ before.out))
 RefutesOver ask name known before after (NoFile absent) =
     (absent ≡ name) × Then known ask before.feeds (λ feeds. IsAbsent name feeds after.feeds) × (after.out ≡ before.out)
 RefutesOver ask name known before after (BadProof line) =
@@ -127,5 +104,5 @@ RefutesOver ask name known before after Memory =
 RefutesOver ask name known before after other = IsUnloaded (Refused known ask before after) other
 
 -- The universe that the words ask for is loaded, and the proof of this name is checked.
-abbrev pub ChecksNone : Ask → List ℕ → World → World → Outcome → Type 0
-ChecksNone ask name before after outcome = DoesOver (RefutesOver ask name) before after outcome
+abbrev pub ChecksNone : Asked → List ℕ → World → World → Outcome → Type 0
+ChecksNone asked name before after outcome = DoesOver asked.table (RefutesOver asked.ask name) before after outcome

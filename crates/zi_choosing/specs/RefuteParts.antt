@@ -1,16 +1,17 @@
 -- Parts of the work of `refute`.
 use Rattle.std.specs.Prelude.{◌≡◌, ℕ, ◌⊎◌, List}
-use Rattle.zi_outside.specs.Views.{Feeding, Sinking}
+use Rattle.zi_outside.specs.Views.{Sinking}
 use Rattle.zi_universe.specs.declared.types.Interface.{Interface}
 use Rattle.zi_universe.specs.declared.types.Requirement.{Requirement}
 use Rattle.zi_proof.specs.declared.proof.Certificate.{Certificate}
 use Rattle.zi_proof.specs.declared.fault.ProofFault.TheVariants.{Bad}
 use Rattle.zi_proof.specs.ProofText.{IsProofText, FaultMeans}
 use Rattle.zi_outcome.specs.declared.outcome.Outcome.{Outcome}
-use Rattle.zi_outcome.specs.declared.outcome.Outcome.TheVariants.{FeedRead, FeedTooLong, TooLarge, NoFile, BadProof, Rejected, Memory}
+use Rattle.zi_outcome.specs.declared.outcome.Outcome.TheVariants.{TooLarge, BadProof, Rejected, Memory}
 use Rattle.zi_outcome.specs.Writing.{Prints}
+use Rattle.zi_world.specs.Files.{GetsWithin, IsMissing}
 use Rattle.zi_choosing.specs.Loaded.{Lent}
-use Rattle.zi_choosing.specs.Refute.{yes_line, Gets, IsAbsent, IsTooLong, IsUnread, IsRight, IsWrong, IsTooLarge}
+use Rattle.zi_choosing.specs.Refute.{proof_limit, yes_line, IsRight, IsWrong, IsTooLarge}
 
 -- a certificate as a refutation: nothing is written, and this is why
 abbrev pub IsNone : Requirement → List Interface → Certificate → Outcome → Type 0
@@ -35,16 +36,8 @@ abbrev pub ChecksText : Requirement → List Interface → List ℕ → Sinking 
 ChecksText req universe bytes old new outcome =
     ((c : Certificate) × IsProofText bytes c × ChecksRead req universe c old new outcome) ⊎ (IsUnreadable bytes outcome × (new ≡ old))
 
--- the file isn't there to be read
-abbrev pub IsNoFile : List ℕ → Feeding → Feeding → Outcome → Type 0
-IsNoFile name before after (NoFile absent) = (absent ≡ name) × IsAbsent name before after
-IsNoFile name before after (FeedTooLong uri limit) = (uri ≡ name) × IsTooLong name before after limit
-IsNoFile name before after (FeedRead uri) = (uri ≡ name) × IsUnread name before after
-IsNoFile name before after Memory = after ≡ before
-IsNoFile name before after other = ⊥
-
 -- what the check of a file says
 abbrev pub ChecksFile : Requirement → List Interface → List ℕ → Lent → Lent → Outcome → Type 0
 ChecksFile req universe name before after outcome =
-    ((bytes : List ℕ) × Gets name before.feeds after.feeds bytes × ChecksText req universe bytes before.out after.out outcome)
-    ⊎ (IsNoFile name before.feeds after.feeds outcome × (after.out ≡ before.out))
+    ((bytes : List ℕ) × GetsWithin proof_limit name before.feeds after.feeds bytes × ChecksText req universe bytes before.out after.out outcome)
+    ⊎ (IsMissing proof_limit name before.feeds after.feeds outcome × (after.out ≡ before.out))

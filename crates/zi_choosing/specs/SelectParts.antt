@@ -18,7 +18,7 @@ use Rattle.zi_outcome.specs.declared.outcome.Outcome.TheVariants.{TooLarge, NoSo
 use Rattle.zi_outcome.specs.Writing.{PrintsThen, Prints}
 use Rattle.zi_choosing.specs.Loaded.{AreFew, AreMany}
 use Rattle.zi_choosing.specs.declared.shows.Shows.{Shows}
-use Rattle.zi_choosing.specs.Select.{IsShown, refutation_text, refutation_shown}
+use Rattle.zi_choosing.specs.Select.{IsShown, refutation_text, IsNoneShown}
 
 -- whatever a valid choice selects, each element of its document can be written
 abbrev pub CanBeWritten : List Interface → Requirement → Type 0
@@ -40,9 +40,21 @@ abbrev pub PrintsSome : Option (List ℕ) → Outcome → Sinking → Sinking �
 PrintsSome None ending old new outcome = (outcome ≡ ending) × (new ≡ old)
 PrintsSome (Some text) ending old new outcome = PrintsThen text ending old new outcome
 
--- that there is no solution is printed, where it is shown
-abbrev pub PrintsNone : Shows → Proof → Sinking → Sinking → Outcome → Type 0
-PrintsNone shows p old new outcome = PrintsSome (refutation_shown shows p) (NoSolution p) old new outcome
+-- what is shown of there being no solution is printed
+abbrev pub PrintsNone : Shows → List Interface → Requirement → Proof → Sinking → Sinking → Outcome → Type 0
+PrintsNone shows universe req p old new outcome =
+    (o : Option (List ℕ)) × IsNoneShown shows universe req p o × PrintsSome o (NoSolution p) old new outcome
+
+-- there is no formula for it, and this is why
+abbrev pub HasNoFormula : List Interface → Requirement → Outcome → Type 0
+HasNoFormula universe req (TooLarge limit) = AreMany universe req limit
+HasNoFormula universe req Memory = Unit {0}
+HasNoFormula universe req other = ⊥
+
+-- it is printed, or there is no formula for it
+abbrev pub PutsNone : Shows → List Interface → Requirement → Proof → Sinking → Sinking → Outcome → Type 0
+PutsNone shows universe req p old new outcome =
+    PrintsNone shows universe req p old new outcome ⊎ (HasNoFormula universe req outcome × (new ≡ old))
 
 -- what a search is for, how many lemmas it may learn, and what is shown
 pub record Search : Type 0 where
@@ -64,13 +76,13 @@ pub record ChoosesBest (s : Search) (universe : List Interface) (old new : Sinki
   pub best : IsBest universe s.req choice
   pub printed : PrintsChoice s.shows universe s.req choice old new outcome
 
--- there is none, and the refutation is printed if it is shown
+-- there is none, and what is shown of that is printed
 pub record ChoosesNone (s : Search) (universe : List Interface) (old new : Sinking) (outcome : Outcome) : Type 0 where
   pub few : AreFew universe s.req
   pub refutation : Proof
   pub refutes : Refutes universe s.req refutation
   pub none : NoneIsValid universe s.req
-  pub printed : PrintsNone s.shows refutation old new outcome
+  pub printed : PrintsNone s.shows universe s.req refutation old new outcome
 
 -- what the choice from a universe says
 abbrev pub ChoosesFrom : Search → List Interface → Sinking → Sinking → Outcome → Type 0

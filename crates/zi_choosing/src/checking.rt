@@ -6,6 +6,8 @@ ghost use Rattle.zi_choosing.specs.Named.{AreAskedFor};
 ghost use Rattle.zi_choosing.specs.Check.{ChecksOver, ChecksBest};
 ghost use Rattle.zi_choosing.specs.CheckParts.{Judges, JudgesNot, SaysOf, SaysBy, ChecksBy, ChecksText, ChecksFile};
 
+use crate::asked::Asked;
+use crate::file::get_file;
 use crate::formula::without_formula;
 use crate::known::{Known, known_of, load_over};
 use crate::named::{are_candidates, choice_of};
@@ -16,7 +18,7 @@ use zi_build::BuildFault;
 use zi_check::check_best;
 use zi_choice::Names;
 use zi_outcome::{Outcome, put_text, refused};
-use zi_outside::{Feeds, FeedsFault, Got, Sink};
+use zi_outside::{Feeds, Sink};
 use zi_proof::{Certificate, ProofFault};
 use zi_sels::{Selections, SelsFault};
 use zi_shelf::Shelf;
@@ -118,16 +120,9 @@ fn check_by_file<F: Feeds, O: Sink>(
         (record { feeds = F.seen feeds.new; out = O.seen out.new })
         result }
 {
-    let mut bytes = Vec::new(alloc);
-    match feeds.get(proof.as_str(), PROOF_LIMIT, &mut bytes) {
-        Ok(Got::Held) => check_by_text(alloc, universe, req, sels, bytes.as_slice(), out),
-        Ok(Got::Absent) => Outcome::NoFile { name: proof },
-        Ok(Got::TooLong) => Outcome::FeedTooLong {
-            uri: proof,
-            limit: PROOF_LIMIT,
-        },
-        Err(FeedsFault::Failed) => Outcome::FeedRead { uri: proof },
-        Err(FeedsFault::Memory) => Outcome::Memory,
+    match get_file(alloc, proof, PROOF_LIMIT, feeds) {
+        Ok(bytes) => check_by_text(alloc, universe, req, sels, bytes.as_slice(), out),
+        Err(outcome) => outcome,
     }
 }
 
@@ -170,16 +165,9 @@ fn check_file<F: Feeds, O: Sink>(
         (record { feeds = F.seen feeds.new; out = O.seen out.new })
         result }
 {
-    let mut bytes = Vec::new(alloc);
-    match feeds.get(sels.as_str(), SELS_LIMIT, &mut bytes) {
-        Ok(Got::Held) => check_text(alloc, universe, req, bytes.as_slice(), proof, feeds, out),
-        Ok(Got::Absent) => Outcome::NoFile { name: sels },
-        Ok(Got::TooLong) => Outcome::FeedTooLong {
-            uri: sels,
-            limit: SELS_LIMIT,
-        },
-        Err(FeedsFault::Failed) => Outcome::FeedRead { uri: sels },
-        Err(FeedsFault::Memory) => Outcome::Memory,
+    match get_file(alloc, sels, SELS_LIMIT, feeds) {
+        Ok(bytes) => check_text(alloc, universe, req, bytes.as_slice(), proof, feeds, out),
+        Err(outcome) => outcome,
     }
 }
 
@@ -208,13 +196,13 @@ fn check_over<F: Feeds, O: Sink>(
     }
 }
 
-/// Finds out which digests are in which store, loads what is asked for, gets the selections and the certificate of these names, and writes
-/// `yes` where the selections are those of the best choice. `Rejected` comes at the first test that fails: each selection is a
-/// candidate, found by interface, feed and id; root and command are those asked for; the certificate shows their choice the best; and
-/// the selections, with their items in byte order of the interface, are those of that choice.
+/// Finds out which digests are in which store and which packages there are, loads what is asked for, gets the selections and the
+/// certificate of these names, and writes `yes` where the selections are those of the best choice. `Rejected` comes at the first test
+/// that fails: each selection is a candidate, found by interface, feed and id; root and command are those asked for; the certificate
+/// shows their choice the best; and the selections, with their items in byte order of the interface, are those of that choice.
 pub fn check<F: Feeds, K: Shelf, R: Shelf, O: Sink>(
     alloc: Global,
-    ask: Ask,
+    asked: Asked,
     sels: Text,
     proof: Text,
     feeds: &mut F,
@@ -222,12 +210,13 @@ pub fn check<F: Feeds, K: Shelf, R: Shelf, O: Sink>(
     others: &mut [R],
     out: &mut O,
 ) -> Outcome
-    ensures { ChecksBest ask sels proof
+    ensures { ChecksBest asked sels proof
         (record { feeds = F.seen feeds.old; shelf = K.seen shelf.old; others = map R.seen others.old; out = O.seen out.old })
         (record { feeds = F.seen feeds.new; shelf = K.seen shelf.new; others = map R.seen others.new; out = O.seen out.new })
         result }
 {
-    match known_of(alloc, shelf, others) {
+    let Asked { ask, table } = asked;
+    match known_of(alloc, table, feeds, shelf, others) {
         Ok(known) => check_over(alloc, ask, sels, proof, &known, feeds, out),
         Err(outcome) => outcome,
     }

@@ -7,6 +7,7 @@ ghost use Rattle.zi_choosing.specs.declared.shows.Shows.TheVariants.{Reasons};
 ghost use Rattle.zi_choosing.specs.Select.{Explains};
 ghost use Rattle.zi_choosing.specs.SelectParts.{PrintsChoice};
 
+use crate::asked::Asked;
 use crate::selecting::select_shown;
 use crate::shows::Shows;
 use std::alloc::Global;
@@ -18,7 +19,6 @@ use zi_report::report;
 use zi_shelf::Shelf;
 use zi_text::Memory;
 use zi_universe::{Requirement, Universe};
-use zi_words::Ask;
 
 /// Writes the report on a choice.
 pub(crate) fn put_report<O: Sink>(
@@ -44,17 +44,17 @@ pub(crate) fn put_report<O: Sink>(
 /// over isn't chosen, by a certificate of it. Where no choice is valid nothing is written.
 pub fn explain<F: Feeds, K: Shelf, R: Shelf, O: Sink>(
     alloc: Global,
-    ask: Ask,
+    asked: Asked,
     feeds: &mut F,
     shelf: &mut K,
     others: &mut [R],
     out: &mut O,
 ) -> Outcome
-    requires { ask.search ≤ 4000000000 }
-    ensures { Explains ask
+    requires { asked.ask.search ≤ 4000000000 }
+    ensures { Explains asked
         (record { feeds = F.seen feeds.old; shelf = K.seen shelf.old; others = map R.seen others.old; out = O.seen out.old })
         (record { feeds = F.seen feeds.new; shelf = K.seen shelf.new; others = map R.seen others.new; out = O.seen out.new })
         result }
 {
-    select_shown(alloc, ask, Shows::Reasons, feeds, shelf, others, out)
+    select_shown(alloc, asked, Shows::Reasons, feeds, shelf, others, out)
 }

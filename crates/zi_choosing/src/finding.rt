@@ -2,10 +2,12 @@
 ghost use Rattle.std.specs.Prelude.{◌≡◌, ◌≤◌, ◌∷◌, map, MatchResult};
 ghost use Rattle.zi_universe.specs.Whole.{BeginsWith};
 ghost use Rattle.zi_choice.specs.Best.{IsBest};
+ghost use Rattle.zi_sels_laws.specs.Rows.{HasRightRows};
 ghost use Rattle.zi_world.specs.Asking.{FeedsStay};
 ghost use Rattle.zi_choosing.specs.Loaded.{AreFew};
 ghost use Rattle.zi_choosing.specs.Finding.{SolvesNot, IsChosen, FindsNot, FindsBest};
 
+use crate::asked::Asked;
 use crate::chosen::Chosen;
 use crate::formula::without_formula;
 use crate::known::{Known, known_of, load_over};
@@ -54,7 +56,8 @@ fn find_over<F: Feeds>(
     known: Known,
     feeds: &mut F,
 ) -> Result<Chosen, Outcome>
-    requires { ask.search ≤ 4000000000 }
+    requires budget { ask.search ≤ 4000000000 }
+    requires rows { HasRightRows known.packages }
     ensures chooses { MatchResult result
         (λ c. (c.known ≡ known) × IsChosen ask (F.seen feeds.old) c (F.seen feeds.new))
         (FindsNot known ask (F.seen feeds.old) (F.seen feeds.new)) }
@@ -79,22 +82,24 @@ fn find_over<F: Feeds>(
     })
 }
 
-/// Finds out which digests are in which store, loads what is asked for, and finds the best choice and what it selects. Nothing is written:
-/// where no choice is valid the outcome is `NoSolution` with a refutation, and `Spent` where the search learned as many lemmas as
-/// it was let; the other refusals are those of the store's names, of the loading and of the formula.
+/// Finds out which digests are in which store and which packages there are, loads what is asked for, and finds the best choice and what
+/// it selects. Nothing is written: where no choice is valid the outcome is `NoSolution` with a refutation, and `Spent` where the search
+/// learned as many lemmas as it was let; the other refusals are those of the stores' names, of the table of packages, of the loading
+/// and of the formula.
 pub fn find_best<F: Feeds, K: Shelf, R: Shelf>(
     alloc: Global,
-    ask: Ask,
+    asked: Asked,
     feeds: &mut F,
     shelf: &mut K,
     others: &mut [R],
 ) -> Result<Chosen, Outcome>
-    requires { ask.search ≤ 4000000000 }
-    ensures { FindsBest ask
+    requires { asked.ask.search ≤ 4000000000 }
+    ensures { FindsBest asked
         (record { feeds = F.seen feeds.old; stores = K.seen shelf.old ∷ map R.seen others.old })
         (record { feeds = F.seen feeds.new; stores = K.seen shelf.new ∷ map R.seen others.new })
         result }
 {
-    let known = known_of(alloc, shelf, others)?;
+    let Asked { ask, table } = asked;
+    let known = known_of(alloc, table, feeds, shelf, others)?;
     find_over(alloc, ask, known, feeds)
 }

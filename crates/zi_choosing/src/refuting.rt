@@ -5,13 +5,15 @@ ghost use Rattle.zi_world.specs.Asking.{FeedsStay};
 ghost use Rattle.zi_choosing.specs.Refute.{RefutesOver, ChecksNone};
 ghost use Rattle.zi_choosing.specs.RefuteParts.{ChecksRead, ChecksText, ChecksFile};
 
+use crate::asked::Asked;
+use crate::file::get_file;
 use crate::formula::without_formula;
 use crate::known::{Known, known_of, load_over};
 use crate::wanted::into_job;
 use std::alloc::Global;
 use zi_check::check_none;
 use zi_outcome::{Outcome, put_text, refused};
-use zi_outside::{Feeds, FeedsFault, Got, Sink};
+use zi_outside::{Feeds, Sink};
 use zi_proof::{Certificate, ProofFault, read};
 use zi_shelf::Shelf;
 use zi_text::Text;
@@ -76,16 +78,9 @@ fn check_file<F: Feeds, O: Sink>(
         (record { feeds = F.seen feeds.new; out = O.seen out.new })
         result }
 {
-    let mut bytes = Vec::new(alloc);
-    match feeds.get(name.as_str(), PROOF_LIMIT, &mut bytes) {
-        Ok(Got::Held) => check_text(alloc, req, universe, bytes.as_slice(), out),
-        Ok(Got::Absent) => Outcome::NoFile { name },
-        Ok(Got::TooLong) => Outcome::FeedTooLong {
-            uri: name,
-            limit: PROOF_LIMIT,
-        },
-        Err(FeedsFault::Failed) => Outcome::FeedRead { uri: name },
-        Err(FeedsFault::Memory) => Outcome::Memory,
+    match get_file(alloc, name, PROOF_LIMIT, feeds) {
+        Ok(bytes) => check_text(alloc, req, universe, bytes.as_slice(), out),
+        Err(outcome) => outcome,
     }
 }
 
@@ -113,23 +108,24 @@ fn refute_over<F: Feeds, O: Sink>(
     }
 }
 
-/// Finds out which digests are in which store, loads what is asked for, gets the proof of this name, and writes `yes` where it shows that
-/// no choice is valid. A proof with a block doesn't, nor does one that isn't accepted: `Rejected`.
+/// Finds out which digests are in which store and which packages there are, loads what is asked for, gets the proof of this name, and
+/// writes `yes` where it shows that no choice is valid. A proof with a block doesn't, nor does one that isn't accepted: `Rejected`.
 pub fn refute<F: Feeds, K: Shelf, R: Shelf, O: Sink>(
     alloc: Global,
-    ask: Ask,
+    asked: Asked,
     proof: Text,
     feeds: &mut F,
     shelf: &mut K,
     others: &mut [R],
     out: &mut O,
 ) -> Outcome
-    ensures { ChecksNone ask proof
+    ensures { ChecksNone asked proof
         (record { feeds = F.seen feeds.old; shelf = K.seen shelf.old; others = map R.seen others.old; out = O.seen out.old })
         (record { feeds = F.seen feeds.new; shelf = K.seen shelf.new; others = map R.seen others.new; out = O.seen out.new })
         result }
 {
-    match known_of(alloc, shelf, others) {
+    let Asked { ask, table } = asked;
+    match known_of(alloc, table, feeds, shelf, others) {
         Ok(known) => refute_over(alloc, ask, proof, &known, feeds, out),
         Err(outcome) => outcome,
     }

@@ -1,20 +1,23 @@
-//! The work of `select`, and of `why`, which shows the best choice otherwise.
-ghost use Rattle.std.specs.Prelude.{◌≡◌, ◌≤◌, None, map};
+//! The work of `select`, and of `why` and `conflict`, which show the choice otherwise.
+ghost use Rattle.std.specs.Prelude.{◌≡◌, ◌≤◌, [], None, map};
 ghost use Rattle.zi_docout.specs.Amiss.{first_amiss};
 ghost use Rattle.zi_universe.specs.Whole.{BeginsWith};
 ghost use Rattle.zi_choice.specs.Valid.{IsValid};
 ghost use Rattle.zi_proof.specs.ProofText.{certificate_text};
-ghost use Rattle.zi_certificate.specs.Certificates.{Excludes};
+ghost use Rattle.zi_certificate.specs.Certificates.{Excludes, Refutes};
 ghost use Rattle.zi_sels.specs.Written.{tree, document};
 ghost use Rattle.zi_outcome.specs.declared.outcome.Outcome.TheVariants.{Spent};
 ghost use Rattle.zi_outcome.specs.Writing.{Prints};
+ghost use Rattle.zi_sels_laws.specs.Rows.{HasRightRows};
 ghost use Rattle.zi_world.specs.Asking.{FeedsStay};
 ghost use Rattle.zi_choosing.specs.declared.shows.Shows.TheVariants.{Document};
 ghost use Rattle.zi_choosing.specs.Loaded.{DoesOver};
 ghost use Rattle.zi_choosing.specs.Select.{SelectsOver, Selects};
-ghost use Rattle.zi_choosing.specs.SelectParts.{CanBeWritten, PrintsChoice, PrintsRefutation, PrintsNone, ChoosesFrom};
+ghost use Rattle.zi_choosing.specs.SelectParts.{CanBeWritten, PrintsChoice, PrintsRefutation, PutsNone, ChoosesFrom};
 
+use crate::asked::Asked;
 use crate::chosen::Chosen;
+use crate::conflicting::put_conflict;
 use crate::explaining::put_report;
 use crate::formula::without_formula;
 use crate::known::{Known, known_of, load_over};
@@ -86,7 +89,15 @@ fn put_selected<O: Sink>(
     }
 }
 
-// Writes what shows a choice: what it selects, its certificate, or the report on it.
+// Nothing is written of a choice.
+fn put_nothing<O: Sink>(out: &O) -> Outcome
+    ensures { Prints [] (O.seen out.now) (O.seen out.now) result }
+{
+    Outcome::Done
+}
+
+// Writes what shows a choice: what it selects, its certificate, the report on it, or nothing.
+#[tactic(auto, using(crate::proofs::SelectLemmas::choice_showing))]
 fn put_choice<O: Sink>(
     alloc: Global,
     req: &Requirement,
@@ -106,6 +117,7 @@ fn put_choice<O: Sink>(
         Shows::Document => put_selected(alloc, req, universe, choice, out),
         Shows::Certificate => put_certificate(alloc, certificate, out),
         Shows::Reasons => put_report(alloc, req, universe, choice, certificate, out),
+        Shows::Conflict => put_nothing(out),
     }
 }
 
@@ -126,13 +138,25 @@ fn put_refutation<O: Sink>(alloc: Global, proof: Proof, out: &mut O) -> Outcome
     }
 }
 
-// Writes the refutation, if it is shown, and answers that there is no solution.
-fn put_none<O: Sink>(alloc: Global, shows: Shows, proof: Proof, out: &mut O) -> Outcome
-    ensures { PrintsNone shows proof (O.seen out.old) (O.seen out.new) result }
+// Writes what is shown of there being no solution, and answers that there is none.
+#[tactic(auto, using(crate::proofs::SelectLemmas::none_showing))]
+fn put_none<O: Sink>(
+    alloc: Global,
+    req: &Requirement,
+    universe: &Universe,
+    shows: Shows,
+    proof: Proof,
+    out: &mut O,
+) -> Outcome
+    requires rooted { BeginsWith universe.now req.now.interface }
+    requires refutes { Refutes universe.now req.now proof }
+    ensures { PutsNone shows universe.now req.now proof (O.seen out.old) (O.seen out.new) result }
 {
     match shows {
-        Shows::Document | Shows::Certificate => put_refutation(alloc, proof, out),
+        Shows::Document => put_refutation(alloc, proof, out),
+        Shows::Certificate => put_refutation(alloc, proof, out),
         Shows::Reasons => Outcome::NoSolution { proof },
+        Shows::Conflict => put_conflict(alloc, req, universe, proof, out),
     }
 }
 
@@ -144,6 +168,7 @@ pub(crate) fn spent(proof: Proof, count: u64) -> Outcome
 }
 
 // Chooses from a universe, and writes what shows the choice, or that there is none.
+#[tactic(auto, using(crate::proofs::SelectLemmas::none_chosen))]
 fn choose<O: Sink>(
     alloc: Global,
     req: &Requirement,
@@ -164,7 +189,9 @@ fn choose<O: Sink>(
                 certificate,
             },
         ) => put_choice(alloc, req, universe, shows, &choice, &certificate, out),
-        Ok(Answer::None { proof: refutation }) => put_none(alloc, shows, refutation, out),
+        Ok(Answer::None { proof: refutation }) => put_none(
+            alloc, req, universe, shows, refutation, out,
+        ),
         Ok(
             Answer::Spent {
                 proof: learned,
@@ -184,7 +211,8 @@ fn select_over<F: Feeds, O: Sink>(
     feeds: &mut F,
     out: &mut O,
 ) -> Outcome
-    requires { ask.search ≤ 4000000000 }
+    requires budget { ask.search ≤ 4000000000 }
+    requires rows { HasRightRows known.now.packages }
     ensures over { SelectsOver ask shows known.now
         (record { feeds = F.seen feeds.old; out = O.seen out.old })
         (record { feeds = F.seen feeds.new; out = O.seen out.new })
@@ -207,45 +235,47 @@ fn select_over<F: Feeds, O: Sink>(
     }
 }
 
-/// Finds out which digests are in which store, loads what is asked for, chooses, and shows the choice.
+/// Finds out which digests are in which store and which packages there are, loads what is asked for, chooses, and shows the choice.
 pub(crate) fn select_shown<F: Feeds, K: Shelf, R: Shelf, O: Sink>(
     alloc: Global,
-    ask: Ask,
+    asked: Asked,
     shows: Shows,
     feeds: &mut F,
     shelf: &mut K,
     others: &mut [R],
     out: &mut O,
 ) -> Outcome
-    requires { ask.search ≤ 4000000000 }
-    ensures { DoesOver (SelectsOver ask shows)
+    requires { asked.ask.search ≤ 4000000000 }
+    ensures { DoesOver asked.table (SelectsOver asked.ask shows)
         (record { feeds = F.seen feeds.old; shelf = K.seen shelf.old; others = map R.seen others.old; out = O.seen out.old })
         (record { feeds = F.seen feeds.new; shelf = K.seen shelf.new; others = map R.seen others.new; out = O.seen out.new })
         result }
 {
-    match known_of(alloc, shelf, others) {
+    let Asked { ask, table } = asked;
+    match known_of(alloc, table, feeds, shelf, others) {
         Ok(known) => select_over(alloc, ask, shows, &known, feeds, out),
         Err(outcome) => outcome,
     }
 }
 
-/// Finds out which digests are in which store, loads what is asked for, and chooses: the document of what the best choice selects is
-/// written, or with `proof` a certificate, by which every other valid choice is worse. Where no choice is valid a refutation is
-/// written, and the outcome is `NoSolution`; where the search learned as many lemmas as it was let, nothing is, and it is `Spent`.
+/// Finds out which digests are in which store and which packages there are, loads what is asked for, and chooses: the document of what
+/// the best choice selects is written, or with `proof` a certificate, by which every other valid choice is worse. Where no choice is
+/// valid a refutation is written, and the outcome is `NoSolution`; where the search learned as many lemmas as it was let, nothing is,
+/// and it is `Spent`.
 pub fn select<F: Feeds, K: Shelf, R: Shelf, O: Sink>(
     alloc: Global,
-    ask: Ask,
+    asked: Asked,
     proof: bool,
     feeds: &mut F,
     shelf: &mut K,
     others: &mut [R],
     out: &mut O,
 ) -> Outcome
-    requires { ask.search ≤ 4000000000 }
-    ensures { Selects ask proof
+    requires { asked.ask.search ≤ 4000000000 }
+    ensures { Selects asked proof
         (record { feeds = F.seen feeds.old; shelf = K.seen shelf.old; others = map R.seen others.old; out = O.seen out.old })
         (record { feeds = F.seen feeds.new; shelf = K.seen shelf.new; others = map R.seen others.new; out = O.seen out.new })
         result }
 {
-    select_shown(alloc, ask, shown_by(proof), feeds, shelf, others, out)
+    select_shown(alloc, asked, shown_by(proof), feeds, shelf, others, out)
 }

@@ -1,15 +1,17 @@
 ghost use Rattle.std.specs.Prelude.{◌≡◌};
 ghost use Rattle.zi_choosing.specs.Select.{shown_by};
 
-/// What is written of the best choice.
+/// What is written of the best choice, or where there is none.
 #[derive(Clone, Copy, PartialEq, Eq)]
 pub enum Shows {
-    /// The document of what it selects.
+    /// The document of what it selects; the refutation.
     Document,
-    /// A certificate, by which every other valid choice is worse.
+    /// A certificate, by which every other valid choice is worse; the refutation.
     Certificate,
-    /// Why each candidate that it passes over isn't chosen.
+    /// Why each candidate that it passes over isn't chosen; nothing.
     Reasons,
+    /// Nothing; the facts that leave no choice.
+    Conflict,
 }
 
 /// What `select` writes, with `--proof` and without.

@@ -1,7 +1,8 @@
 -- What reading up to one byte past a limit says.
-use Rattle.std.proofs.Common.{◌≡◌, ℕ, ◌+◌, ◌<◌, ◌≤◌, List, ◌++◌, length, take, drop, Option, Some, None, option_map, IfSome, sym, ap, ◌∙◌, arith}
+use Rattle.std.proofs.Common.{◌≡◌, ℕ, ◌+◌, ◌<◌, ◌≤◌, List, ◌++◌, length, take, drop, Option, Some, None, option_map, IfSome, refl, sym, ap, ◌∙◌, arith}
 use Rattle.std.proofs.lemmas.List.{length-take, take_all, take-append-drop, length-append}
 use Rattle.std.proofs.Math.Seq.{drop-append_seam}
+use Rattle.std.specs.Io.KnownBytes.{Keeps}
 use Rattle.zi_edge.specs.Reads.{TakesIn}
 use Rattle.zi_edge.specs.declared.reading.Taken.TheVariants.{Whole, TooMuch}
 
@@ -34,3 +35,8 @@ too_much None limit most old new n front len past known = (front, tt)
 too_much (Some all) limit most old new n front len past known =
     let rest : drop (length old) new ≡ take most all = ap (drop (length old)) known ∙ drop-append_seam old (take most all) in
     (front, omega (arith, past, behind old new n front len, ap length rest, length-take most all))
+
+-- what isn't read stays
+pub kept : (a : Option (List ℕ)) → Keeps a a
+kept None = tt
+kept (Some xs) = refl

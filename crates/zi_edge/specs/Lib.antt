@@ -5,7 +5,9 @@ pub mod FileName
 pub mod Fit
 pub mod Found
 pub mod Helped
+pub mod Lines
 pub mod Paths
+pub mod Patience
 pub mod Reads
 pub mod Seen
 pub mod Troubles

@@ -1,5 +1,5 @@
 -- What comes of an error of the system.
-use Rattle.std.specs.Prelude.{◌≡◌, ◌≢◌}
+use Rattle.std.specs.Prelude.{◌≡◌, ◌≢◌, Result, Err}
 use Rattle.std.specs.IoError.{error_kind}
 use Rattle.std.specs.declared.io.Error.{Error}
 use Rattle.std.specs.declared.io.ErrorKind.TheVariants.{OutOfMemory}
@@ -16,3 +16,7 @@ pub record IsTroubleOf (error : Error) (t : Trouble) : Type 0 where
 -- it is a failure, and no want of memory
 abbrev pub IsFailure : Trouble → Type 0
 IsFailure t = (reason : Reason) × (t ≡ Failed reason)
+
+-- a call that failed, and lacked no memory
+abbrev pub Fails : {X : Type 0} → Result X Trouble → Type 0
+Fails result = (reason : Reason) × (result ≡ Err (Failed reason))

@@ -4,9 +4,10 @@ use crate::trouble::Reason;
 use std::alloc::Global;
 use std::fs::File;
 use std::io::{self, Write};
+use zi_shown::show;
 use zi_text::Text;
 
-/// Lines of failures, each the place of one and its reason.
+/// Lines of failures, each the place of one, shown as a terminal may have it, and its reason.
 #[derive(Drop)]
 pub struct Log {
     lines: Vec<u8>,
@@ -30,7 +31,7 @@ impl Log {
             if i > 0 {
                 self.lines.push(b' ')?;
             }
-            self.lines.extend_from_slice(word.as_bytes())?;
+            show(word, &mut self.lines)?;
         }
         writeln!(self.lines, ": {reason}")
     }

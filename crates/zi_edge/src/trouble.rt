@@ -18,6 +18,8 @@ pub enum Reason {
     IsNot(&'static str),
     /// There is no program that fetches.
     NoHelper,
+    /// How long that may take isn't clear.
+    NoLimit,
 }
 
 impl Display for Reason {
@@ -27,6 +29,10 @@ impl Display for Reason {
             Reason::Ended(status) => write!(f, "ended with {status}"),
             Reason::IsNot(kind) => write!(f, "is not {kind}"),
             Reason::NoHelper => write!(f, "is not fetched, since ZI_FETCH names no program"),
+            Reason::NoLimit => write!(
+                f,
+                "is not fetched, since ZI_FETCH_SECONDS is no number from 1 to 1000000"
+            ),
         }
     }
 }

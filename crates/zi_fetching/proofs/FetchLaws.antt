@@ -23,11 +23,11 @@ use Rattle.zi_adding.specs.Answers.{AddsTree}
 use Rattle.zi_adding.proofs.AddingLemmas.{adds_nothing}
 use Rattle.zi_adding.proofs.HistoryLaws.{AreDone, adds_then}
 use Rattle.zi_outcome.specs.declared.outcome.Outcome.{Outcome}
-use Rattle.zi_outcome.specs.declared.outcome.Outcome.TheVariants.{Memory}
+use Rattle.zi_outcome.specs.declared.outcome.Outcome.TheVariants.{NotInstalled, Memory}
 use Rattle.zi_choosing.specs.declared.chosen.Chosen.{Chosen}
 use Rattle.zi_fetching.specs.Known.{Names, is_known, is_there}
 use Rattle.zi_fetching.specs.Outcomes.{unmade, unadded}
-use Rattle.zi_fetching.specs.Fetching.{Lent, From, from_chosen, method_of, HasWay, HasNoWay, IsFetchable, IsFetched, tried_names, names_in, FetchesInTurn, FetchesAll, FetchesTree, FetchesOne, FetchesItem}
+use Rattle.zi_fetching.specs.Fetching.{Lent, From, from_chosen, method_of, HasWay, HasNoWay, IsFetchable, IsFetched, tried_names, names_in, FetchesInTurn, FetchesAll, FetchesTree, FetchesOne, FetchesItem, AreInstalled, first_uninstalled}
 use Rattle.zi_check.proofs.MeetLaws.{none_is}
 
 -- One tree.
@@ -95,11 +95,12 @@ any_more p q (x ∷ xs) h e = either (p x) (q x) (list_any p xs) (list_any q xs)
     either false false c d f g e = g e
 
 pub there_more : (stored more : Names) (x : Selection) → is_there stored x ≡ true → is_there (joined stored more) x ≡ true
-there_more stored more x e = by (is_some x.local) e
+there_more stored more x e = by (is_some x.local) (is_some x.«package») e
   where
-    by : (b : Bool) → (b || list_any (is_known stored) x.digests) ≡ true → (b || list_any (is_known (joined stored more)) x.digests) ≡ true
-    by true e = refl
-    by false e = any_more (is_known stored) (is_known (joined stored more)) x.digests (λ d h. listed-joined_left (spelling d) stored more h) e
+    by : (b p : Bool) → (b || p || list_any (is_known stored) x.digests) ≡ true → (b || p || list_any (is_known (joined stored more)) x.digests) ≡ true
+    by true p e = refl
+    by false true e = refl
+    by false false e = any_more (is_known stored) (is_known (joined stored more)) x.digests (λ d h. listed-joined_left (spelling d) stored more h) e
 
 not_before : (a b : Bool) → (a ≡ true → b ≡ true) → b ≡ false → a ≡ false
 not_before true b f e = sym (f refl) ∙ e
@@ -171,13 +172,13 @@ so_far_more c items x before now then stored more s f =
       adds = adds_then s.tried f.tried before.shelf now.shelf then.shelf (turn_done (from_chosen c) items (names_in c) before.web s.tried now.web s.in_turn) s.adds f.adds;
     }
 
-pub so_far_all : (c : Chosen) (items : List Selection) (before after : Lent) (stored : Names) → items ≡ c.sels.items → IsSoFar c items before stored after → FetchesAll c before (Ok stored) after
-so_far_all c items before after stored e s =
-    record { tried = s.tried; fetches = record { in_turn = subst (λ xs. FetchesInTurn (from_chosen c) (names_in c) xs before.web s.tried after.web) e s.in_turn; names = s.names }; adds = s.adds }
+pub so_far_all : (c : Chosen) (items : List Selection) (before after : Lent) (stored : Names) → AreInstalled c → items ≡ c.sels.items → IsSoFar c items before stored after → FetchesAll c before (Ok stored) after
+so_far_all c items before after stored installed e s =
+    record { tried = s.tried; fetches = record { installed = installed; in_turn = subst (λ xs. FetchesInTurn (from_chosen c) (names_in c) xs before.web s.tried after.web) e s.in_turn; names = s.names }; adds = s.adds }
 
-pub so_far_stops : (c : Chosen) (place : ℕ) (x : Selection) (before now then : Lent) (stored more : Names) (outcome : Outcome) → slice_get c.sels.items place ≡ Some x → IsSoFar c (take place c.sels.items) before stored now
+pub so_far_stops : (c : Chosen) (place : ℕ) (x : Selection) (before now then : Lent) (stored more : Names) (outcome : Outcome) → AreInstalled c → slice_get c.sels.items place ≡ Some x → IsSoFar c (take place c.sels.items) before stored now
     → FetchesItem (from_chosen c) stored x now (Err outcome) more then → FetchesAll c before (Err outcome) then
-so_far_stops c place x before now then stored more outcome here s f = by f.fetches
+so_far_stops c place x before now then stored more outcome installed here s f = by f.fetches
   where
     done : AreDone s.tried
     done = turn_done (from_chosen c) (take place c.sels.items) (names_in c) before.web s.tried now.web s.in_turn
@@ -185,17 +186,18 @@ so_far_stops c place x before now then stored more outcome here s f = by f.fetch
     by : FetchesOne (from_chosen c) stored x now.web (Err outcome) f.tried more then.web → FetchesAll c before (Err outcome) then
     by (inl (e, empty, same)) = record {
       tried = s.tried ++ f.tried;
-      fetches = inr (record {
+      fetches = inr (inr (record {
         is = e;
         place = place;
         in_turn = subst (λ w. FetchesInTurn (from_chosen c) (names_in c) (take place c.sels.items) before.web (s.tried ++ f.tried) w) (sym same)
             (subst (λ ts. FetchesInTurn (from_chosen c) (names_in c) (take place c.sels.items) before.web ts now.web) (sym (append-nil s.tried) ∙ ap (λ ts. s.tried ++ ts) (sym empty)) s.in_turn);
-      });
+      }));
       adds = adds_then s.tried f.tried before.shelf now.shelf then.shelf done s.adds f.adds;
     }
     by (inr (wanting, fails)) = record {
       tried = s.tried ++ f.tried;
-      fetches = inl (record {
+      fetches = inr (inl (record {
+        installed = installed;
         place = place;
         item = x;
         here = here;
@@ -206,14 +208,19 @@ so_far_stops c place x before now then stored more outcome here s f = by f.fetch
         last = f.tried;
         all = refl;
         fails = fails;
-      });
+      }));
       adds = adds_then s.tried f.tried before.shelf now.shelf then.shelf done s.adds f.adds;
     }
 
 -- memory was refused before the first
 pub none_so_far : (c : Chosen) (lent : Lent) (outcome : Outcome) → outcome ≡ Memory → FetchesAll c lent (Err outcome) lent
 none_so_far c lent outcome e =
-    record { tried = []; fetches = inr (record { is = e; place = 0; in_turn = (refl, refl) }); adds = adds_nothing lent.shelf }
+    record { tried = []; fetches = inr (inr (record { is = e; place = 0; in_turn = (refl, refl) })); adds = adds_nothing lent.shelf }
+
+-- a package isn't installed
+pub package_lacks : (c : Chosen) (lent : Lent) (name : List ℕ) (outcome : Outcome) → first_uninstalled (from_chosen c) c.sels.items ≡ Some name → outcome ≡ NotInstalled name → FetchesAll c lent (Err outcome) lent
+package_lacks c lent name outcome e is =
+    record { tried = []; fetches = inl (record { name = name; first_is = e; is = is; none = refl; unasked = refl }); adds = adds_nothing lent.shelf }
 
 -- The loop over the selections.
 one_further : (items : List Selection) (i : ℕ) (x : Selection) → i < length items → x ≡ get_or items i x → take i items ++ x ∷ [] ≡ take (i + 1) items
@@ -224,15 +231,15 @@ pub so_far_next : (c : Chosen) (items : List Selection) (i : ℕ) (x : Selection
 so_far_next c items i x before now then stored more lt at s f =
     subst (λ xs. IsSoFar c xs before more then) (one_further items i x lt at) (so_far_more c (take i items) x before now then stored more s f)
 
-pub so_far_short : (c : Chosen) (items : List Selection) (i : ℕ) (x : Selection) (before now then : Lent) (stored more : Names) (outcome : Outcome) → items ≡ c.sels.items → i < length items → x ≡ get_or items i x
+pub so_far_short : (c : Chosen) (items : List Selection) (i : ℕ) (x : Selection) (before now then : Lent) (stored more : Names) (outcome : Outcome) → AreInstalled c → items ≡ c.sels.items → i < length items → x ≡ get_or items i x
     → IsSoFar c (take i items) before stored now → FetchesItem (from_chosen c) stored x now (Err outcome) more then → FetchesAll c before (Err outcome) then
-so_far_short c items i x before now then stored more outcome e lt at s f =
-    so_far_stops c i x before now then stored more outcome (subst (λ xs. slice_get xs i ≡ Some x) e (slice_get_read items (length items) i x refl lt at))
+so_far_short c items i x before now then stored more outcome installed e lt at s f =
+    so_far_stops c i x before now then stored more outcome installed (subst (λ xs. slice_get xs i ≡ Some x) e (slice_get_read items (length items) i x refl lt at))
     (subst (λ xs. IsSoFar c (take i xs) before stored now) e s) f
 
-pub so_far_end : (c : Chosen) (items : List Selection) (i : ℕ) (before after : Lent) (stored : Names) → items ≡ c.sels.items → length items ≤ i → IsSoFar c (take i items) before stored after
+pub so_far_end : (c : Chosen) (items : List Selection) (i : ℕ) (before after : Lent) (stored : Names) → AreInstalled c → items ≡ c.sels.items → length items ≤ i → IsSoFar c (take i items) before stored after
     → FetchesAll c before (Ok stored) after
-so_far_end c items i before after stored e le s = so_far_all c (take i items) before after stored (take_all i items le ∙ e) s
+so_far_end c items i before after stored installed e le s = so_far_all c (take i items) before after stored installed (take_all i items le ∙ e) s
 
 pub fetchable_now : (c : Chosen) (all items : List Selection) (i : ℕ) (x : Selection) (before now : Lent) (stored : Names) → All (IsFetchable (from_chosen c) (names_in c)) all → all ≡ items → i < length items → x ≡ get_or items i x
     → IsSoFar c (take i items) before stored now → IsFetchable (from_chosen c) stored x

@@ -1,4 +1,5 @@
--- What the best choice selects and isn't there can be fetched: a candidate that is neither local nor stored has a digest and a method.
+-- What the best choice selects and isn't there can be fetched: a candidate that is neither local nor a package nor stored has a digest and a
+-- method. And what is selected names the package that its candidate is.
 use Rattle.std.proofs.Common.{◌≡◌, ◌≢◌, ℕ, zero, suc, ◌+◌, ◌<◌, Bool, true, false, not, ◌&&◌, ◌||◌, cond, List, [], ◌∷◌, length, map, filter, Option, Some, None, IsSome, is_some, is_none, refl, sym, ◌∙◌, ap, subst, arith, All, slice_get, slice_index_or, flat_map, option_to_list, option_map, bytes_eq, option_and_then, codes}
 use Rattle.std.specs.List.{list_any, position_from, AllZip, enumerate_from}
 use Rattle.std.proofs.lemmas.List.Elements.{All-nil, All-cons, All-head, All-tail, All-append}
@@ -19,7 +20,6 @@ use Rattle.zi_feed.specs.declared.feed.Feed.{Feed}
 use Rattle.zi_parts.specs.declared.types.Impl.{Impl}
 use Rattle.zi_parts.specs.declared.types.Package.{Package}
 use Rattle.zi_words.specs.declared.request.Ask.{Ask}
-use Rattle.zi_packages.specs.declared.types.Packages.{Packages}
 use Rattle.zi_universe.specs.declared.types.Requirement.{Requirement}
 use Rattle.zi_universe.specs.declared.types.Candidate.{Candidate}
 use Rattle.zi_universe.specs.declared.types.Interface.{Interface}
@@ -33,18 +33,16 @@ use Rattle.zi_choice.specs.Walk.{Walk}
 use Rattle.zi_sels.specs.declared.types.Selection.{Selection}
 use Rattle.zi_sels.specs.Chosen.{selection_by, selected_at, selected_from, selected}
 use Rattle.zi_choosing.specs.declared.chosen.Chosen.{Chosen}
-use Rattle.zi_choosing.specs.Loaded.{no_packages}
 use Rattle.zi_choosing.specs.Finding.{IsChosen}
 use Rattle.zi_choosing.specs.Knowing.{all_names}
 use Rattle.zi_fetching.specs.Known.{is_known}
-use Rattle.zi_fetching.specs.Fetching.{from_chosen, method_of, IsFetchable, names_in}
+use Rattle.zi_fetching.specs.Fetching.{From, from_chosen, candidate_of as candidate_from, package_of, method_of, IsFetchable, names_in}
 use Rattle.zi_choice.proofs.Base.{all_at as get_all}
-use Rattle.zi_fetching.proofs.NoPackageLaws.{IsNone, HasNone, HaveNone, none_join, reached_none, first_none, others_none, each_none}
 
--- A candidate that is neither local nor stored has a digest and a method.
+-- A candidate that is neither local nor a package nor stored has a digest and a method.
 pub record IsObtainable (stored : Store) (c : Candidate) : Type 0 where
-  pub digests : is_some c.imp.local ≡ false → list_any (λ d. stored.trees (spelling d)) c.imp.digests ≡ false → IsSome (first c.imp.digests)
-  pub methods : is_some c.imp.local ≡ false → list_any (λ d. stored.trees (spelling d)) c.imp.digests ≡ false → IsSome (first c.imp.methods)
+  pub digests : is_some c.imp.local ≡ false → is_some c.imp.«package» ≡ false → list_any (λ d. stored.trees (spelling d)) c.imp.digests ≡ false → IsSome (first c.imp.digests)
+  pub methods : is_some c.imp.local ≡ false → is_some c.imp.«package» ≡ false → list_any (λ d. stored.trees (spelling d)) c.imp.digests ≡ false → IsSome (first c.imp.methods)
 
 first_of : {X : Type 0} (xs : List X) → has_items xs ≡ true → IsSome (first xs)
 first_of [] h = absurd cc
@@ -64,24 +62,28 @@ gettable true local false h s l = absurd cc
 gettable false true false h s l = absurd cc
 gettable false false false h s l = absurd cc
 
-reachable : (p : Policy) (st : Store) (interface feed : Uri) (place : ℕ) (i : Impl) → IsNone i → why_not p (standing_of p st interface feed place i) ≡ None
-    → is_some i.local ≡ false → list_any (λ d. st.trees (spelling d)) i.digests ≡ false → (has_items i.digests && has_items i.methods) ≡ true
+none_by : {X : Type 0} (o : Option X) → is_some o ≡ false → o ≡ None
+none_by None h = refl
+none_by (Some x) h = absurd cc
+
+reachable : (p : Policy) (st : Store) (interface feed : Uri) (place : ℕ) (i : Impl) → why_not p (standing_of p st interface feed place i) ≡ None
+    → is_some i.local ≡ false → is_some i.«package» ≡ false → list_any (λ d. st.trees (spelling d)) i.digests ≡ false → (has_items i.digests && has_items i.methods) ≡ true
 unfolding why_not standing_of is_stored
-reachable p st interface feed place i none e local stored =
+reachable p st interface feed place i e local none stored =
     let s = standing_of p st interface feed place i in
     let is_there : Bool = list_any (λ d. st.trees (spelling d)) i.digests in
     let got : Bool = has_items i.digests && has_items i.methods in
     gettable is_there (is_some i.local) got
-    (subst (λ (o : Option Package). not ((is_there || is_some i.local || is_installed (origin_of o)) || got || is_package (origin_of o)) ≡ false) none
+    (subst (λ (o : Option Package). not ((is_there || is_some i.local || is_installed (origin_of o)) || got || is_package (origin_of o)) ≡ false) (none_by i.«package» none)
     (fourth_fails (is_shunned s.stability) (bytes_eq (machine_of s.arch) (codes "src")) (not (runs_on p s)) _ why.Stability why.Source why.Arch why.Unreachable
     ((is_off p.network && not (is_at_hand s), why.Offline) ∷ []) e))
     stored local
 
-of_part : (p : Policy) (st : Store) (interface feed : Uri) (place : ℕ) (i : Impl) → IsNone i → why_not p (standing_of p st interface feed place i) ≡ None → IsObtainable st (candidate_of p st interface feed place i)
+of_part : (p : Policy) (st : Store) (interface feed : Uri) (place : ℕ) (i : Impl) → why_not p (standing_of p st interface feed place i) ≡ None → IsObtainable st (candidate_of p st interface feed place i)
 unfolding active_part
-of_part p st interface feed place i none e = record {
-  digests = λ l s. first_of i.digests (and_parts (has_items i.digests) (has_items i.methods) (reachable p st interface feed place i none e l s)).0;
-  methods = λ l s. first_of i.methods (and_parts (has_items i.digests) (has_items i.methods) (reachable p st interface feed place i none e l s)).1;
+of_part p st interface feed place i e = record {
+  digests = λ l n s. first_of i.digests (and_parts (has_items i.digests) (has_items i.methods) (reachable p st interface feed place i e l n s)).0;
+  methods = λ l n s. first_of i.methods (and_parts (has_items i.digests) (has_items i.methods) (reachable p st interface feed place i e l n s)).1;
 }
 
 admitted_none : (req : Requirement) (p : Policy) (interface : Uri) (c : Candidate) → is_admitted req p interface c ≡ true → why_not p c.standing ≡ None
@@ -92,50 +94,37 @@ admitted_none req p interface c h = none_by (why_not p c.standing) (within_limit
     none_by (Some w) b h = absurd cc
 
 -- what is kept of a list that a function gives
-all_kept : {X Y : Type 0} (Q : X → Type 0) (P : Y → Type 0) (test : Y → Bool) (g : X → Y) (xs : List X) → ((x : X) → Q x → test (g x) ≡ true → P (g x)) → All Q xs → All P (filter test (map g xs))
-all_kept Q P test g [] h k = All-nil P
-all_kept Q P test g (x ∷ xs) h k = by (test (g x)) refl (all_kept Q P test g xs h (All-tail Q x xs k))
+all_kept : {X Y : Type 0} (P : Y → Type 0) (test : Y → Bool) (g : X → Y) (xs : List X) → ((x : X) → test (g x) ≡ true → P (g x)) → All P (filter test (map g xs))
+all_kept P test g [] h = All-nil P
+all_kept P test g (x ∷ xs) h = by (test (g x)) refl (all_kept P test g xs h)
   where
     by : (b : Bool) → test (g x) ≡ b → All P (filter test (map g xs)) → All P (cond b (g x ∷ filter test (map g xs)) (filter test (map g xs)))
-    by true e r = All-cons P (g x) (filter test (map g xs)) (h x (All-head Q x xs k) e) r
+    by true e r = All-cons P (g x) (filter test (map g xs)) (h x e) r
     by false e r = r
 
-all_flat : {X Y : Type 0} (Q : X → Type 0) (P : Y → Type 0) (f : X → List Y) (xs : List X) → ((x : X) → Q x → All P (f x)) → All Q xs → All P (flat_map f xs)
-all_flat Q P f [] h k = All-nil P
-all_flat Q P f (x ∷ xs) h k = All-append P (f x) (flat_map f xs) (h x (All-head Q x xs k)) (all_flat Q P f xs h (All-tail Q x xs k))
+all_flat : {X Y : Type 0} (P : Y → Type 0) (f : X → List Y) (xs : List X) → ((x : X) → All P (f x)) → All P (flat_map f xs)
+all_flat P f [] h = All-nil P
+all_flat P f (x ∷ xs) h = All-append P (f x) (flat_map f xs) (h x) (all_flat P f xs h)
 
--- those of a feed, each with its place
-abbrev IsNoneAt : ℕ × Impl → Type 0
-IsNoneAt q = IsNone q.1
-
-all_counted : (n : ℕ) (is : List Impl) → All IsNone is → All IsNoneAt (enumerate_from n is)
-all_counted n [] h = All-nil IsNoneAt
-all_counted n (i ∷ is) h = All-cons IsNoneAt (n, i) (enumerate_from (n + 1) is) (All-head IsNone i is h) (all_counted (n + 1) is (All-tail IsNone i is h))
-
-feed_counted : (t : Packages) (f : Feed) → t ≡ no_packages → HasNone f → All IsNoneAt (enumerate_from 0 (all_impls t f))
-feed_counted t f nothing h = subst (λ is. All IsNoneAt (enumerate_from 0 is)) (sym (ap (λ x. all_impls x f) nothing ∙ none_join f)) (all_counted 0 f.impls h)
-
-all_admitted : (req : Requirement) (p : Policy) (st : Store) (interface : Uri) (feeds : List Feed) → st.packages ≡ no_packages → All HasNone feeds → All (IsObtainable st) (admitted req p st interface feeds)
-all_admitted req p st interface feeds nothing none =
-    all_flat HasNone (IsObtainable st) (admitted_by req p st interface) feeds
-    (λ f h. all_kept IsNoneAt (IsObtainable st) (is_admitted req p interface) (λ (q : ℕ × Impl). candidate_of p st interface f.uri q.0 q.1) (enumerate_from 0 (all_impls st.packages f))
-    (λ q k e. of_part p st interface f.uri q.0 q.1 k (admitted_none req p interface (candidate_of p st interface f.uri q.0 q.1) e)) (feed_counted st.packages f nothing h))
-    none
+all_admitted : (req : Requirement) (p : Policy) (st : Store) (interface : Uri) (feeds : List Feed) → All (IsObtainable st) (admitted req p st interface feeds)
+all_admitted req p st interface feeds =
+    all_flat (IsObtainable st) (admitted_by req p st interface) feeds
+    (λ f. all_kept (IsObtainable st) (is_admitted req p interface) (λ (q : ℕ × Impl). candidate_of p st interface f.uri q.0 q.1) (enumerate_from 0 (all_impls st.packages f))
+    (λ q e. of_part p st interface f.uri q.0 q.1 (admitted_none req p interface (candidate_of p st interface f.uri q.0 q.1) e)))
 
 -- the interface at a place has such candidates
-at_place : (at : Reading) (req : Requirement) (p : Policy) (st : Store) (groups : List Uris) (is : List Interface) (k : ℕ) (i : Interface) → st.packages ≡ no_packages → HaveNone at (all_of groups)
+at_place : (at : Reading) (req : Requirement) (p : Policy) (st : Store) (groups : List Uris) (is : List Interface) (k : ℕ) (i : Interface)
     → AllZip (IsInterface at req p st) groups is → slice_get is k ≡ Some i → All (IsObtainable st) i.candidates
-at_place at req p st [] [] k i nothing none z e = absurd cc
-at_place at req p st [] (y ∷ ys) k i nothing none z e = absurd z
-at_place at req p st (g ∷ gs) [] k i nothing none z e = absurd z
-at_place at req p st (g ∷ gs) (y ∷ ys) zero i nothing none z e =
+at_place at req p st [] [] k i z e = absurd cc
+at_place at req p st [] (y ∷ ys) k i z e = absurd z
+at_place at req p st (g ∷ gs) [] k i z e = absurd z
+at_place at req p st (g ∷ gs) (y ∷ ys) zero i z e =
     subst (λ (x : Interface). All (IsObtainable st) x.candidates) (some_same y i e)
-    (All-permutation (IsObtainable st) (admitted req p st y.uri (map at g)) y.candidates z.0.candidates.same
-    (all_admitted req p st y.uri (map at g) nothing (each_none at g (first_none at g gs none))))
+    (All-permutation (IsObtainable st) (admitted req p st y.uri (map at g)) y.candidates z.0.candidates.same (all_admitted req p st y.uri (map at g)))
   where
     some_same : (x y : Interface) → ◌≡◌ {A = Option Interface} (Some x) (Some y) → x ≡ y
     some_same x y e = cc
-at_place at req p st (g ∷ gs) (y ∷ ys) (suc k) i nothing none z e = at_place at req p st gs ys k i nothing (others_none at g gs none) z.1 e
+at_place at req p st (g ∷ gs) (y ∷ ys) (suc k) i z e = at_place at req p st gs ys k i z.1 e
 
 -- The number of an address.
 
@@ -206,36 +195,70 @@ any_same : (p q : DigestName → Bool) (xs : List DigestName) → ((d : DigestNa
 any_same p q [] h = refl
 any_same p q (x ∷ xs) h = ap (λ b. b || list_any p xs) (h x) ∙ ap (λ b. q x || b) (any_same p q xs h)
 
+-- the candidate that is chosen for an interface, by its number
+picked_at : (c : Chosen) (k : ℕ) (i : Interface) (x : Candidate) → IsWhole c.universe → slice_get c.universe k ≡ Some i → chosen c.universe c.choice.picks k ≡ Some x
+    → candidate_from (from_chosen c) i.uri ≡ Some x
+picked_at c k i x whole at e = ap (option_and_then (chosen c.universe c.choice.picks)) (number_at c.universe k i whole.apart at) ∙ e
+
+some_mapped : {X Y : Type 0} (f : X → Y) (o : Option X) → is_some (option_map f o) ≡ is_some o
+some_mapped f None = refl
+some_mapped f (Some x) = refl
+
 selection_fetchable : (c : Chosen) (w : Walk) (k : ℕ) (i : Interface) (x : Candidate) → IsWhole c.universe → slice_get c.universe k ≡ Some i → chosen c.universe c.choice.picks k ≡ Some x
-    → IsObtainable (stored_names (all_names c.known.each) no_packages) x → IsFetchable (from_chosen c) (names_in c) (selection_by c.universe c.choice.picks w k i.uri x)
+    → IsObtainable (stored_names (all_names c.known.each) c.known.packages) x → IsFetchable (from_chosen c) (names_in c) (selection_by c.universe c.choice.picks w k i.uri x)
 unfolding selection_by
 selection_fetchable c w k i x whole at e o = record {
-  way = λ h. let n = or_parts (is_some x.imp.local) (list_any (is_known (names_in c)) x.imp.digests) h in
-      subst (λ m. IsSome m) (sym by_method) (o.methods n.0 (unknown n.1));
-  named = λ h. let n = or_parts (is_some x.imp.local) (list_any (is_known (names_in c)) x.imp.digests) h in o.digests n.0 (unknown n.1);
+  way = λ h. let n = wanting h in
+      subst (λ m. IsSome m) (sym by_method) (o.methods n.0 n.1 n.2);
+  named = λ h. let n = wanting h in o.digests n.0 n.1 n.2;
 }
   where
-    unknown : list_any (is_known (names_in c)) x.imp.digests ≡ false → list_any (λ d. (stored_names (all_names c.known.each) no_packages).trees (spelling d)) x.imp.digests ≡ false
-    unknown h = any_same (λ d. (stored_names (all_names c.known.each) no_packages).trees (spelling d)) (is_known (names_in c)) x.imp.digests (λ d. sym (listed-without_repeats (spelling d) (map spelling (all_names c.known.each)))) ∙ h
+    trees : DigestName → Bool
+    trees d = (stored_names (all_names c.known.each) c.known.packages).trees (spelling d)
+
+    wanting : (is_some x.imp.local || is_some (option_map (λ (p : Package). p.name) x.imp.«package») || list_any (is_known (names_in c)) x.imp.digests) ≡ false
+        → (is_some x.imp.local ≡ false) × (is_some x.imp.«package» ≡ false) × (list_any trees x.imp.digests ≡ false)
+    wanting h =
+        let n = or_parts (is_some x.imp.local || is_some (option_map (λ (p : Package). p.name) x.imp.«package»)) (list_any (is_known (names_in c)) x.imp.digests) h in
+        let m = or_parts (is_some x.imp.local) (is_some (option_map (λ (p : Package). p.name) x.imp.«package»)) n.0 in (
+          m.0,
+          sym (some_mapped (λ (p : Package). p.name) x.imp.«package») ∙ m.1,
+          any_same trees (is_known (names_in c)) x.imp.digests (λ d. sym (listed-without_repeats (spelling d) (map spelling (all_names c.known.each)))) ∙ n.1,
+        )
 
     by_method : method_of (from_chosen c) i.uri ≡ first x.imp.methods
-    by_method =
-        ap (λ n. option_and_then (λ (y : Candidate). first y.imp.methods) (option_and_then (chosen c.universe c.choice.picks) n)) (number_at c.universe k i whole.apart at)
-        ∙ ap (option_and_then (λ (y : Candidate). first y.imp.methods)) e
+    by_method = ap (option_and_then (λ (y : Candidate). first y.imp.methods)) (picked_at c k i x whole at e)
+
+-- what is so of each selection of a candidate is so of all that are selected
+module _ (P : Selection → Type 0) (ask : Ask) (before after : Feeding) (c : Chosen) (is : IsChosen ask before c after) where
+  all_chosen : ((k : ℕ) (i : Interface) (x : Candidate) → slice_get c.universe k ≡ Some i → chosen c.universe c.choice.picks k ≡ Some x → P (selection_by c.universe c.choice.picks is.selected.walk k i.uri x))
+      → All P c.sels.items
+  all_chosen h =
+      All-permutation P (selected c.universe c.choice.picks is.selected.walk) c.sels.items is.selected.same
+      (all_from P c.universe c.choice.picks is.selected.walk 0 c.universe (λ k i x at e.
+      let z : 0 + k ≡ k = omega arith in
+      subst (λ m. P (selection_by c.universe c.choice.picks is.selected.walk m i.uri x)) (sym z) (h k i x at (subst (λ n. chosen c.universe c.choice.picks n ≡ Some x) z e))))
 
 -- All that is selected can be fetched, if it isn't there.
 pub all_fetchable : (ask : Ask) (before after : Feeding) (c : Chosen) → IsWhole c.universe → IsChosen ask before c after → All (IsFetchable (from_chosen c) (names_in c)) c.sels.items
 all_fetchable ask before after c whole is =
     let loads = is.loaded.loads in
-    let come = loads.universe in
-    let P = IsFetchable (from_chosen c) (names_in c) in
-    let w = is.selected.walk in
-    All-permutation P (selected c.universe c.choice.picks w) c.sels.items is.selected.same
-    (all_from P c.universe c.choice.picks w 0 c.universe (λ k i x at e.
-    let z : 0 + k ≡ k = omega arith in
-    let picked = subst (λ n. chosen c.universe c.choice.picks n ≡ Some x) z e in
-    let n = chosen_at c.universe c.choice.picks k i x at picked in
-    subst (λ m. P (selection_by c.universe c.choice.picks w m i.uri x)) (sym z)
-    (selection_fetchable c w k i x whole at picked
-    (get_all (IsObtainable (stored_names (all_names c.known.each) no_packages)) i.candidates n.0 x
-    (at_place loads.at _ _ (stored_names (all_names c.known.each) no_packages) loads.groups c.universe k i refl (reached_none _ _ loads.at loads.groups loads.read) come.each at) n.1))))
+    let st = stored_names (all_names c.known.each) c.known.packages in
+    all_chosen (IsFetchable (from_chosen c) (names_in c)) ask before after c is
+    (λ k i x at e.
+    let n = chosen_at c.universe c.choice.picks k i x at e in
+    selection_fetchable c is.selected.walk k i x whole at e
+    (get_all (IsObtainable st) i.candidates n.0 x (at_place loads.at _ _ st loads.groups c.universe k i loads.universe.each at) n.1))
+
+-- What is selected names the package that its candidate is.
+abbrev pub IsNamedAs : From → Selection → Type 0
+IsNamedAs on x = x.«package» ≡ option_map (λ (p : Package). p.name) (package_of on x.interface)
+
+selection_named : (c : Chosen) (w : Walk) (k : ℕ) (i : Interface) (x : Candidate) → IsWhole c.universe → slice_get c.universe k ≡ Some i → chosen c.universe c.choice.picks k ≡ Some x
+    → IsNamedAs (from_chosen c) (selection_by c.universe c.choice.picks w k i.uri x)
+unfolding selection_by
+selection_named c w k i x whole at e = sym (ap (λ o. option_map (λ (p : Package). p.name) (option_and_then (λ (y : Candidate). y.imp.«package») o)) (picked_at c k i x whole at e))
+
+pub all_named : (ask : Ask) (before after : Feeding) (c : Chosen) → IsWhole c.universe → IsChosen ask before c after → All (IsNamedAs (from_chosen c)) c.sels.items
+all_named ask before after c whole is =
+    all_chosen (IsNamedAs (from_chosen c)) ask before after c is (λ k i x at e. selection_named c is.selected.walk k i x whole at e)

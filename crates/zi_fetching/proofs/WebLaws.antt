@@ -1,5 +1,5 @@
 -- A web that is fetched from holds what it held, and what is planned stays.
-use Rattle.std.proofs.Common.{ℕ, inl, inr, List, [], ◌∷◌, ◌∙◌, Result, Ok, Err}
+use Rattle.std.proofs.Common.{ℕ, inl, inr, List, [], ◌∷◌, Result, Ok, Err}
 use Rattle.zi_tree.specs.Dir.{Dir}
 use Rattle.zi_digest.specs.Name.{spelling}
 use Rattle.zi_outside.specs.Views.{Feeding}
@@ -13,13 +13,10 @@ use Rattle.zi_recipe.specs.Making.{Makes, Refuses}
 use Rattle.zi_adding.specs.Trying.{Tried}
 use Rattle.zi_outcome.specs.declared.outcome.Outcome.{Outcome}
 use Rattle.zi_world.specs.Asking.{FeedsStay}
-use Rattle.zi_world.proofs.AskingLemmas.{unasked_stay, asks_stay}
+use Rattle.zi_world.proofs.AskingLemmas.{unasked_stay, asks_stay, stays_then}
 use Rattle.zi_choosing.specs.declared.chosen.Chosen.{Chosen}
 use Rattle.zi_fetching.specs.Known.{Names}
 use Rattle.zi_fetching.specs.Fetching.{From, from_chosen, names_in, FailsBy, FailsToFetch, FetchesInTurn, FetchesNot, FetchesTo}
-
-stay_then : (a b c : Feeding) → FeedsStay a b → FeedsStay b c → FeedsStay a c
-stay_then a b c p q = record { holds = q.holds ∙ p.holds; plan = q.plan ∙ p.plan }
 
 asked_at : (e : RecipeFault) (before last : List (List ℕ)) (old new : Feeding) → AsksAt e before last old new → FeedsStay old new
 asked_at (fault.FetchRead href) before last old new a = asks_stay _ old new a.0
@@ -50,12 +47,13 @@ turn_stays : (on : From) (xs : List Selection) (stored : Names) (old : Feeding) 
 turn_stays on [] stored old tried new (none, same) = unasked_stay old new same
 turn_stays on (x ∷ xs) stored old tried new (inl (there, rest)) = turn_stays on xs stored old tried new rest
 turn_stays on (x ∷ xs) stored old tried new (inr (wanting, (a, rest, mid, is, fetched, turn))) =
-    stay_then old mid new (makes_stay fetched.method old a.tree mid fetched.makes) (turn_stays on xs (with_one stored (spelling a.name)) mid rest new turn)
+    stays_then old mid new (makes_stay fetched.method old a.tree mid fetched.makes) (turn_stays on xs (with_one stored (spelling a.name)) mid rest new turn)
 
 not_stays : (c : Chosen) (old : Feeding) (outcome : Outcome) (tried : List Tried) (new : Feeding) → FetchesNot c old outcome tried new → FeedsStay old new
-not_stays c old outcome tried new (inl s) =
-    stay_then old s.mid new (turn_stays (from_chosen c) _ (names_in c) old s.done s.mid s.in_turn) (fails_stay (from_chosen c) s.item s.mid outcome s.last new s.fails)
-not_stays c old outcome tried new (inr s) = turn_stays (from_chosen c) _ (names_in c) old tried new s.in_turn
+not_stays c old outcome tried new (inl s) = unasked_stay old new s.unasked
+not_stays c old outcome tried new (inr (inl s)) =
+    stays_then old s.mid new (turn_stays (from_chosen c) _ (names_in c) old s.done s.mid s.in_turn) (fails_stay (from_chosen c) s.item s.mid outcome s.last new s.fails)
+not_stays c old outcome tried new (inr (inr s)) = turn_stays (from_chosen c) _ (names_in c) old tried new s.in_turn
 
 pub web_stays : (c : Chosen) (old : Feeding) (result : Result Names Outcome) (tried : List Tried) (new : Feeding) → FetchesTo c old result tried new → FeedsStay old new
 web_stays c old (Ok stored) tried new f = turn_stays (from_chosen c) c.sels.items (names_in c) old tried new f.in_turn

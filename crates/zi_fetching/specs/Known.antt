@@ -19,6 +19,6 @@ names_of digests = without_repeats (map spelling digests)
 abbrev pub is_known : Names → DigestName → Bool
 is_known stored digest = listed (spelling digest) stored
 
--- What is selected is there: it has a path of its own, or one of its digests is stored.
+-- What is selected isn't fetched: it has a path of its own, or is a package of the operating system, or one of its digests is stored.
 abbrev pub is_there : Names → Selection → Bool
-is_there stored x = is_some x.local || list_any (is_known stored) x.digests
+is_there stored x = is_some x.local || is_some x.«package» || list_any (is_known stored) x.digests

@@ -1,7 +1,7 @@
-//! One selection is fetched, if it isn't there.
+//! One selection is fetched, if it isn't there; a package of the operating system isn't.
 ghost use Rattle.std.specs.Prelude.{◌≡◌, option_copied, MatchOption};
 ghost use Rattle.zi_choice.specs.Choice.{chosen};
-ghost use Rattle.zi_fetching.specs.Fetching.{method_of, HasWay, HasNoWay, IsFetchable, FetchesTree, FetchesItem};
+ghost use Rattle.zi_fetching.specs.Fetching.{candidate_of, lacking, uninstalled, first_uninstalled, method_of, HasWay, HasNoWay, IsFetchable, FetchesTree, FetchesItem};
 
 use crate::stored::{Stored, is_there};
 use crate::unmade::{unadded, unmade};
@@ -11,7 +11,7 @@ use zi_choice::Names;
 use zi_digest::DigestName;
 use zi_outcome::Outcome;
 use zi_outside::Web;
-use zi_parts::Method;
+use zi_parts::{Method, Package};
 use zi_recipe::make_tree;
 use zi_sels::Selection;
 use zi_shelf::Shelf;
@@ -27,13 +27,59 @@ fn chosen<'u>(names: &Names<'u>, picks: &[Option<u32>], i: u32) -> Option<&'u Ca
     interface.candidates.as_slice().get(pick? as usize)
 }
 
-// How the candidate that is chosen for an interface can be fetched: the first of its methods.
+// The candidate that is chosen for an interface.
+fn candidate_of<'u>(
+    names: &Names<'u>,
+    picks: &[Option<u32>],
+    interface: &Text,
+) -> Option<&'u Candidate>
+    ensures { option_copied result ≡ candidate_of (record { universe = names.now; picks = picks.now }) interface.now }
+{
+    let i = names.number(interface)?;
+    chosen(names, picks, i)
+}
+
+// How it can be fetched: the first of its methods.
 fn method_of<'u>(names: &Names<'u>, picks: &[Option<u32>], interface: &Text) -> Option<&'u Method>
     ensures { option_copied result ≡ method_of (record { universe = names.now; picks = picks.now }) interface.now }
 {
-    let i = names.number(interface)?;
-    let candidate = chosen(names, picks, i)?;
+    let candidate = candidate_of(names, picks, interface)?;
     candidate.imp.methods.as_slice().first()
+}
+
+// The name of a package, unless it is installed.
+fn lacking(package: &Package) -> Option<&Text>
+    ensures { option_copied result ≡ lacking «package».now }
+{
+    if package.installed {
+        return None;
+    }
+    Some(&package.name)
+}
+
+// The name of what is selected, where it is a package that isn't installed.
+fn uninstalled<'u>(names: &Names<'u>, picks: &[Option<u32>], item: &Selection) -> Option<&'u Text>
+    ensures { option_copied result ≡ uninstalled (record { universe = names.now; picks = picks.now }) item.now }
+{
+    let candidate = candidate_of(names, picks, &item.interface)?;
+    let package = candidate.imp.package.as_ref()?;
+    lacking(package)
+}
+
+/// The name of the first that is a package that isn't installed.
+pub(crate) fn first_uninstalled<'u>(
+    names: &Names<'u>,
+    picks: &[Option<u32>],
+    items: &[Selection],
+) -> Option<&'u Text>
+    ensures { option_copied result ≡ first_uninstalled (record { universe = names.now; picks = picks.now }) items.now }
+{
+    for item in items {
+        if let Some(name) = uninstalled(names, picks, item) {
+            return Some(name);
+        }
+    }
+    None
 }
 
 // How what is selected can be fetched, and the name that its tree gets.

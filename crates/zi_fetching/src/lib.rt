@@ -1,4 +1,5 @@
-//! Fetching: what is selected and isn't there is made of what the web has, and added to the store under its digest.
+//! Fetching: what is selected and isn't there is made of what the web has, and added to the store under its digest. Packages of the
+//! operating system aren't fetched: where one is selected that isn't installed, nothing is.
 //! `fetch_all` is the stage, `download` the command; `Stored` are the digest names that are known to be there. Contracts say
 //! which selections are fetched, in the order of the document, and what became of web and shelf (specs/Fetching.antt).
 //!
@@ -16,3 +17,4 @@ mod unmade;
 pub use downloading::download;
 pub use fetching::fetch_all;
 pub use stored::Stored;
+pub use unmade::unadded;

@@ -90,11 +90,11 @@ fn holds_any(alloc: Global, names: &IndexSet<Text>, digests: &[DigestName]) -> R
     Ok(false)
 }
 
-/// Whether what is selected is there: it is local, or one of its digests is among those stored.
+/// Whether what is selected isn't to be fetched: it is local, or a package of the operating system, or one of its digests is among those stored.
 pub(crate) fn is_there(alloc: Global, stored: &Stored, item: &Selection) -> Result<bool, Memory>
     ensures { IfOk result (λ b. b ≡ is_there stored.now item.now) }
 {
-    if item.local.is_some() {
+    if item.local.is_some() || item.package.is_some() {
         return Ok(true);
     }
     let any = stored.has_any(alloc, item.digests.as_slice())?;

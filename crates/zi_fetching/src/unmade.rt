@@ -22,7 +22,7 @@ pub(crate) fn unmade(fault: RecipeFault) -> Outcome
 }
 
 /// The outcome where a tree isn't added.
-pub(crate) fn unadded(fault: AddFault) -> Outcome
+pub fn unadded(fault: AddFault) -> Outcome
     ensures { result ≡ unadded fault }
 {
     match fault {

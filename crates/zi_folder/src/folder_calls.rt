@@ -321,8 +321,17 @@ fn is_taken(error: &io::Error) -> bool {
     )
 }
 
-/// Makes the names in a folder last through a crash.
-pub fn sync_folder(rt: &HostRuntime, path: &str) -> Result<(), Trouble> {
+/// Makes the names in the shelf's folder last through a crash; there are none where it isn't there.
+pub fn settle_names(rt: &HostRuntime, root: &str) -> Result<(), Trouble> {
+    match fs::open(rt, root) {
+        Ok(folder) => Ok(folder.sync_all()?),
+        Err(error) if is_absence(&error) => Ok(()),
+        Err(error) => Err(Trouble::from(error)),
+    }
+}
+
+// Makes the names in a folder last through a crash.
+fn sync_folder(rt: &HostRuntime, path: &str) -> Result<(), Trouble> {
     fs::open(rt, path)?.sync_all()?;
     Ok(())
 }

@@ -7,10 +7,11 @@ ghost use Rattle.zi_folder.specs.Paths.{in_folder, path_on};
 
 use crate::folder_calls::{
     append, finish_file, is_folder, is_there, link_target, list_names, make_folder, make_link,
-    make_top, remove, rename, settle, sync_folder,
+    make_top, remove, rename, settle, settle_names,
 };
 use crate::log::Log;
 use crate::open_folders::OpenFolders;
+use crate::strangers::stranger;
 use crate::trouble::{Reason, Trouble};
 use zi_shelf::{Listed, Moved, Shelf, ShelfFault, TopMade};
 use zi_text::{List, Memory, Text};
@@ -207,6 +208,50 @@ impl FolderShelf {
         remove(&self.rt, path.as_str())
     }
 
+    // The path of the folder, of a top entry, or of what stands in one.
+    fn told_path(&self, top: &[&str], inside: &[Text]) -> Result<String, Memory> {
+        let mut path = String::from_str(self.rt.alloc(), self.root.as_str())?;
+        for part in top {
+            path.push('/')?;
+            path.push_str(part)?;
+        }
+        for part in inside {
+            path.push('/')?;
+            path.push_str(part.as_str())?;
+        }
+        Ok(path)
+    }
+
+    // The name at a path that is no text, where a call failed because of one.
+    fn strange_name(&self, path: &str, reason: Reason) -> Option<Vec<u8>> {
+        if !reason.is_of_a_name() {
+            return None;
+        }
+        stranger(&self.rt, path).unwrap_or(None)
+    }
+
+    // Tells a failure at a path; where a name there is no text, that too.
+    fn tell_at(&mut self, path: &str, reason: Reason)
+        ensures faults { self.new.faults ≡ self.old.faults }
+        ensures root { self.new.root ≡ self.old.root }
+    {
+        match self.strange_name(path, reason) {
+            Some(name) => self.log.tell(path, Some(name.as_slice()), reason),
+            None => self.log.tell(path, None, reason),
+        }
+    }
+
+    // Tells a failure.
+    fn tell(&mut self, top: &[&str], inside: &[Text], reason: Reason)
+        ensures faults { self.new.faults ≡ self.old.faults }
+        ensures root { self.new.root ≡ self.old.root }
+    {
+        match self.told_path(top, inside) {
+            Ok(path) => self.tell_at(path.as_str(), reason),
+            Err(Memory) => self.log.tell("", None, reason),
+        }
+    }
+
     // Counts a failure, and tells it with the path of the folder, of a top entry, or of what stands in one.
     fn answer<T>(
         &mut self,
@@ -223,7 +268,7 @@ impl FolderShelf {
             Err(Trouble::Memory) => Err(ShelfFault::Memory),
             Err(Trouble::Failed(reason)) => {
                 self.faults = self.faults.saturating_add(1);
-                self.log.tell(self.root.as_str(), top, inside, reason);
+                self.tell(top, inside, reason);
                 Err(ShelfFault::Failed)
             }
         }
@@ -356,7 +401,7 @@ impl Shelf for FolderShelf {
 
     #[tactic(auto, using(crate::proofs::FolderLemmas::folding))]
     fn settle_top(&mut self) -> Result<(), ShelfFault> {
-        let done = sync_folder(&self.rt, self.root.as_str());
+        let done = settle_names(&self.rt, self.root.as_str());
         self.answer(&[], &[], done)
     }
 

@@ -3,9 +3,9 @@
 use crate::trouble::Reason;
 use std::alloc::Global;
 use std::io::{self, Write};
-use zi_text::Text;
+use zi_shown::{show, show_bytes};
 
-/// Lines of failures, each a path and a reason.
+/// Lines of failures, each a path, shown as a terminal may have it, and a reason.
 #[derive(Drop)]
 pub struct Log {
     lines: Vec<u8>,
@@ -19,26 +19,17 @@ impl Log {
         }
     }
 
-    /// Adds the line of a failure at a path in a folder. A line for which memory is refused ends before its end.
-    pub(crate) fn tell(&mut self, folder: &str, parts: &[&str], inside: &[Text], reason: Reason) {
-        let _ = self.add(folder, parts, inside, reason);
+    /// Adds the line of a failure at a path, or at a name in the folder there that is no text. A line for which memory is refused ends
+    /// before its end.
+    pub(crate) fn tell(&mut self, path: &str, name: Option<&[u8]>, reason: Reason) {
+        let _ = self.add(path, name, reason);
     }
 
-    fn add(
-        &mut self,
-        folder: &str,
-        parts: &[&str],
-        inside: &[Text],
-        reason: Reason,
-    ) -> io::Result<()> {
-        self.lines.extend_from_slice(folder.as_bytes())?;
-        for part in parts {
+    fn add(&mut self, path: &str, name: Option<&[u8]>, reason: Reason) -> io::Result<()> {
+        show(path, &mut self.lines)?;
+        if let Some(name) = name {
             self.lines.push(b'/')?;
-            self.lines.extend_from_slice(part.as_bytes())?;
-        }
-        for part in inside {
-            self.lines.push(b'/')?;
-            self.lines.extend_from_slice(part.as_str().as_bytes())?;
+            show_bytes(name, &mut self.lines)?;
         }
         writeln!(self.lines, ": {reason}")
     }

@@ -84,8 +84,8 @@ fn refusal(error: io::Error) -> Trouble {
     }
 }
 
-// Opens what a name reaches from the folder of this number, where it is a folder and no link to one.
-fn open_folder(above: RawFd, name: &str) -> Result<OwnedFd, Trouble> {
+/// Opens what a name reaches from the folder of this number, where it is a folder and no link to one.
+pub fn open_folder(above: RawFd, name: &str) -> Result<OwnedFd, Trouble> {
     let number = os::open_dir_at(above, name.as_bytes());
     if number < 0 {
         return Err(refusal(io::Error::from_raw_os_error(os::errno())));
@@ -93,8 +93,8 @@ fn open_folder(above: RawFd, name: &str) -> Result<OwnedFd, Trouble> {
     Ok(unsafe { OwnedFd::from_raw_fd(number) })
 }
 
-// The next names that the folder of this number lists, each with a zero behind it; none at the end.
-fn next_names(folder: RawFd, room: &mut [u8]) -> Result<&[u8], Trouble> {
+/// The next names that the folder of this number lists, each with a zero behind it; none at the end.
+pub fn next_names(folder: RawFd, room: &mut [u8]) -> Result<&[u8], Trouble> {
     let count = os::read_dir(folder, room);
     match os::errno() {
         // a folder that was removed has no more names

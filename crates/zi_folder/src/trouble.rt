@@ -18,6 +18,13 @@ pub enum Reason {
     OtherTime,
 }
 
+impl Reason {
+    /// Whether it is that a name is no text (UTF-8).
+    pub fn is_of_a_name(&self) -> bool {
+        matches!(self, Reason::System(error) if error.kind() == ErrorKind::InvalidFilename)
+    }
+}
+
 impl Display for Reason {
     fn fmt<W: Write>(&self, f: &mut Formatter<W>) -> fmt::Result {
         match self {

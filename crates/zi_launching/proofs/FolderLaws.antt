@@ -1,11 +1,13 @@
 -- The folder of a selection, and the folders of all.
 use Rattle.std.proofs.Common.{◌≡◌, ℕ, ◌-◌, ◌<◌, ◌≤◌, suc, zero, inl, inr, List, [], ◌∷◌, ◌++◌, ◌+◌, take, length, map, get_or, filter_map, find, is_some, Option, Some, None, option_map, refl, sym, ◌∙◌, ap, subst, arith, slice_get, Ok, Err, if◌then◌else◌, Bool, true, false, ◌||◌, cond, All}
+use Rattle.std.specs.Prelude.{IfSome}
 use Rattle.std.specs.List.{list_any, cons_option}
 use Rattle.std.proofs.lemmas.List.{map-append, take_more}
 use Rattle.zi_digest.specs.declared.DigestName.{DigestName}
 use Rattle.zi_shelf.specs.Shelving.{Shelving}
 use Rattle.zi_reading.specs.Words.{first}
 use Rattle.zi_sels.specs.declared.types.Selection.{Selection}
+use Rattle.zi_sels_laws.specs.Trees.{HasNoTree}
 use Rattle.zi_outcome.specs.declared.outcome.Outcome.{Outcome}
 use Rattle.zi_world.specs.Places.{root_at}
 use Rattle.zi_fetching.specs.Known.{Names, is_known, is_there}
@@ -107,16 +109,21 @@ find_any p (d ∷ ds) h = by (p d) h (find_any p ds)
     by true h go = refl
     by false h go = go h
 
-there_found : (stored : Names) (x : Selection) → is_there stored x ≡ true → missing stored x ≡ None
-there_found stored x h = by x.local refl h
+there_found : (stored : Names) (x : Selection) → HasNoTree x → is_there stored x ≡ true → missing stored x ≡ None
+there_found stored x bare h = by x.local x.«package» refl bare h
   where
     some_none : (o : Option DigestName) → is_some o ≡ true → (if is_some o then None else first x.digests) ≡ None
     some_none (Some d) h = refl
     some_none None h = absurd cc
 
-    by : (o : Option (List ℕ)) → x.local ≡ o → (is_some o || list_any (is_known stored) x.digests) ≡ true → missing stored x ≡ None
-    by (Some path) e h = ap (missing_by (tree_of stored x) x.digests) e
-    by None e h =
+    empty_none : (o : Option DigestName) → x.digests ≡ [] → (if is_some o then None else first x.digests) ≡ None
+    empty_none (Some d) e = refl
+    empty_none None e = ap first e
+
+    by : (o p : Option (List ℕ)) → x.local ≡ o → IfSome p (λ name. (x.local ≡ None) × (x.digests ≡ [])) → (is_some o || is_some p || list_any (is_known stored) x.digests) ≡ true → missing stored x ≡ None
+    by (Some path) p e b h = ap (missing_by (tree_of stored x) x.digests) e
+    by None (Some name) e b h = ap (missing_by (tree_of stored x) x.digests) e ∙ empty_none (tree_of stored x) b.1
+    by None None e b h =
         ap (missing_by (tree_of stored x) x.digests) e
         ∙ ap (λ t. if is_some t then None else first x.digests) (ap (stored_of stored x.digests) e)
         ∙ some_none (find (is_known stored) x.digests) (find_any (is_known stored) x.digests h)
@@ -125,5 +132,5 @@ none_kept : {X Y : Type 0} (f : X → Option Y) (xs : List X) → All (λ x. f x
 none_kept f [] a = refl
 none_kept f (x ∷ xs) a = ap (λ o. cons_option o (filter_map f xs)) (a 0 x (omega arith)) ∙ none_kept f xs (λ k d lt. a (suc k) d (omega (arith, lt)))
 
-pub none_missing : (stored : Names) (items : List Selection) → All (λ x. is_there stored x ≡ true) items → first_missing stored items ≡ None
-none_missing stored items a = ap first (none_kept (missing stored) items (λ k d lt. there_found stored (get_or items k d) (a k d lt)))
+pub none_missing : (stored : Names) (items : List Selection) → All HasNoTree items → All (λ x. is_there stored x ≡ true) items → first_missing stored items ≡ None
+none_missing stored items bare a = ap first (none_kept (missing stored) items (λ k d lt. there_found stored (get_or items k d) (bare k d lt) (a k d lt)))

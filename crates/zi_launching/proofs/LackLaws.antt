@@ -1,7 +1,7 @@
 -- What the plan of a choice never fails by: each selection and each folder on its way is there, and so is each command.
-use Rattle.std.proofs.Common.{◌≡◌, ℕ, inl, inr, Bool, true, false, cond, List, [], ◌∷◌, map, find, Option, Some, None, IsSome, option_map, refl, sym, ◌∙◌, ap, subst, All, Result, Ok, Err}
+use Rattle.std.proofs.Common.{◌≡◌, ℕ, inl, inr, ◌⊎◌, Bool, true, false, ◌||◌, cond, List, [], ◌∷◌, map, find, Option, Some, None, IsSome, option_map, refl, sym, ◌∙◌, ap, subst, All, Result, Ok, Err}
 use Rattle.std.specs.Prelude.{IfSome, IsSomeAnd, bytes_eq, if◌then◌else◌}
-use Rattle.std.specs.Option.{option_or}
+use Rattle.std.specs.Option.{option_or, is_some}
 use Rattle.std.proofs.lemmas.List.Elements.{All-head, All-tail}
 use Rattle.std.proofs.lemmas.Option.{same_Some}
 use Rattle.zi_outside.specs.Launched.{Spawning}
@@ -11,7 +11,6 @@ use Rattle.zi_shelf.specs.Shelving.{Shelving}
 use Rattle.zi_store.specs.declared.verdicts.Verdict.{Verdict}
 use Rattle.zi_store.specs.declared.verdicts.Verdict.TheVariants as verdict
 use Rattle.zi_digest.specs.declared.DigestName.{DigestName}
-use Rattle.zi_reading.specs.Forms.{is_path}
 use Rattle.zi_parts.specs.declared.types.Runner.{Runner}
 use Rattle.zi_parts.specs.declared.types.Command.{Command}
 use Rattle.zi_bind.specs.declared.fault.ApplyFault.{ApplyFault}
@@ -22,10 +21,12 @@ use Rattle.zi_sels.specs.declared.types.Selections.{Selections}
 use Rattle.zi_sels_laws.specs.Whole.{IsNamed, HasCommand, RunnerIsThere, CanBeRun, AreWhole}
 use Rattle.zi_plan.specs.declared.fault.PlanFault.{PlanFault}
 use Rattle.zi_plan.specs.declared.fault.PlanFault.TheVariants as fault
-use Rattle.zi_plan.specs.Placed.{Placed, all_placed, without_folder, placed_for}
-use Rattle.zi_plan.specs.Chain.{Asked, Link, is_met, command_of, command_fault, path_fault, checked_link, link_in, link_of, link_for, asked_by, behind, Leads, stops, ends, goes_on, no_path, last_fault}
-use Rattle.zi_plan.specs.Launches.{all_bindings, bound_by, binding_fault, chain_words, spoken_all}
-use Rattle.zi_plan.specs.Plans.{fault_by, said, launched, checked, of_chain, by_chain, PlansCommand, PlansPlaced, Plans}
+use Rattle.zi_plan.specs.Placed.{Placed, placed_in, all_placed, without_folder, placed_for}
+use Rattle.zi_plan.specs.Chain.{Asked, Link, is_met, command_of, is_path_in, command_fault, path_fault, checked_link, link_in, link_of, link_for, asked_by, behind, Leads, stops, ends, goes_on, no_path, last_fault}
+use Rattle.zi_plan.specs.Launches.{all_bindings, binding_fault, chain_words, spoken_all}
+use Rattle.zi_plan.specs.Launches.{Bound}
+use Rattle.zi_plan.specs.Shims.{shim_element, unbuilt_shim, but_for, shims_of, PlansWithoutShims}
+use Rattle.zi_plan.specs.Plans.{fault_by, said, bound, launched, checked, of_chain, by_chain, PlansCommand, PlansPlaced, Plans}
 use Rattle.zi_outcome.specs.declared.outcome.Outcome.{Outcome}
 use Rattle.zi_outcome.specs.declared.outcome.Outcome.TheVariants.{Plan}
 use Rattle.zi_fetching.specs.Known.{Names}
@@ -73,16 +74,19 @@ behind_err link (Err f) reason e = ap (λ r. Err r) (err_same f reason e)
 
 -- the selections in their folders
 module _ (items : List Selection) (folders : List (Option (List ℕ))) (placed : without_folder items folders ≡ None) where
+  rest_placed : (b : Bool) (x : Selection) (xs : List Selection) (fs : List (Option (List ℕ))) → (if b then without_folder xs fs else Some x.interface) ≡ None → without_folder xs fs ≡ None
+  rest_placed true x xs fs w = w
+  rest_placed false x xs fs w = absurd (cc w)
+
   placed_has : (P : Selection → Type 0) (i : List ℕ) (xs : List Selection) (fs : List (Option (List ℕ))) → without_folder xs fs ≡ None → IsSomeAnd (find (λ (x : Selection). bytes_eq x.interface i) xs) P
       → IsSomeAnd (placed_for (all_placed xs fs) i) (λ p. P p.selection)
   placed_has P i [] fs w h = absurd h
   placed_has P i (x ∷ xs) [] w h = absurd (cc w)
-  placed_has P i (x ∷ xs) (None ∷ fs) w h = absurd (cc w)
-  placed_has P i (x ∷ xs) (Some f ∷ fs) w h = by (bytes_eq x.interface i) h (placed_has P i xs fs w)
+  placed_has P i (x ∷ xs) (f ∷ fs) w h = by (bytes_eq x.interface i) h (placed_has P i xs fs (rest_placed (is_some x.«package» || is_some f) x xs fs w))
     where
       by : (b : Bool) → IsSomeAnd (cond b (Some x) (find (λ (x : Selection). bytes_eq x.interface i) xs)) P
           → (IsSomeAnd (find (λ (x : Selection). bytes_eq x.interface i) xs) P → IsSomeAnd (placed_for (all_placed xs fs) i) (λ p. P p.selection))
-          → IsSomeAnd (cond b (Some (record { selection = x; folder = f })) (placed_for (all_placed xs fs) i)) (λ p. P p.selection)
+          → IsSomeAnd (cond b (Some (placed_in x f)) (placed_for (all_placed xs fs) i)) (λ p. P p.selection)
       by true h go = h
       by false h go = go h
 
@@ -90,13 +94,12 @@ module _ (items : List Selection) (folders : List (Option (List ℕ))) (placed :
       → find (λ (x : Selection). bytes_eq x.interface i) xs ≡ Some p.selection
   selection_found i [] fs p w e = absurd (cc e)
   selection_found i (x ∷ xs) [] p w e = absurd (cc w)
-  selection_found i (x ∷ xs) (None ∷ fs) p w e = absurd (cc w)
-  selection_found i (x ∷ xs) (Some f ∷ fs) p w e = by (bytes_eq x.interface i) e (selection_found i xs fs p w)
+  selection_found i (x ∷ xs) (f ∷ fs) p w e = by (bytes_eq x.interface i) e (selection_found i xs fs p (rest_placed (is_some x.«package» || is_some f) x xs fs w))
     where
-      by : (b : Bool) → cond b (Some (record { selection = x; folder = f })) (placed_for (all_placed xs fs) i) ≡ Some p
+      by : (b : Bool) → cond b (Some (placed_in x f)) (placed_for (all_placed xs fs) i) ≡ Some p
           → (placed_for (all_placed xs fs) i ≡ Some p → find (λ (x : Selection). bytes_eq x.interface i) xs ≡ Some p.selection)
           → cond b (Some x) (find (λ (x : Selection). bytes_eq x.interface i) xs) ≡ Some p.selection
-      by true e go = ap (λ (q : Placed). Some q.selection) (same_Some (record { selection = x; folder = f }) p e)
+      by true e go = ap (λ (q : Placed). Some q.selection) (same_Some (placed_in x f) p e)
       by false e go = go e
 
   abbrev ps : List Placed
@@ -126,38 +129,38 @@ module _ (items : List Selection) (folders : List (Option (List ℕ))) (placed :
 
       of_command : (p : Placed) (o : Option Command) → placed_for ps asked.interface ≡ Some p → command_of p.selection.commands asked.command ≡ o → link_in asked p o ≡ Ok link → IsLinked asked link
       of_command p None at named e = absurd (cc e)
-      of_command p (Some k) at named e = of_fault p k (command_fault k) at named e
+      of_command p (Some k) at named e = of_fault p k (command_fault p.folder k) at named e
 
       by : (b : Bool) (o : Option Placed) → placed_for ps asked.interface ≡ o → (if b then Err (fault.Loop asked.interface asked.command) else link_of asked o) ≡ Ok link → IsLinked asked link
       by true o at e = absurd (cc e)
       by false None at e = absurd (cc e)
       by false (Some p) at e = of_command p (command_of p.selection.commands asked.command) at refl e
 
-  path_lacks : (o : Option (List ℕ)) (f : PlanFault) → path_fault o ≡ Some f → NoneLacks f
-  path_lacks None f e = absurd (cc e)
-  path_lacks (Some text) f e = by (is_path text) e
+  path_lacks : (folder o : Option (List ℕ)) (f : PlanFault) → path_fault folder o ≡ Some f → NoneLacks f
+  path_lacks folder None f e = absurd (cc e)
+  path_lacks folder (Some text) f e = by (is_path_in folder text) e
     where
       by : (b : Bool) → (if b then None else Some (fault.BadPath text)) ≡ Some f → NoneLacks f
       by true e = absurd (cc e)
       by false e = subst NoneLacks (same_Some (fault.BadPath text) f e) tt
 
-  command_lacks : (k : Command) (f : PlanFault) → command_fault k ≡ Some f → NoneLacks f
-  command_lacks k f e = by k.unbuilt e
+  command_lacks : (folder : Option (List ℕ)) (k : Command) (f : PlanFault) → command_fault folder k ≡ Some f → NoneLacks f
+  command_lacks folder k f e = by k.unbuilt e
     where
-      by : (o : Option (List ℕ)) → option_or (option_map (λ element. fault.Unbuilt element) o) (path_fault k.path) ≡ Some f → NoneLacks f
-      by None e = path_lacks k.path f e
+      by : (o : Option (List ℕ)) → option_or (option_map (λ element. fault.Unbuilt element) o) (path_fault folder k.path) ≡ Some f → NoneLacks f
+      by None e = path_lacks folder k.path f e
       by (Some element) e = subst NoneLacks (same_Some (fault.Unbuilt element) f e) tt
 
   link_lacks : (met : List Asked) (asked : Asked) (reason : PlanFault) → IsThere asked → link_for ps met asked ≡ Err reason → NoneLacks reason
   link_lacks met asked reason there e = by (is_met met asked) (placed_for ps asked.interface) there e
     where
-      of_fault : (p : Placed) (k : Command) (o : Option PlanFault) → command_fault k ≡ o → checked_link asked p k o ≡ Err reason → NoneLacks reason
+      of_fault : (p : Placed) (k : Command) (o : Option PlanFault) → command_fault p.folder k ≡ o → checked_link asked p k o ≡ Err reason → NoneLacks reason
       of_fault p k None at e = absurd (cc e)
-      of_fault p k (Some f) at e = command_lacks k reason (at ∙ ap (λ r. Some r) (err_same f reason e))
+      of_fault p k (Some f) at e = command_lacks p.folder k reason (at ∙ ap (λ r. Some r) (err_same f reason e))
 
       of_command : (p : Placed) (o : Option Command) → IsSome o → link_in asked p o ≡ Err reason → NoneLacks reason
       of_command p None h e = absurd (cc h)
-      of_command p (Some k) h e = of_fault p k (command_fault k) refl e
+      of_command p (Some k) h e = of_fault p k (command_fault p.folder k) refl e
 
       by : (b : Bool) (o : Option Placed) → IsSomeAnd o (λ p. IsNamed asked.command p.selection.commands) → (if b then Err (fault.Loop asked.interface asked.command) else link_of asked o) ≡ Err reason → NoneLacks reason
       by true o h e = subst NoneLacks (err_same (fault.Loop asked.interface asked.command) reason e) tt
@@ -194,48 +197,70 @@ binding_lacks (apply.Unbuilt element) = tt
 binding_lacks (apply.BadPath text) = tt
 binding_lacks apply.Memory = tt
 
-chain_lacks : (ps : List Placed) (vars : List Var) (user : List (List ℕ)) (links : List Link) (reason : PlanFault) → of_chain ps vars user links ≡ Err reason → NoneLacks reason
-chain_lacks ps vars user links reason e = by (last_fault links) (binding_fault (all_bindings ps)) refl e
+said_lacks : (user : List (List ℕ)) (r : Result (List (List ℕ)) BindFault) (reason : PlanFault) → said user r ≡ Err reason → NoneLacks reason
+said_lacks user (Ok words) reason e = absurd (cc e)
+said_lacks user (Err why) reason e = subst NoneLacks (err_same (fault.Bind why) reason e) tt
+
+chain_lacks : (ps : List Placed) (shims : List (List ℕ)) (vars : List Var) (user : List (List ℕ)) (links : List Link) (reason : PlanFault) → of_chain ps shims vars user links ≡ Err reason → NoneLacks reason
+chain_lacks ps shims vars user links reason e = by (last_fault links) (binding_fault (all_bindings ps)) refl e
   where
     after : List Var
-    after = bound_by (all_bindings ps) vars
+    after = bound ps shims vars
 
-    by_words : (r : Result (List (List ℕ)) BindFault) → launched ps after (said user r) ≡ Err reason → NoneLacks reason
-    by_words (Ok words) e = absurd (cc e)
-    by_words (Err why) e = subst NoneLacks (err_same (fault.Bind why) reason e) tt
+    by_words : (r : Result (List (List ℕ)) PlanFault) → r ≡ said user (spoken_all (value_of after) (chain_words links)) → launched ps shims after r ≡ Err reason → NoneLacks reason
+    by_words (Ok words) is e = absurd (cc e)
+    by_words (Err why) is e = said_lacks user (spoken_all (value_of after) (chain_words links)) reason (sym is ∙ ap (λ f. Err f) (err_same why reason e))
 
-    by : (a : Option PlanFault) (b : Option ApplyFault) → last_fault links ≡ a → checked ps after user links (option_or a (option_map fault_by b)) ≡ Err reason → NoneLacks reason
+    by : (a : Option PlanFault) (b : Option ApplyFault) → last_fault links ≡ a → checked ps shims after user links (option_or a (option_map fault_by b)) ≡ Err reason → NoneLacks reason
     by (Some f) b at e = last_lacks links reason (at ∙ ap (λ r. Some r) (err_same f reason e))
     by None (Some f) at e = subst NoneLacks (err_same (fault_by f) reason e) (binding_lacks f)
-    by None None at e = by_words (spoken_all (value_of after) (chain_words links)) e
+    by None None at e = by_words (said user (spoken_all (value_of after) (chain_words links))) refl e
 
 -- The plan of selections that lack no command, each in a folder, fails by nothing that is missing, but where no command is asked for.
-plan_lacks : (sels : Selections) (vars : List Var) (user : List (List ℕ)) (folders : List (Option (List ℕ))) (reason : PlanFault) → AreWhole sels → without_folder sels.items folders ≡ None → Plans sels vars user folders (Err reason)
-    → IsNoLack sels.command reason
-plan_lacks sels vars user folders reason whole placed plans =
-    by sels.command refl whole.root (subst (λ o. PlansPlaced sels vars user ps o (Err reason)) placed plans)
+plan_lacks : (sels : Selections) (vars : List Var) (user : List (List ℕ)) (folders : List (Option (List ℕ))) (shims : List (List ℕ)) (reason : PlanFault) → AreWhole sels → without_folder sels.items folders ≡ None
+    → Plans sels vars user folders shims (Err reason) → IsNoLack sels.command reason
+plan_lacks sels vars user folders shims reason whole placed plans =
+    by sels.command refl whole.root (subst (λ o. PlansPlaced sels vars user ps shims o (Err reason)) placed plans)
   where
     ps : List Placed
     ps = all_placed sels.items folders
 
-    by_chain_of : (asked : Asked) (chain : Result (List Link) PlanFault) → IsThere sels.items folders placed asked → Leads ps [] asked chain → Err reason ≡ by_chain ps vars user chain → NoneLacks reason
-    by_chain_of asked (Ok links) there leads e = chain_lacks ps vars user links reason (sym e)
+    by_chain_of : (asked : Asked) (chain : Result (List Link) PlanFault) → IsThere sels.items folders placed asked → Leads ps [] asked chain → Err reason ≡ by_chain ps shims vars user chain → NoneLacks reason
+    by_chain_of asked (Ok links) there leads e = chain_lacks ps shims vars user links reason (sym e)
     by_chain_of asked (Err f) there leads e = leads_lack sels.items folders placed whole.runners leads there reason (ap (λ r. Err r) (err_same f reason (sym e)))
 
-    by : (o : Option (List ℕ)) → sels.command ≡ o → IfSome o (HasCommand sels.items sels.interface) → PlansCommand ps vars user sels.interface o (Err reason) → IsNoLack sels.command reason
+    by : (o : Option (List ℕ)) → sels.command ≡ o → IfSome o (HasCommand sels.items sels.interface) → PlansCommand ps shims vars user sels.interface o (Err reason) → IsNoLack sels.command reason
     by None e h plan = subst (IsNoLack sels.command) (sym (err_same reason (fault.NoCommand sels.interface []) plan)) e
     by (Some name) e h (chain, leads, is) =
         let asked : Asked = record { interface = sels.interface; command = name } in
         no_lack sels.command reason (by_chain_of asked chain (is_there sels.items folders placed asked h) leads is)
 
-folders_there : (path_of : DigestName → List ℕ) (stored : Names) (items : List Selection) → All (λ x. IsSome (folder path_of stored x)) items → without_folder items (map (folder path_of stored) items) ≡ None
+-- The same where no shim can be made.
+bare_lacks : (sels : Selections) (vars : List Var) (user : List (List ℕ)) (folders : List (Option (List ℕ))) (reason : PlanFault) → AreWhole sels → without_folder sels.items folders ≡ None
+    → PlansWithoutShims sels vars user folders (Err reason) → IsNoLack sels.command reason
+bare_lacks sels vars user folders reason whole placed (Err f, plans, is) =
+    subst (IsNoLack sels.command) (err_same f reason (sym is)) (plan_lacks sels vars user folders [] f whole placed plans)
+bare_lacks sels vars user folders reason whole placed (Ok launch, plans, is) = no_lack sels.command reason (by (shims_of sels folders) (sym is))
+  where
+    by : (bs : List Bound) → but_for (Ok launch) (unbuilt_shim bs) ≡ Err reason → NoneLacks reason
+    by [] e = absurd (cc e)
+    by (b ∷ bs) e = subst NoneLacks (err_same (fault.Unbuilt (shim_element b.binding)) reason e) tt
+
+folders_there : (path_of : DigestName → List ℕ) (stored : Names) (items : List Selection) → All (λ x. IsSome x.«package» ⊎ IsSome (folder path_of stored x)) items → without_folder items (map (folder path_of stored) items) ≡ None
 folders_there path_of stored [] h = refl
 folders_there path_of stored (x ∷ items) h =
-    by (folder path_of stored x) (All-head (λ x. IsSome (folder path_of stored x)) x items h) (folders_there path_of stored items (All-tail (λ x. IsSome (folder path_of stored x)) x items h))
+    by (is_some x.«package» || is_some (folder path_of stored x)) (either x.«package» (folder path_of stored x) (All-head (λ x. IsSome x.«package» ⊎ IsSome (folder path_of stored x)) x items h))
+    (folders_there path_of stored items (All-tail (λ x. IsSome x.«package» ⊎ IsSome (folder path_of stored x)) x items h))
   where
-    by : (o : Option (List ℕ)) → IsSome o → without_folder items (map (folder path_of stored) items) ≡ None → without_folder (x ∷ items) (o ∷ map (folder path_of stored) items) ≡ None
-    by None h rest = absurd (cc h)
-    by (Some path) h rest = rest
+    either : (o p : Option (List ℕ)) → IsSome o ⊎ IsSome p → (is_some o || is_some p) ≡ true
+    either (Some x) p h = refl
+    either None (Some x) h = refl
+    either None None (inl h) = absurd (cc h)
+    either None None (inr h) = absurd (cc h)
+
+    by : (b : Bool) → b ≡ true → without_folder items (map (folder path_of stored) items) ≡ None → (if b then without_folder items (map (folder path_of stored) items) else Some x.interface) ≡ None
+    by true e rest = rest
+    by false e rest = absurd (cc e)
 
 -- no verdict on a tree is a fault of the plan
 verdict_plans : (d : DigestName) (v : Verdict) (outcome : Outcome) (reason : PlanFault) → outcome ≡ Plan reason → Condemns d v outcome → ⊥
@@ -250,7 +275,7 @@ fails_plans d before after outcome reason is (inl (v, why, calm, held)) = verdic
 fails_plans d before after outcome reason is (inr (inl (e, failed))) = absurd cc
 fails_plans d before after outcome reason is (inr (inr (e, calm))) = absurd cc
 
-pub lacks_nothing : (task : Task) (before after : List Shelving) (p q : Spawning) (outcome : Outcome) → AreWhole task.sels → All (λ x. IsSome (folder (tree_folder task before) task.stored x)) task.sels.items
+pub lacks_nothing : (task : Task) (before after : List Shelving) (p q : Spawning) (outcome : Outcome) → AreWhole task.sels → All (λ x. IsSome x.«package» ⊎ IsSome (folder (tree_folder task before) task.stored x)) task.sels.items
     → LaunchesOver task (record { stores = before; spawner = p }) (record { stores = after; spawner = q }) outcome → LacksNothing task.sels.command outcome
 lacks_nothing task before after p q outcome whole placed (inr (launch, ready, starts)) = λ reason is. absurd (subst (λ o. Starts launch p q o) is starts)
 lacks_nothing task before after p q outcome whole placed (inl (not, same)) = λ reason is. by reason is not
@@ -261,6 +286,6 @@ lacks_nothing task before after p q outcome whole placed (inl (not, same)) = λ 
     by reason is (inr (inl (inl (f, e, plan), calm))) =
         let same_fault : f ≡ reason = cc in
         subst (IsNoLack task.sels.command) same_fault
-        (plan_lacks task.sels task.vars task.user (map (folder (tree_folder task before) task.stored) task.sels.items) f whole (folders_there (tree_folder task before) task.stored task.sels.items placed) plan.plan)
+        (bare_lacks task.sels task.vars task.user (map (folder (tree_folder task before) task.stored) task.sels.items) f whole (folders_there (tree_folder task before) task.stored task.sels.items placed) plan.plan)
     by reason is (inr (inl (inr e, calm))) = absurd cc
     by reason is (inr (inr u)) = absurd (never_in_store (λ b a. FailsToVerify u.stops.name b outcome a) (λ b a f. fails_plans u.stops.name b a outcome reason is f) (place task.each u.stops.name) before after u.stops.fails)

@@ -1,5 +1,5 @@
 -- What a run never comes to: all that is selected has a folder, and over an honest shelf no tree is missing.
-use Rattle.std.proofs.Common.{◌≡◌, ℕ, suc, zero, inl, inr, Bool, true, false, ◌||◌, cond, List, [], ◌∷◌, find, filter_map, get_or, Option, Some, None, IsSome, is_some, option_map, refl, sym, ◌∙◌, ap, subst, arith, All, Contains, slice_get, Ok}
+use Rattle.std.proofs.Common.{◌≡◌, ℕ, suc, zero, ◌⊎◌, inl, inr, Bool, true, false, ◌||◌, cond, List, [], ◌∷◌, find, filter_map, get_or, Option, Some, None, IsSome, is_some, option_map, refl, sym, ◌∙◌, ap, subst, arith, All, Contains, slice_get, Ok}
 use Rattle.std.specs.List.{list_any, cons_option}
 use Rattle.zi_digest.specs.declared.DigestName.{DigestName}
 use Rattle.zi_digest.specs.Name.{spelling}
@@ -43,16 +43,17 @@ mapped_some : {X Y : Type 0} (f : X → Y) (o : Option X) → IsSome o → IsSom
 mapped_some f (Some x) h = refl
 mapped_some f None h = absurd cc
 
-there_placed : (path_of : DigestName → List ℕ) (stored : Names) (x : Selection) → is_there stored x ≡ true → IsSome (folder path_of stored x)
-there_placed path_of stored x h = by x.local refl h
+there_placed : (path_of : DigestName → List ℕ) (stored : Names) (x : Selection) → is_there stored x ≡ true → IsSome x.«package» ⊎ IsSome (folder path_of stored x)
+there_placed path_of stored x h = by x.local refl x.«package» refl h
   where
-    by : (o : Option (List ℕ)) → x.local ≡ o → (is_some o || list_any (is_known stored) x.digests) ≡ true → IsSome (folder path_of stored x)
-    by (Some path) e h = subst (λ p. IsSome p) (sym (ap (folder_by path_of (tree_of stored x)) e)) refl
-    by None e h =
-        subst (λ p. IsSome p) (sym (ap (folder_by path_of (tree_of stored x)) e ∙ ap (option_map path_of) (ap (stored_of stored x.digests) e)))
-        (mapped_some path_of (find (is_known stored) x.digests) (find_some (is_known stored) x.digests h))
+    by : (o : Option (List ℕ)) → x.local ≡ o → (p : Option (List ℕ)) → x.«package» ≡ p → (is_some o || is_some p || list_any (is_known stored) x.digests) ≡ true → IsSome x.«package» ⊎ IsSome (folder path_of stored x)
+    by (Some path) e p f h = inr (subst (λ p. IsSome p) (sym (ap (folder_by path_of (tree_of stored x)) e)) refl)
+    by None e (Some name) f h = inl (subst (λ p. IsSome p) (sym f) refl)
+    by None e None f h =
+        inr (subst (λ p. IsSome p) (sym (ap (folder_by path_of (tree_of stored x)) e ∙ ap (option_map path_of) (ap (stored_of stored x.digests) e)))
+        (mapped_some path_of (find (is_known stored) x.digests) (find_some (is_known stored) x.digests h)))
 
-pub all_placed : (path_of : DigestName → List ℕ) (stored : Names) (items : List Selection) → All (λ x. is_there stored x ≡ true) items → All (λ x. IsSome (folder path_of stored x)) items
+pub all_placed : (path_of : DigestName → List ℕ) (stored : Names) (items : List Selection) → All (λ x. is_there stored x ≡ true) items → All (λ x. IsSome x.«package» ⊎ IsSome (folder path_of stored x)) items
 all_placed path_of stored items a = λ k d lt. there_placed path_of stored (get_or items k d) (a k d lt)
 
 -- A tree that stands for one of them is known to be stored.

@@ -1,5 +1,6 @@
 -- What the launch of a document comes to, stage by stage.
 use Rattle.std.proofs.Common.{ℕ, inl, inr, List, ◌∷◌, refl, Ok, Err}
+use Rattle.zi_digest.specs.declared.DigestName.{DigestName}
 use Rattle.zi_outside.specs.Views.{Feeding, Sinking}
 use Rattle.zi_outside.specs.Launched.{Spawning}
 use Rattle.zi_outside.specs.declared.var.Var.{Var}
@@ -13,8 +14,7 @@ use Rattle.zi_outcome.specs.declared.outcome.Outcome.{Outcome}
 use Rattle.zi_world.specs.Asking.{FeedsStay}
 use Rattle.zi_world.specs.Shelves.{Untouched}
 use Rattle.zi_world.proofs.ShelvesLemmas.{untouched}
-use Rattle.zi_choosing.specs.declared.known.Known.{Known}
-use Rattle.zi_choosing.specs.Knowing.{all_names, IsKnown}
+use Rattle.zi_choosing.specs.Knowing.{all_names, AreNamed}
 use Rattle.zi_fetching.specs.Known.{names_of}
 use Rattle.zi_launching.specs.Launching.{LaunchesOver}
 use Rattle.zi_opening.specs.Opening.{GetsSelections}
@@ -36,7 +36,7 @@ module _ (file : List ℕ) (vars : List Var) (user : List (List ℕ)) (old new w
 
   -- The names in the stores weren't found out.
   pub unnamed_file : (sels : Selections) (shelf after : Shelving) (others thens : List Shelving) (spawner : Spawning) (outcome : Outcome) → GetsSelections file old (Ok sels) new
-      → IsKnown (shelf ∷ others) (after ∷ thens) (Err outcome) → Each (Keeps is_names) (shelf ∷ others) (after ∷ thens)
+      → AreNamed (shelf ∷ others) (after ∷ thens) (Err outcome) → Each (Keeps is_names) (shelf ∷ others) (after ∷ thens)
       → LaunchesFile file vars user (record { feeds = old; shelf = shelf; others = others; web = web; spawner = spawner; out = out }) (record { feeds = new; shelf = after; others = thens; web = web; spawner = spawner; out = out }) outcome
   unnamed_file sels shelf after others thens spawner outcome g n k = record {
     feeds = stay;
@@ -47,12 +47,12 @@ module _ (file : List ℕ) (vars : List Var) (user : List (List ℕ)) (old new w
   }
 
   -- The selections are launched.
-  pub opened_file : (sels : Selections) (known : Known) (shelf mid after : Shelving) (others thens ends : List Shelving) (spawner then : Spawning) (outcome : Outcome) → GetsSelections file old (Ok sels) new
-      → IsKnown (shelf ∷ others) (mid ∷ thens) (Ok known) → Each (Keeps is_names) (shelf ∷ others) (mid ∷ thens)
-      → LaunchesOver (record { sels = sels; each = known.each; stored = names_of (all_names known.each); vars = vars; user = user }) (record { stores = mid ∷ thens; spawner = spawner }) (record { stores = after ∷ ends; spawner = then }) outcome
+  pub opened_file : (sels : Selections) (each : List (List DigestName)) (shelf mid after : Shelving) (others thens ends : List Shelving) (spawner then : Spawning) (outcome : Outcome) → GetsSelections file old (Ok sels) new
+      → AreNamed (shelf ∷ others) (mid ∷ thens) (Ok each) → Each (Keeps is_names) (shelf ∷ others) (mid ∷ thens)
+      → LaunchesOver (record { sels = sels; each = each; stored = names_of (all_names each); vars = vars; user = user }) (record { stores = mid ∷ thens; spawner = spawner }) (record { stores = after ∷ ends; spawner = then }) outcome
       → Each (Keeps is_reading) (mid ∷ thens) (after ∷ ends)
       → LaunchesFile file vars user (record { feeds = old; shelf = shelf; others = others; web = web; spawner = spawner; out = out }) (record { feeds = new; shelf = after; others = ends; web = web; spawner = then; out = out }) outcome
-  opened_file sels known shelf mid after others thens ends spawner then outcome g n k launches reads = record {
+  opened_file sels each shelf mid after others thens ends spawner then outcome g n k launches reads = record {
     feeds = stay;
     web = refl;
     out = refl;
@@ -60,10 +60,10 @@ module _ (file : List ℕ) (vars : List Var) (user : List (List ℕ)) (old new w
       sels,
       g,
       inr (
-        known,
+        each,
         n.1,
         lift_over (shelf ∷ others) (mid ∷ thens) (after ∷ ends) (all_named (shelf ∷ others) (mid ∷ thens) n.0 k)
-            (record { sels = sels; each = known.each; stored = names_of (all_names known.each); vars = vars; user = user }) spawner then outcome launches,
+            (record { sels = sels; each = each; stored = names_of (all_names each); vars = vars; user = user }) spawner then outcome launches,
       ),
     );
     stores = reads_then (shelf ∷ others) (mid ∷ thens) (after ∷ ends) (all_only_read (shelf ∷ others) (mid ∷ thens) k) reads;

@@ -13,11 +13,11 @@ use Rattle.zi_text.specs.Count.{Rose}
 use Rattle.zi_shelf.specs.Told.{Told}
 use Rattle.zi_store.specs.Keeping.{Keeps, is_names, is_reading}
 use Rattle.zi_store.specs.Verdicts.{Verifies}
-use Rattle.zi_words.specs.declared.request.Ask.{Ask}
 use Rattle.zi_universe.specs.Loading.{names_of}
 use Rattle.zi_sels_laws.proofs.WholeLaws.{chosen_whole}
+use Rattle.zi_sels_laws.proofs.TreeLaws.{chosen_no_trees}
 use Rattle.zi_sels.specs.declared.types.Selection.{Selection}
-use Rattle.zi_plan.specs.Plans.{Plans}
+use Rattle.zi_plan.specs.Shims.{PlansWithoutShims}
 use Rattle.zi_plan.specs.declared.fault.PlanFault.{PlanFault}
 use Rattle.zi_adding.specs.Trying.{Tried, Adds}
 use Rattle.zi_adding.proofs.AddingLemmas.{adds_nothing}
@@ -25,8 +25,8 @@ use Rattle.zi_adding.proofs.HistoryLaws.{AreDone, calm_done, uses_gain, names_on
 use Rattle.zi_outcome.specs.declared.outcome.Outcome.{Outcome}
 use Rattle.zi_outcome.specs.declared.outcome.Outcome.TheVariants.{StoreFault}
 use Rattle.zi_choosing.specs.Wanted.{requirement_of}
+use Rattle.zi_choosing.specs.declared.asked.Asked.{Asked}
 use Rattle.zi_choosing.specs.declared.chosen.Chosen.{Chosen}
-use Rattle.zi_choosing.specs.Loaded.{no_packages}
 use Rattle.zi_choosing.specs.Knowing.{all_names}
 use Rattle.zi_choosing.specs.Finding.{FindsBest}
 use Rattle.zi_fetching.specs.Known.{Names, is_there}
@@ -101,7 +101,7 @@ module _ (before mid after : List Shelving) (r : Each Reaches before mid) where
   lift_plan : (task : Task) (result : Result Launch PlanFault) → IsPlan task mid result → IsPlan task before result
   lift_plan task result p = record {
     there = p.there;
-    plan = subst (λ path_of. Plans task.sels task.vars task.user (map (folder path_of task.stored) task.sels.items) result) (folders_stay task) p.plan;
+    plan = subst (λ path_of. PlansWithoutShims task.sels task.vars task.user (map (folder path_of task.stored) task.sels.items) result) (folders_stay task) p.plan;
   }
 
   lift_stops : (number : DigestName → ℕ) (names : List DigestName) (outcome : Outcome) → StopsVerifying number names mid outcome after → StopsVerifying number names before outcome after
@@ -126,8 +126,9 @@ module _ (before mid after : List Shelving) (r : Each Reaches before mid) where
 
   lift_exposed : (task : Task) (x : Selection) → IsExposed task mid after x → IsExposed task before after x
   lift_exposed task x (inl h) = inl h
-  lift_exposed task x (inr (d, tree, has, sound)) =
-      inr (d, tree, has, in_lift (λ b a. HeldThen b a (λ s. IsSound s d)) (λ b a. HeldThen b a (λ s. IsSound s d)) (λ b m a reach held. lift_held b m a (λ s. IsSound s d) reach held) (place task.each d) before mid after r sound)
+  lift_exposed task x (inr (inl h)) = inr (inl h)
+  lift_exposed task x (inr (inr (d, tree, has, sound))) =
+      inr (inr (d, tree, has, in_lift (λ b a. HeldThen b a (λ s. IsSound s d)) (λ b a. HeldThen b a (λ s. IsSound s d)) (λ b m a reach held. lift_held b m a (λ s. IsSound s d) reach held) (place task.each d) before mid after r sound))
 
   lift_ready : (task : Task) (launch : Launch) → IsReady task mid launch after → IsReady task before launch after
   lift_ready task launch y = record {
@@ -172,10 +173,10 @@ pub all_only_read : (before mid : List Shelving) → Each (Keeps is_names) befor
 all_only_read before mid k = each_by (Keeps is_names) (Keeps is_reading) (λ b a h. names_only_read b a h) before mid k
 
 -- Nothing was chosen.
-pub unfound_run : (ask : Ask) (vars : List Var) (user : List (List ℕ)) (old new : Feeding) (shelf mid : Shelving) (others thens : List Shelving) (web : Feeding) (spawner : Spawning) (out : Sinking) (outcome : Outcome)
-    → FindsBest ask (record { feeds = old; stores = shelf ∷ others }) (record { feeds = new; stores = mid ∷ thens }) (Err outcome)
-    → RunsProgram ask vars user (record { feeds = old; shelf = shelf; others = others; web = web; spawner = spawner; out = out }) (record { feeds = new; shelf = mid; others = thens; web = web; spawner = spawner; out = out }) outcome
-unfound_run ask vars user old new shelf mid others thens web spawner out outcome f =
+pub unfound_run : (asked : Asked) (vars : List Var) (user : List (List ℕ)) (old new : Feeding) (shelf mid : Shelving) (others thens : List Shelving) (web : Feeding) (spawner : Spawning) (out : Sinking) (outcome : Outcome)
+    → FindsBest asked (record { feeds = old; stores = shelf ∷ others }) (record { feeds = new; stores = mid ∷ thens }) (Err outcome)
+    → RunsProgram asked vars user (record { feeds = old; shelf = shelf; others = others; web = web; spawner = spawner; out = out }) (record { feeds = new; shelf = mid; others = thens; web = web; spawner = spawner; out = out }) outcome
+unfound_run asked vars user old new shelf mid others thens web spawner out outcome f =
     let u = used [] shelf mid mid f.stores.0 (adds_nothing mid) in
     record {
       feeds = f.feeds;
@@ -188,11 +189,11 @@ unfound_run ask vars user old new shelf mid others thens web spawner out outcome
       others = all_only_read others thens f.stores.1;
     }
 
-module _ (ask : Ask) (vars : List Var) (user : List (List ℕ)) (fed new : Feeding) (shelf mid : Shelving) (others thens : List Shelving) (c : Chosen)
-    (f : FindsBest ask (record { feeds = fed; stores = shelf ∷ others }) (record { feeds = new; stores = mid ∷ thens }) (Ok c)) where
+module _ (asked : Asked) (vars : List Var) (user : List (List ℕ)) (fed new : Feeding) (shelf mid : Shelving) (others thens : List Shelving) (c : Chosen)
+    (f : FindsBest asked (record { feeds = fed; stores = shelf ∷ others }) (record { feeds = new; stores = mid ∷ thens }) (Ok c)) where
   -- One of the selections wasn't fetched.
   pub unfetched_run : (web then : Feeding) (after : Shelving) (spawner : Spawning) (out : Sinking) (outcome : Outcome) → FetchesAll c (record { web = web; shelf = mid }) (Err outcome) (record { web = then; shelf = after })
-      → RunsProgram ask vars user (record { feeds = fed; shelf = shelf; others = others; web = web; spawner = spawner; out = out }) (record { feeds = new; shelf = after; others = thens; web = then; spawner = spawner; out = out }) outcome
+      → RunsProgram asked vars user (record { feeds = fed; shelf = shelf; others = others; web = web; spawner = spawner; out = out }) (record { feeds = new; shelf = after; others = thens; web = then; spawner = spawner; out = out }) outcome
   unfetched_run web then after spawner out outcome g =
       let u = used g.tried shelf mid after f.stores.0 g.adds in
       record {
@@ -200,7 +201,7 @@ module _ (ask : Ask) (vars : List Var) (user : List (List ℕ)) (fed new : Feedi
         web = web_stays c web (Err outcome) g.tried then g.fetches;
         out = refl;
         tried = g.tried;
-        comes = inr (c, chosen_so ask fed new shelf mid others thens c f, inl (record { fetches = g.fetches; cost = cost_so ask fed new shelf mid others thens c f g.tried after g.adds; calm = calm_so ask fed new shelf mid others thens c f; nothing = refl }));
+        comes = inr (c, chosen_so asked fed new shelf mid others thens c f, inl (record { fetches = g.fetches; cost = cost_so asked fed new shelf mid others thens c f g.tried after g.adds; calm = calm_so asked fed new shelf mid others thens c f; nothing = refl }));
         shelf = u;
         stored = uses_gain g.tried shelf after u;
         others = all_only_read others thens f.stores.1;
@@ -211,21 +212,22 @@ module _ (ask : Ask) (vars : List Var) (user : List (List ℕ)) (fed new : Feedi
       → FetchesAll c (record { web = web; shelf = mid }) (Ok stored) (record { web = then; shelf = now })
       → LaunchesOver (record { sels = c.sels; each = c.known.each; stored = stored; vars = vars; user = user }) (record { stores = now ∷ thens; spawner = old }) (record { stores = after ∷ ends; spawner = next }) outcome
       → Each (Keeps is_reading) (now ∷ thens) (after ∷ ends)
-      → RunsProgram ask vars user (record { feeds = fed; shelf = shelf; others = others; web = web; spawner = old; out = out }) (record { feeds = new; shelf = after; others = ends; web = then; spawner = next; out = out }) outcome
+      → RunsProgram asked vars user (record { feeds = fed; shelf = shelf; others = others; web = web; spawner = old; out = out }) (record { feeds = new; shelf = after; others = ends; web = then; spawner = next; out = out }) outcome
   fetched_run web then now after ends old next out stored outcome g launches k =
       let turn = g.fetches.in_turn in
       let done = turn_done (from_chosen c) c.sels.items (names_in c) web g.tried then turn in
-      let r : Each Reaches (shelf ∷ others) (now ∷ thens) = (reaches g.tried shelf mid now done f.answer.0.0.0 f.stores.0 g.adds, all_named others thens f.answer.0.0.1 f.stores.1) in
+      let r : Each Reaches (shelf ∷ others) (now ∷ thens) = (reaches g.tried shelf mid now done f.answer.1.0.0.0 f.stores.0 g.adds, all_named others thens f.answer.1.0.0.1 f.stores.1) in
       let u = reads_use g.tried shelf mid now after (names_only_read shelf mid f.stores.0) g.adds k.0 in
       let gains = uses_gain g.tried shelf after u in
       let read = reads_then others thens ends (all_only_read others thens f.stores.1) k.1 in
       let task : Task = record { sels = c.sels; each = c.known.each; stored = stored; vars = vars; user = user } in
       let over = lift_over (shelf ∷ others) (now ∷ thens) (after ∷ ends) r task old next outcome launches in
       let there = subst (λ n. All (λ x. is_there n x ≡ true) c.sels.items) (sym g.fetches.names) (turn_there (from_chosen c) c.sels.items (names_in c) web g.tried then turn) in
-      let missed = none_missing stored c.sels.items there in
       let placed = all_placed (tree_folder task (shelf ∷ others)) stored c.sels.items there in
-      let is = f.answer.1 in
-      let whole = chosen_whole (holding fed) (requirement_of ask) ask.policy (names_of (all_names c.known.each) no_packages) c.universe c.choice.picks c.sels is.loaded.loads is.best.valid is.selected in
+      let is = f.answer.2 in
+      let whole = chosen_whole (holding f.answer.0) (requirement_of asked.ask) asked.ask.policy (names_of (all_names c.known.each) c.known.packages) c.universe c.choice.picks c.sels is.loaded.loads is.best.valid is.selected in
+      let bare = chosen_no_trees (holding f.answer.0) (requirement_of asked.ask) asked.ask.policy (names_of (all_names c.known.each) c.known.packages) c.universe c.choice.picks c.sels is.loaded.loads is.best.valid is.selected in
+      let missed = none_missing stored c.sels.items bare there in
       record {
         feeds = f.feeds;
         web = web_stays c web (Ok stored) g.tried then g.fetches;
@@ -233,14 +235,14 @@ module _ (ask : Ask) (vars : List Var) (user : List (List ℕ)) (fed new : Feedi
         tried = g.tried;
         comes = inr (
           c,
-          chosen_so ask fed new shelf mid others thens c f,
+          chosen_so asked fed new shelf mid others thens c f,
           inr (record {
             stored = stored;
             fetched = g.fetches;
             there = missed;
             placed = placed;
             launches = over;
-            found = never_missing c web then stored g.tried shelf after others ends f.answer.0.1 g.fetches gains u.stays read task old next outcome refl refl missed over;
+            found = never_missing c web then stored g.tried shelf after others ends f.answer.1.0.1 g.fetches gains u.stays read task old next outcome refl refl missed over;
             whole = lacks_nothing task (shelf ∷ others) (after ∷ ends) old next outcome whole placed over;
           }),
         );

@@ -10,7 +10,7 @@ use Rattle.zi_store.specs.Stores.{Each, IsCalm}
 use Rattle.zi_sels.specs.declared.types.Selection.{Selection}
 use Rattle.zi_sels.specs.declared.types.Selections.{Selections}
 use Rattle.zi_plan.specs.declared.fault.PlanFault.{PlanFault}
-use Rattle.zi_plan.specs.Plans.{Plans}
+use Rattle.zi_plan.specs.Shims.{PlansWithoutShims}
 use Rattle.zi_outcome.specs.declared.outcome.Outcome.{Outcome}
 use Rattle.zi_outcome.specs.declared.outcome.Outcome.TheVariants.{Plan, SpawnFault, Child, Memory}
 use Rattle.zi_world.specs.Surroundings.{Surroundings}
@@ -42,17 +42,19 @@ launching s = record { stores = s.shelf ∷ s.others; spawner = s.spawner }
 abbrev pub tree_folder : Task → List Shelving → DigestName → List ℕ
 tree_folder task stores = stored_at stores (place task.each)
 
--- No tree is missing, and this is the plan of the launch, or why there is none, in the folders of the stores.
+-- No tree is missing, and this is the plan of the launch, or why there is none, in the folders of the stores. No shim is made: a binding that
+-- makes a command available isn't built.
 pub record IsPlan (task : Task) (stores : List Shelving) (result : Result Launch PlanFault) : Type 0 where
   pub there : first_missing task.stored task.sels.items ≡ None
-  pub plan : Plans task.sels task.vars task.user (map (folder (tree_folder task stores) task.stored) task.sels.items) result
+  pub plan : PlansWithoutShims task.sels task.vars task.user (map (folder (tree_folder task stores) task.stored) task.sels.items) result
 
--- what is selected has a path of its own, or the tree that stands for it, under one of its digests, is sound at the end
+-- What is selected is a package, which has no folder, or has a path of its own, or the tree that stands for it, under one of its digests, is
+-- sound at the end.
 abbrev pub IsExposed : Task → List Shelving → List Shelving → Selection → Type 0
 IsExposed task before after x =
-    IsSome x.local ⊎ ((d : DigestName) × (tree_of task.stored x ≡ Some d) × Contains x.digests d × SoundAt (place task.each) before after d)
+    IsSome x.«package» ⊎ (IsSome x.local ⊎ ((d : DigestName) × (tree_of task.stored x ≡ Some d) × Contains x.digests d × SoundAt (place task.each) before after d))
 
--- The launch is planned, no call of a store failed, and the folder of each selection is its path or that of a sound tree.
+-- The launch is planned, no call of a store failed, and the folder of each selection but a package is its path or that of a sound tree.
 pub record IsReady (task : Task) (before : List Shelving) (launch : Launch) (after : List Shelving) : Type 0 where
   pub planned : IsPlan task before (Ok launch)
   pub calm : Each IsCalm before after
@@ -97,4 +99,4 @@ LaunchesOver task before after outcome =
 -- there is no plan of the launch, and this is why, or memory was refused
 abbrev pub PlansNot : Selections → List Var → List (List ℕ) → List (Option (List ℕ)) → Outcome → Type 0
 PlansNot sels vars user folders outcome =
-    ((fault : PlanFault) × (outcome ≡ Plan fault) × Plans sels vars user folders (Err fault)) ⊎ (outcome ≡ Memory)
+    ((fault : PlanFault) × (outcome ≡ Plan fault) × PlansWithoutShims sels vars user folders (Err fault)) ⊎ (outcome ≡ Memory)

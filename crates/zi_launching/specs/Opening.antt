@@ -1,5 +1,6 @@
 -- `launch`: the selections of a document are launched.
 use Rattle.std.specs.Prelude.{◌≡◌, ◌⊎◌, ℕ, List, ◌∷◌, Ok, Err}
+use Rattle.zi_digest.specs.declared.DigestName.{DigestName}
 use Rattle.zi_outside.specs.declared.var.Var.{Var}
 use Rattle.zi_shelf.specs.Shelving.{Shelving}
 use Rattle.zi_store.specs.Keeping.{Keeps, is_names, is_reading}
@@ -10,8 +11,7 @@ use Rattle.zi_opening.specs.Opening.{GetsNot, GetsSelections}
 use Rattle.zi_world.specs.Asking.{FeedsStay}
 use Rattle.zi_world.specs.Surroundings.{Surroundings, NothingStarted}
 use Rattle.zi_world.specs.Shelves.{Untouched}
-use Rattle.zi_choosing.specs.declared.known.Known.{Known}
-use Rattle.zi_choosing.specs.Knowing.{all_names, IsKnown}
+use Rattle.zi_choosing.specs.Knowing.{all_names, AreNamed}
 use Rattle.zi_fetching.specs.Known.{names_of}
 use Rattle.zi_launching.specs.Launching.{launching, LaunchesOver}
 
@@ -27,9 +27,9 @@ pub record Leaves (before after : Surroundings) : Type 0 where
 -- Behind the document: the names in the stores aren't found out, and nothing else was asked of them; or over them the selections are launched.
 abbrev pub LaunchesRead : Selections → List Var → List (List ℕ) → Surroundings → Surroundings → Outcome → Type 0
 LaunchesRead sels vars user before after outcome =
-    (IsKnown (stores_of before) (stores_of after) (Err outcome) × Each (Keeps is_names) (stores_of before) (stores_of after) × NothingStarted before after)
-    ⊎ ((known : Known) × HaveNames (stores_of before) known.each
-    × LaunchesOver (record { sels = sels; each = known.each; stored = names_of (all_names known.each); vars = vars; user = user }) (launching before) (launching after) outcome)
+    (AreNamed (stores_of before) (stores_of after) (Err outcome) × Each (Keeps is_names) (stores_of before) (stores_of after) × NothingStarted before after)
+    ⊎ ((each : List (List DigestName)) × HaveNames (stores_of before) each
+    × LaunchesOver (record { sels = sels; each = each; stored = names_of (all_names each); vars = vars; user = user }) (launching before) (launching after) outcome)
 
 abbrev pub LaunchesTo : List ℕ → List Var → List (List ℕ) → Surroundings → Surroundings → Outcome → Type 0
 LaunchesTo file vars user before after outcome =

@@ -5,7 +5,6 @@ use Rattle.zi_shelf.specs.Shelving.{Shelving}
 use Rattle.zi_shelf.specs.Told.{Told}
 use Rattle.zi_store.specs.Keeping.{Keeps, is_reading}
 use Rattle.zi_store.specs.Stores.{Each, IsCalm}
-use Rattle.zi_words.specs.declared.request.Ask.{Ask}
 use Rattle.zi_adding.specs.Trying.{Tried, CostsAll}
 use Rattle.zi_adding.specs.Gains.{Uses, GainsOnly}
 use Rattle.zi_plan.specs.declared.fault.PlanFault.{PlanFault}
@@ -15,6 +14,7 @@ use Rattle.zi_outcome.specs.declared.outcome.Outcome.TheVariants.{MissingTree, P
 use Rattle.zi_world.specs.Asking.{FeedsStay}
 use Rattle.zi_world.specs.Surroundings.{Surroundings, meets_of, NothingStarted}
 use Rattle.zi_world.specs.Places.{AreTold, place}
+use Rattle.zi_choosing.specs.declared.asked.Asked.{Asked}
 use Rattle.zi_choosing.specs.declared.chosen.Chosen.{Chosen}
 use Rattle.zi_choosing.specs.Finding.{FindsOver}
 use Rattle.zi_fetching.specs.Known.{Names}
@@ -44,33 +44,33 @@ IsNoLack command other = Unit {0}
 abbrev pub LacksNothing : Option (List ℕ) → Outcome → Type 0
 LacksNothing command outcome = (fault : PlanFault) → outcome ≡ Plan fault → IsNoLack command fault
 
--- Or all are fetched, so none is missing a tree and each has a folder, and then they are launched, over the digest names that are stored
+-- Or all are fetched, so none is missing a tree and each but a package has a folder, and then they are launched, over the digest names that are stored
 -- then. Their plan fails by nothing that is missing, but where the words ask for no command; and while nobody else writes the store no tree
 -- is found missing when it is read.
 pub record FetchesAndLaunches (c : Chosen) (vars : List Var) (user : List (List ℕ)) (tried : List Tried) (before after : Surroundings) (outcome : Outcome) : Type 0 where
   pub stored : Names
   pub fetched : Fetches c before.web stored tried after.web
   pub there : first_missing stored c.sels.items ≡ None
-  pub placed : All (λ x. IsSome (folder (stored_at (launching before).stores (place c.known.each)) stored x)) c.sels.items
+  pub placed : All (λ x. IsSome x.«package» ⊎ IsSome (folder (stored_at (launching before).stores (place c.known.each)) stored x)) c.sels.items
   pub launches : LaunchesOver (record { sels = c.sels; each = c.known.each; stored = stored; vars = vars; user = user }) (launching before) (launching after) outcome
   pub found : NoneMissing (launching before).stores outcome
   pub whole : LacksNothing c.sels.command outcome
 
 -- how far it comes, to which outcome
-abbrev pub RunsTo : Ask → List Var → List (List ℕ) → List Tried → Surroundings → Surroundings → Outcome → Type 0
-RunsTo ask vars user tried before after outcome =
-    (FindsOver ask (sources (meets_of before)) (sources (meets_of after)) (Err outcome) × NothingFetched tried before.web after.web × NothingStarted before after)
-    ⊎ ((c : Chosen) × HasChosen ask (launching before).stores before.feeds c after.feeds
+abbrev pub RunsTo : Asked → List Var → List (List ℕ) → List Tried → Surroundings → Surroundings → Outcome → Type 0
+RunsTo asked vars user tried before after outcome =
+    (FindsOver asked (sources (meets_of before)) (sources (meets_of after)) (Err outcome) × NothingFetched tried before.web after.web × NothingStarted before after)
+    ⊎ ((c : Chosen) × HasChosen asked (launching before).stores before.feeds c after.feeds
     × (StopsBefore c tried before after outcome ⊎ FetchesAndLaunches c vars user tried before after outcome))
 
 -- Whatever the outcome, nothing is written, feeds and web hold what they held, the stored trees are as before but for those whose adding was
 -- begun, which was in the store that is written, and the other stores are only read.
-pub record RunsProgram (ask : Ask) (vars : List Var) (user : List (List ℕ)) (before after : Surroundings) (outcome : Outcome) : Type 0 where
+pub record RunsProgram (asked : Asked) (vars : List Var) (user : List (List ℕ)) (before after : Surroundings) (outcome : Outcome) : Type 0 where
   pub feeds : FeedsStay before.feeds after.feeds
   pub web : FeedsStay before.web after.web
   pub out : after.out ≡ before.out
   pub tried : List Tried
-  pub comes : RunsTo ask vars user tried before after outcome
+  pub comes : RunsTo asked vars user tried before after outcome
   pub shelf : Uses tried before.shelf after.shelf
   pub stored : GainsOnly tried before.shelf after.shelf
   pub others : Each (Keeps is_reading) before.others after.others

@@ -10,35 +10,36 @@ ghost use Rattle.zi_launching.specs.Opening.{LaunchesFile};
 
 use crate::launching::launch_over;
 use std::alloc::Global;
-use zi_choosing::{Known, known_of};
+use zi_choosing::find_names;
+use zi_digest::DigestName;
 use zi_fetching::Stored;
 use zi_opening::get_selections;
 use zi_outcome::Outcome;
 use zi_outside::{Feeds, Spawner, Vars};
 use zi_sels::Selections;
 use zi_shelf::Shelf;
-use zi_text::Text;
+use zi_text::{List, Text};
 
 // Launches selections over the digest names in the stores.
-fn launch_known<K: Shelf, R: Shelf, P: Spawner>(
+fn launch_named<K: Shelf, R: Shelf, P: Spawner>(
     alloc: Global,
     sels: &Selections,
-    known: &Known,
+    each: &List<List<DigestName>>,
     vars: &Vars,
     user: &[Text],
     shelf: &mut K,
     others: &mut [R],
     spawner: &mut P,
 ) -> Outcome
-    requires { length known.now.each ≡ length others.old + 1 }
-    ensures launches { LaunchesOver (record { sels = sels.now; each = known.now.each; stored = names_of (all_names known.now.each); vars = vars.now; user = user.now })
+    requires { length each.now ≡ length others.old + 1 }
+    ensures launches { LaunchesOver (record { sels = sels.now; each = each.now; stored = names_of (all_names each.now); vars = vars.now; user = user.now })
         (record { stores = K.seen shelf.old ∷ map R.seen others.old; spawner = P.seen spawner.old })
         (record { stores = K.seen shelf.new ∷ map R.seen others.new; spawner = P.seen spawner.new }) result }
     ensures keeps { Each (Keeps is_reading) (K.seen shelf.old ∷ map R.seen others.old) (K.seen shelf.new ∷ map R.seen others.new) }
 {
-    match Stored::of(alloc, known.each.as_slice()) {
+    match Stored::of(alloc, each.as_slice()) {
         Ok(stored) => launch_over(
-            alloc, sels, known, &stored, vars, user, shelf, others, spawner,
+            alloc, sels, each, &stored, vars, user, shelf, others, spawner,
         ),
         Err(_) => Outcome::Memory,
     }
@@ -64,8 +65,8 @@ pub fn launch<F: Feeds, K: Shelf, R: Shelf, P: Spawner>(
         Ok(sels) => sels,
         Err(outcome) => return outcome,
     };
-    match known_of(alloc, shelf, others) {
-        Ok(known) => launch_known(alloc, &sels, &known, vars, user, shelf, others, spawner),
+    match find_names(alloc, shelf, others) {
+        Ok(each) => launch_named(alloc, &sels, &each, vars, user, shelf, others, spawner),
         Err(outcome) => outcome,
     }
 }

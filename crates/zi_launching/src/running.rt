@@ -5,19 +5,18 @@ ghost use Rattle.zi_launching.specs.Run.{RunsProgram};
 
 use crate::launching::launch_over;
 use std::alloc::Global;
-use zi_choosing::find_best;
+use zi_choosing::{Asked, find_best};
 use zi_fetching::fetch_all;
 use zi_outcome::Outcome;
 use zi_outside::{Feeds, Spawner, Vars, Web};
 use zi_shelf::Shelf;
 use zi_text::Text;
-use zi_words::Ask;
 
 /// Finds the best choice as `select` does, fetches what it selects and no store has, and launches it with the user's words.
 /// Where the program ran the outcome is `Child` with its status; after every other outcome nothing was launched.
 pub fn run<F: Feeds, K: Shelf, R: Shelf, W: Web, P: Spawner>(
     alloc: Global,
-    ask: Ask,
+    asked: Asked,
     user: &[Text],
     vars: &Vars,
     feeds: &mut F,
@@ -26,12 +25,12 @@ pub fn run<F: Feeds, K: Shelf, R: Shelf, W: Web, P: Spawner>(
     web: &mut W,
     spawner: &mut P,
 ) -> Outcome
-    requires { ask.search ≤ 4000000000 }
-    ensures { (out : Sinking) → RunsProgram ask vars.now user.now
+    requires { asked.ask.search ≤ 4000000000 }
+    ensures { (out : Sinking) → RunsProgram asked vars.now user.now
         (record { feeds = F.seen feeds.old; shelf = K.seen shelf.old; others = map R.seen others.old; web = W.seen web.old; spawner = P.seen spawner.old; out = out })
         (record { feeds = F.seen feeds.new; shelf = K.seen shelf.new; others = map R.seen others.new; web = W.seen web.new; spawner = P.seen spawner.new; out = out }) result }
 {
-    let chosen = match find_best(alloc, ask, feeds, shelf, others) {
+    let chosen = match find_best(alloc, asked, feeds, shelf, others) {
         Ok(chosen) => chosen,
         Err(outcome) => return outcome,
     };
@@ -40,7 +39,7 @@ pub fn run<F: Feeds, K: Shelf, R: Shelf, W: Web, P: Spawner>(
         Ok(stored) => launch_over(
             alloc,
             &chosen.sels,
-            &chosen.known,
+            &chosen.known.each,
             &stored,
             vars,
             user,

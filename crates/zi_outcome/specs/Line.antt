@@ -5,7 +5,7 @@ use Rattle.zi_outside.specs.Views.{Sinking}
 use Rattle.zi_outside.specs.Outside.{Writes, WritesFront}
 use Rattle.zi_outcome.specs.Writing.{StopsShort}
 use Rattle.zi_outcome.specs.declared.outcome.Outcome.{Outcome}
-use Rattle.zi_outcome.specs.declared.outcome.Outcome.TheVariants.{Done, Usage, FeedRead, NoRootFeed, BadFeed, FeedTooLong, TooManyFeeds, TooManyInterfaces, TooManyCandidates, TooLarge, NoSolution, Spent, NoFile, BadSels, BadProof, Rejected, Plan, FetchRead, NoRemote, WrongSize, Overlap, NoPath, Mismatch, MissingTree, DamagedTree, BadName, TreeTooLarge, StoreFault, Crowded, SpawnFault, SinkFault, Memory, Child}
+use Rattle.zi_outcome.specs.declared.outcome.Outcome.TheVariants.{Done, Usage, FeedRead, NoRootFeed, BadFeed, FeedTooLong, TooManyFeeds, TooManyInterfaces, TooManyCandidates, TooLarge, NoSolution, Spent, NoFile, BadSels, BadProof, Rejected, Plan, FetchRead, NoRemote, WrongSize, Overlap, NoPath, Mismatch, MissingTree, DamagedTree, BadName, TreeTooLarge, StoreFault, Crowded, SpawnFault, SinkFault, Memory, BadPackages, NotInstalled, Child}
 use Rattle.zi_universe.specs.declared.fault.BadFeed.{BadFeed as Fault}
 use Rattle.zi_universe.specs.declared.fault.BadFeed.TheVariants as bad
 use Rattle.zi_tree.specs.declared.change.TreeLimit.{TreeLimit}
@@ -82,6 +82,8 @@ text_of (Crowded tried) = decimal tried ++ codes " temporary names taken"
 text_of SpawnFault = codes "cannot start the program"
 text_of SinkFault = codes "cannot write"
 text_of Memory = codes "out of memory"
+text_of (BadPackages line) = codes "bad package table at line " ++ decimal line
+text_of (NotInstalled name) = name ++ codes " is not installed"
 text_of (Child status) = []
 
 abbrev pub line_of : Outcome → List ℕ
@@ -122,6 +124,8 @@ code_of (Crowded tried) = 91
 code_of SpawnFault = 92
 code_of SinkFault = 93
 code_of Memory = 94
+code_of (BadPackages line) = 96
+code_of (NotInstalled name) = 97
 code_of (Child status) = status
 
 -- The line of how the work ended is told: whole, and that is the outcome; or err fails at a front of it, and that is the outcome

@@ -285,6 +285,15 @@ pub fn tell<E: Sink>(outcome: &Outcome, err: &mut E) -> Result<(), SinkFault>
         Outcome::SpawnFault => put_piece(b"zi: cannot start the program\n", err),
         Outcome::SinkFault => put_piece(b"zi: cannot write\n", err),
         Outcome::Memory => put_piece(b"zi: out of memory\n", err),
+        Outcome::BadPackages { line } => {
+            put_around(b"zi: bad package table at line ", *line, b"\n", err)
+        }
+        Outcome::NotInstalled { package } => put_name(
+            b"zi: ",
+            package,
+            b" is not installed\n",
+            err,
+        ),
         Outcome::Child { .. } => Ok(()),
     }
 }

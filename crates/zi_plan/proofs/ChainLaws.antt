@@ -18,13 +18,13 @@ use Rattle.zi_text.proofs.ListLaws.{bytes_itself}
 
 -- The command that is wanted, by its checks.
 module _ (ps : List Placed) (a : Asked) (p : Placed) (c : Command) (there : placed_for ps a.interface ≡ Some p) (named : command_for ps a ≡ Some c) where
-  link_checked : (o : Option PlanFault) → command_fault c ≡ o → link_of a (placed_for ps a.interface) ≡ checked_link a p c o
+  link_checked : (o : Option PlanFault) → command_fault p.folder c ≡ o → link_of a (placed_for ps a.interface) ≡ checked_link a p c o
   link_checked o h = ap (link_of a) there ∙ ap (link_in a p) (ap (command_in a) (sym there) ∙ named) ∙ ap (checked_link a p c) h
 
-  pub link_refused : (e : PlanFault) → UnlessMemory e (command_fault c ≡ Some e) → UnlessMemory e (link_of a (placed_for ps a.interface) ≡ Err e)
+  pub link_refused : (e : PlanFault) → UnlessMemory e (command_fault p.folder c ≡ Some e) → UnlessMemory e (link_of a (placed_for ps a.interface) ≡ Err e)
   link_refused e h = unless_memory e (λ f. link_checked (Some e) f) h
 
-  pub link_found : command_fault c ≡ None → link_of a (placed_for ps a.interface) ≡ Ok (record { interface = a.interface; folder = p.folder; command = c })
+  pub link_found : command_fault p.folder c ≡ None → link_of a (placed_for ps a.interface) ≡ Ok (record { interface = a.interface; folder = p.folder; command = c })
   link_found h = link_checked None h
 
 -- no command of a name is selected

@@ -1,7 +1,11 @@
 pub mod BindingLaws
+pub mod NextLaws
 pub mod PlacedLaws
 pub mod TableLaws
 pub mod ChainLaws
 pub mod WordLaws
 pub mod LeadsLaws
 pub mod PlanLaws
+pub mod CallLaws
+pub mod FaultLaws
+pub mod BareLaws

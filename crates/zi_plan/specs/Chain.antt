@@ -1,7 +1,7 @@
 -- The chain of runners: the command that is to be run, the command that runs it, and so on (the Zero Install feed format,
 -- "Commands").
-use Rattle.std.specs.Prelude.{◌≡◌, ℕ, Bool, ◌&&◌, List, [], ◌∷◌, find, bytes_eq, codes, Option, Some, None, Result, Ok, Err, unwrap_or, option_map, if◌then◌else◌}
-use Rattle.std.specs.List.{list_any}
+use Rattle.std.specs.Prelude.{◌≡◌, ℕ, Bool, ◌&&◌, List, [], ◌∷◌, find, bytes_eq, nat_eq, codes, Option, Some, None, Result, Ok, Err, unwrap_or, option_map, if◌then◌else◌}
+use Rattle.std.specs.List.{list_any, starts_with}
 use Rattle.std.specs.Option.{option_or}
 use Rattle.zi_reading.specs.Words.{first}
 use Rattle.zi_reading.specs.Forms.{is_path}
@@ -27,29 +27,34 @@ is_met met asked = list_any (λ a. is_same a asked) met
 abbrev pub command_of : List Command → List ℕ → Option Command
 command_of commands name = find (λ k. bytes_eq k.name name) commands
 
--- one command of the chain, the interface that it is of, and the folder of what is selected for that
+-- one command of the chain, the interface that it is of, and the folder of what is selected for that, which a package doesn't have
 pub record Link : Type 0 where
   pub interface : List ℕ
-  pub folder : List ℕ
+  pub folder : Option (List ℕ)
   pub command : Command
 
--- why a command can't stand in the chain: it has a part that isn't built, or its path is no relative path with a part
-abbrev pub path_fault : Option (List ℕ) → Option PlanFault
-path_fault None = None
-path_fault (Some text) = if is_path text then None else Some (fault.BadPath text)
+-- the path of a command is a relative path with a part; that of a package, which has no folder, begins with `/`
+abbrev pub is_path_in : Option (List ℕ) → List ℕ → Bool
+is_path_in (Some folder) text = is_path text
+is_path_in None text = starts_with nat_eq text (codes "/")
 
-abbrev pub command_fault : Command → Option PlanFault
-command_fault command = option_or (option_map (λ element. fault.Unbuilt element) command.unbuilt) (path_fault command.path)
+-- why a command can't stand in the chain: it has a part that isn't built, or its path isn't right
+abbrev pub path_fault : Option (List ℕ) → Option (List ℕ) → Option PlanFault
+path_fault folder None = None
+path_fault folder (Some text) = if is_path_in folder text then None else Some (fault.BadPath text)
+
+abbrev pub command_fault : Option (List ℕ) → Command → Option PlanFault
+command_fault folder command = option_or (option_map (λ element. fault.Unbuilt element) command.unbuilt) (path_fault folder command.path)
 
 -- The command that is asked for, or the first check on it that fails: it isn't in the chain yet, its interface is selected, it is
--- a command of that selection, each part of it is built, and its path is a relative path with a part.
+-- a command of that selection, each part of it is built, and its path is right.
 abbrev pub checked_link : Asked → Placed → Command → Option PlanFault → Result Link PlanFault
 checked_link asked placed command None = Ok (record { interface = asked.interface; folder = placed.folder; command = command })
 checked_link asked placed command (Some reason) = Err reason
 
 abbrev pub link_in : Asked → Placed → Option Command → Result Link PlanFault
 link_in asked placed None = Err (fault.NoCommand asked.interface asked.command)
-link_in asked placed (Some command) = checked_link asked placed command (command_fault command)
+link_in asked placed (Some command) = checked_link asked placed command (command_fault placed.folder command)
 
 abbrev pub link_of : Asked → Option Placed → Result Link PlanFault
 link_of asked None = Err (fault.NoSelection asked.interface)

@@ -1,9 +1,10 @@
 //! The chain of runners is followed.
-ghost use Rattle.std.specs.Prelude.{◌≡◌, [], ◌∷◌, ◌++◌, map, IfOk, OnOk, unwrap_or, codes};
+ghost use Rattle.std.specs.Prelude.{◌≡◌, [], ◌∷◌, ◌++◌, map, IfOk, OnOk, unwrap_or, option_copied, nat_eq, codes};
+ghost use Rattle.std.specs.List.{starts_with};
 ghost use Rattle.zi_reading.specs.Words.{first};
 ghost use Rattle.zi_reading.specs.Forms.{is_path};
 ghost use Rattle.zi_plan.specs.Placed.{placed_for};
-ghost use Rattle.zi_plan.specs.Chain.{Leads, path_fault, command_fault, asked_by, last_fault, link_at, link_of};
+ghost use Rattle.zi_plan.specs.Chain.{Leads, is_path_in, path_fault, command_fault, asked_by, last_fault, link_at, link_of};
 ghost use Rattle.zi_plan.specs.Plans.{Tells};
 ghost use Rattle.zi_plan.specs.Steps.{Checks, Says, seen_ok, wanted_seen, link_seen, has, IsMetToo};
 
@@ -15,11 +16,11 @@ use zi_parts::{Command, Runner};
 use zi_text::{Memory, Text};
 use zi_tree::RelPath;
 
-/// A command of the chain, with the interface that it is of and the folder of what is selected for that.
+/// A command of the chain, with the interface that it is of and the folder of what is selected for that, which a package doesn't have.
 #[derive(Clone, Copy)]
 pub struct Linked<'a> {
     pub interface: &'a str,
-    pub folder: &'a Text,
+    pub folder: Option<&'a Text>,
     pub command: &'a Command,
 }
 
@@ -54,14 +55,32 @@ fn is_path(alloc: Global, text: &str) -> Result<bool, Memory>
     }
 }
 
-// A path is a relative path with a part.
-fn check_path(alloc: Global, path: &Option<Text>) -> Result<(), PlanFault>
-    ensures { Checks (path_fault path.now) result }
+// Whether a text begins with `/`.
+#[tactic(auto, using(std::proofs::lemmas::Str::Pattern::starts_text))]
+fn is_whole_path(text: &str) -> bool
+    ensures { result ≡ starts_with nat_eq text.now (codes "/") }
+{
+    text.starts_with("/")
+}
+
+// Whether a path is right: in a folder, or, where there is none, as it is.
+fn is_path_in(alloc: Global, folder: Option<&Text>, text: &str) -> Result<bool, Memory>
+    ensures { IfOk result (λ is. is ≡ is_path_in (option_copied folder.entry) text.now) }
+{
+    match folder {
+        Some(_) => is_path(alloc, text),
+        None => Ok(is_whole_path(text)),
+    }
+}
+
+// A path is right.
+fn check_path(alloc: Global, folder: Option<&Text>, path: &Option<Text>) -> Result<(), PlanFault>
+    ensures { Checks (path_fault (option_copied folder.entry) path.now) result }
 {
     let Some(text) = path else {
         return Ok(());
     };
-    if is_path(alloc, text.as_str())? {
+    if is_path_in(alloc, folder, text.as_str())? {
         Ok(())
     } else {
         Err(PlanFault::BadPath {
@@ -71,14 +90,14 @@ fn check_path(alloc: Global, path: &Option<Text>) -> Result<(), PlanFault>
 }
 
 // A command can stand in the chain.
-fn check_command(alloc: Global, command: &Command) -> Result<(), PlanFault>
-    ensures { Checks (command_fault command.now) result }
+fn check_command(alloc: Global, folder: Option<&Text>, command: &Command) -> Result<(), PlanFault>
+    ensures { Checks (command_fault (option_copied folder.entry) command.now) result }
 {
     match &command.unbuilt {
         Some(element) => Err(PlanFault::Unbuilt {
             element: element.copy(alloc)?,
         }),
-        None => check_path(alloc, &command.path),
+        None => check_path(alloc, folder, &command.path),
     }
 }
 
@@ -97,7 +116,7 @@ fn link<'a>(alloc: Global, table: &Table<'a>, wanted: Wanted<'a>) -> Result<Link
             command: Text::from_str(alloc, wanted.command)?,
         });
     };
-    check_command(alloc, command)?;
+    check_command(alloc, x.folder, command)?;
     Ok(Linked {
         interface: wanted.interface,
         folder: x.folder,

@@ -1,11 +1,13 @@
 //! The words of a chain.
-ghost use Rattle.std.specs.Prelude.{◌≡◌, ◌++◌, map, OnOk};
+ghost use Rattle.std.specs.Prelude.{◌≡◌, [], ◌∷◌, ◌++◌, Some, map, option_copied, IfOk, OnOk};
 ghost use Rattle.zi_outside.specs.Vars.{value_of};
 ghost use Rattle.zi_bind.specs.Answers.{Answers, Adds};
 ghost use Rattle.zi_bind.specs.Expansion.{expanded};
 ghost use Rattle.zi_plan.specs.Launches.{args, runner_args, path_text, link_words, chain_words, spoken_all};
-ghost use Rattle.zi_plan.specs.Steps.{link_seen};
+ghost use Rattle.zi_plan.specs.Plans.{said};
+ghost use Rattle.zi_plan.specs.Steps.{Says, link_seen};
 
+use crate::PlanFault;
 use crate::chain::Linked;
 use std::alloc::Global;
 use zi_bind::{BindFault, expand};
@@ -65,22 +67,32 @@ fn put_runner_args(
     }
 }
 
-// Adds a path in a folder, where there is one.
-fn put_path(
-    alloc: Global,
-    folder: &Text,
-    path: &Option<Text>,
-    out: &mut List<Text>,
-) -> Result<(), Memory>
-    ensures { OnOk result (out.new ≡ out.old ++ path_text folder.now path.now) }
+// A path in a folder, or as it is where there is none.
+fn path_in(alloc: Global, folder: Option<&Text>, path: &Text) -> Result<Text, Memory>
+    ensures { IfOk result (λ text. text ∷ [] ≡ path_text (option_copied folder.entry) (Some path.now)) }
 {
-    let Some(path) = path else {
-        return Ok(());
+    let Some(folder) = folder else {
+        return path.copy(alloc);
     };
     let mut text = folder.copy(alloc)?;
     text.push_str("/")?;
     text.push_str(path.as_str())?;
-    out.push(text)
+    Ok(text)
+}
+
+// Adds a path, where there is one.
+fn put_path(
+    alloc: Global,
+    folder: Option<&Text>,
+    path: &Option<Text>,
+    out: &mut List<Text>,
+) -> Result<(), Memory>
+    ensures { OnOk result (out.new ≡ out.old ++ path_text (option_copied folder.entry) path.now) }
+{
+    match path {
+        Some(path) => out.push(path_in(alloc, folder, path)?),
+        None => Ok(()),
+    }
 }
 
 // Adds the words of a command of a chain.
@@ -97,12 +109,8 @@ fn put_link(
     put_args(alloc, link.command.words.as_slice(), vars, out)
 }
 
-/// What the words of a chain stand for: those of what runs a command come before its own.
-pub fn chain_words(
-    alloc: Global,
-    links: &[Linked<'_>],
-    vars: &Vars,
-) -> Result<List<Text>, BindFault>
+// What the words of a chain stand for: those of what runs a command come before its own.
+fn chain_words(alloc: Global, links: &[Linked<'_>], vars: &Vars) -> Result<List<Text>, BindFault>
     ensures { Answers (spoken_all (value_of vars.now) (chain_words (map link_seen links.now))) result }
 {
     let mut out = List::new(alloc);
@@ -117,12 +125,30 @@ pub fn chain_words(
     Ok(out)
 }
 
-/// Adds the user's words as they stand.
-pub fn put_user(alloc: Global, user: &[Text], out: &mut List<Text>) -> Result<(), Memory>
+// Adds the user's words as they stand.
+fn put_user(alloc: Global, user: &[Text], out: &mut List<Text>) -> Result<(), Memory>
     ensures { OnOk result (out.new ≡ out.old ++ user.now) }
 {
     for word in user {
         out.push(word.copy(alloc)?)?;
     }
     Ok(())
+}
+
+/// The words of a chain, and then the user's.
+pub fn words(
+    alloc: Global,
+    links: &[Linked<'_>],
+    vars: &Vars,
+    user: &[Text],
+) -> Result<List<Text>, PlanFault>
+    ensures { Says (said user.now (spoken_all (value_of vars.now) (chain_words (map link_seen links.now)))) result }
+{
+    let mut out = match chain_words(alloc, links, vars) {
+        Ok(out) => out,
+        Err(BindFault::Memory) => return Err(PlanFault::Memory),
+        Err(fault) => return Err(PlanFault::Bind(fault)),
+    };
+    put_user(alloc, user, &mut out)?;
+    Ok(out)
 }

@@ -2,7 +2,8 @@
 use Rattle.std.proofs.Common.{◌≡◌, ℕ, zero, suc, ◌<◌, ◌≤◌, ◌+◌, ◌-◌, ◌*◌, Bool, true, false, cond, List, [], ◌∷◌, ◌++◌, length, length-append, map, take, get_or, set, refl, sym, ap, ◌∙◌, subst, arith, Option, Some, None, ◌⊎◌, inl, inr, All}
 use Rattle.std.specs.List.{slice_get}
 use Rattle.std.proofs.lemmas.Bool.{false≢true}
-use Rattle.std.proofs.lemmas.List.{get_or_append_left, get_or_push}
+use Rattle.std.proofs.lemmas.List.{get_or_append_left, get_or_push, take_more}
+use Rattle.std.proofs.Math.Seq.{take-length}
 use Rattle.std.proofs.lemmas.Option.{slice_get_within, get_or_from_slice_get}
 use Rattle.zi_formula.specs.declared.formula.Lit.{Lit}
 use Rattle.zi_formula.specs.declared.formula.Constraint.{Constraint}
@@ -214,6 +215,19 @@ fitting_more w v f ms ns m ls e g r a h =
     let same : citable f.constraints ms ++ Clause ls ∷ [] ≡ citable f.constraints ns = ap (λ x. citable f.constraints ms ++ Clause x ∷ []) g ∙ (sym (citable_push f.constraints ms m) ∙ ap (citable f.constraints) (sym e)) in
     let n : length ns ≡ length ms + 1 = omega (arith, ap length e, length-append ms (m ∷ [])) in
     (subst (AllHeld v) same held, omega (arith, n, h.1, added_len w v (Clause ls) a), omega (arith, h.2, r))
+
+-- one lemma after another
+
+pub fitting_none : (w : Lists) (f : Formula) (ms : List Lemma) → Fitting w f [] → Fitting w f (take 0 ms)
+fitting_none w f [] h = h
+fitting_none w f (m ∷ ms) h = h
+
+pub fitting_next : (w v : Lists) (f : Formula) (ms : List Lemma) (i : ℕ) (d : Lemma) (ls : List Lit) → i < length ms → ls ≡ (get_or ms i d).lits → length v.rows ≡ length w.rows → Adds w v (Clause ls) → Fitting w f (take i ms) → Fitting v f (take (i + 1) ms)
+fitting_next w v f ms i d ls low g r a h =
+    fitting_more w v f (take i ms) (take (i + 1) ms) (get_or ms i d) ls (take_more ms i d low) g r a h
+
+pub fitting_all : (w : Lists) (f : Formula) (ms : List Lemma) (i : ℕ) → i ≡ length ms → Fitting w f (take i ms) → Fitting w f ms
+fitting_all w f ms i e h = subst (Fitting w f) (ap (λ n. take n ms) e ∙ take-length ms) h
 
 pub filled_at : (ms : List Lemma) (i : ℕ) (d : Lemma) → Filled ms → i < length ms → Once (get_or ms i d).lits
 filled_at [] i d f h = absurd (omega arith)

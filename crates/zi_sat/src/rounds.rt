@@ -2,7 +2,7 @@
 //! Each round ends with a lemma more, so there are no more rounds than the budget has lemmas, and one.
 //! What is promised of the trail and the log holds after every answer.
 
-ghost use Rattle.std.specs.Prelude.{◌≡◌, ◌≤◌, ◌<◌, ◌+◌, ◌-◌, ◌^◌, ◌++◌, ◌∷◌, [], length, true, drop, IfOk, IfNone, MatchOption, slice_index_or};
+ghost use Rattle.std.specs.Prelude.{◌≡◌, ◌≤◌, ◌<◌, ◌+◌, ◌-◌, ◌^◌, ◌++◌, ◌∷◌, [], length, true, drop, IfOk, IfNone, IfSome, MatchOption, slice_index_or};
 ghost use Rattle.zi_formula.specs.Form.{Within};
 ghost use Rattle.zi_sat.specs.Chain.{Grown};
 ghost use Rattle.zi_proof.specs.Known.{Contradiction, nothing};
@@ -14,7 +14,7 @@ ghost use Rattle.zi_sat.specs.declared.entry.Why.TheVariants.{Decision};
 ghost use Rattle.zi_sat.specs.Moves.{Lawful, decisions_in};
 ghost use Rattle.zi_sat.specs.Fresh.{Filled, FreshAfter, Hushed};
 ghost use Rattle.zi_formula.specs.Form.{OnceAll};
-ghost use Rattle.zi_sat.specs.Ends.{Ends, Ended};
+ghost use Rattle.zi_sat.specs.Ends.{Ends, Ended, Longer, MayGoOn};
 
 use crate::analysis::{learn, learn_all};
 use crate::decider::{Decider, advance};
@@ -74,6 +74,8 @@ pub(crate) fn resolve<D: Decider>(
     ensures filled { IfOk result (λ r. IfNone r (Filled proof.new.lemmas)) }
     ensures hushed { IfOk result (λ r. IfNone r (Hushed (citable f.now.constraints proof.new.lemmas) nothing t.new.entries)) }
     ensures grown { IfOk result (λ r. IfNone r (Grown proof.old.lemmas proof.new.lemmas t.old.entries t.new.entries)) }
+    ensures longer { Longer proof.old.lemmas proof.new.lemmas }
+    ensures goes_on { IfOk result (λ r. IfSome r (λ found. MayGoOn proof.new.lemmas budget found)) }
     ensures end { IfOk result (λ r. MatchOption r ((length proof.new.lemmas ≡ length proof.old.lemmas + 1) × (length proof.new.lemmas ≤ budget)) (λ found. Ends f.now proof.new.lemmas t.new.entries budget found)) }
 {
     t.are_new();
@@ -93,7 +95,7 @@ pub(crate) fn resolve<D: Decider>(
     }
 }
 
-// Searches for a model, from an empty trail and an empty log.
+// Searches for a model, from an empty trail, with the lemmas of the log.
 pub(crate) fn seek<D: Decider>(
     alloc: Global,
     f: &Formula,
@@ -107,8 +109,12 @@ pub(crate) fn seek<D: Decider>(
     requires needs { D.needs d.old ≤ f.now.variables }
     requires taken { D.taken d.old ≡ [] }
     requires once { OnceAll f.now.constraints }
-    requires empty_trail { t.old.entries ≡ [] }
-    requires empty_log { proof.old.lemmas ≡ [] }
+    requires empty { t.old.entries ≡ [] }
+    requires bound { length proof.old.lemmas ≤ budget }
+    requires log { follows f.now proof.old.lemmas ≡ true }
+    requires fresh { FreshAfter f.now.constraints [] proof.old.lemmas }
+    requires lean { AreLean f.now.constraints proof.old.lemmas }
+    requires filled { Filled proof.old.lemmas }
     requires few { length f.now.constraints + budget < 2 ^ 32 - 1 }
     ensures variables { t.new.variables ≡ t.old.variables }
     ensures rule { D.chooses d.new ≡ D.chooses d.old }
@@ -117,9 +123,12 @@ pub(crate) fn seek<D: Decider>(
     ensures fresh { FreshAfter f.now.constraints [] proof.new.lemmas }
     ensures lean { AreLean f.now.constraints proof.new.lemmas }
     ensures lawful { Lawful (citable f.now.constraints proof.new.lemmas) f.now.constraints (D.chooses d.old f.now.variables) t.new.entries }
+    ensures longer { Longer proof.old.lemmas proof.new.lemmas }
+    ensures goes_on { IfOk result (MayGoOn proof.new.lemmas budget) }
     ensures end { Ended f.now proof.new.lemmas t.new.entries budget result }
 {
-    let mut w = watch_all(alloc, f)?;
+    let learned = proof.lemmas.as_slice();
+    let mut w = watch_all(alloc, f, learned)?;
     let mut marked = Marks::with_variables(alloc, t.variables())?;
     loop {
         let hint = match advance(&mut w, f, proof.lemmas.as_slice(), t, d)? {

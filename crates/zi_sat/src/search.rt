@@ -22,14 +22,18 @@ pub struct Search<'f> {
 
 impl<'f> Model for Search<'f> {
     ghost use Rattle.std.specs.Prelude.{◌≡◌};
+    ghost use Rattle.std.specs.Prelude.{true};
     ghost use Rattle.zi_formula.specs.Form.{WellFormed};
+    ghost use Rattle.zi_proof.specs.Accepted.{follows};
+    ghost use Rattle.zi_proof.specs.Lean.{AreLean};
+    ghost use Rattle.zi_sat.specs.Fresh.{AreFresh};
     ghost use Rattle.zi_sat.specs.View.{SearchSeen};
 
     ghost Value = { SearchSeen };
 
     ghost view = { λ s. record { formula = s.formula.now; trail = s.trail; log = s.log } };
 
-    ghost invariant = { λ s. WellFormed s.formula.now × (s.trail.variables ≡ s.formula.now.variables) };
+    ghost invariant = { λ s. WellFormed s.formula.now × (s.trail.variables ≡ s.formula.now.variables) × (follows s.formula.now s.log.lemmas ≡ true) × AreFresh s.formula.now.constraints s.log.lemmas × AreLean s.formula.now.constraints s.log.lemmas };
 }
 
 impl<'f> Search<'f> {
@@ -39,9 +43,9 @@ impl<'f> Search<'f> {
     ghost use Rattle.zi_proof.specs.Accepted.{citable, follows};
     ghost use Rattle.zi_proof.specs.Lean.{AreLean};
     ghost use Rattle.zi_sat.specs.Moves.{Lawful};
-    ghost use Rattle.zi_sat.specs.Fresh.{AreFresh};
+    ghost use Rattle.zi_sat.specs.Fresh.{AreFresh, Filled};
     ghost use Rattle.zi_sat.specs.Entries.{HaveReasons, AreImplied};
-    ghost use Rattle.zi_sat.specs.Ends.{Ended};
+    ghost use Rattle.zi_sat.specs.Ends.{Ended, Longer, MayGoOn};
 
     /// A search that has made no step yet.
     pub fn new(alloc: Global, f: &'f Formula) -> Result<Search<'f>, Memory>
@@ -86,7 +90,9 @@ impl<'f> Search<'f> {
         log
     }
 
-    /// Searches for a model, from no decision on, and learns at most `budget` lemmas that have a literal.
+    /// Searches for a model, from no decision on, with the lemmas that the log has, and learns until it has `budget` lemmas that
+    /// have a literal. Unless the formula is refuted or memory is refused it may be called again, also with another decider: the log goes
+    /// on from where it is, and keeps the lemmas that it had.
     ///
     /// After every answer, want of memory too: the lemmas of the log follow, are fresh and lean; each decision on the trail was
     /// the decider's pick on the trail before it, on which no constraint of the formula has more to say; each other
@@ -101,7 +107,8 @@ impl<'f> Search<'f> {
         d: &mut D,
         budget: u64,
     ) -> Result<Found, Memory>
-        requires empty_log { self.old.log.lemmas ≡ [] }
+        requires bound { length self.old.log.lemmas ≤ budget }
+        requires filled { Filled self.old.log.lemmas }
         requires needs { D.needs d.old ≤ self.old.formula.variables }
         requires taken { D.taken d.old ≡ [] }
         requires few { length self.old.formula.constraints + budget < 2 ^ 32 - 1 }
@@ -114,6 +121,8 @@ impl<'f> Search<'f> {
         ensures moves { Lawful (citable self.old.formula.constraints self.new.log.lemmas) self.old.formula.constraints (D.chooses d.old self.old.formula.variables) self.new.trail.entries }
         ensures reasons { HaveReasons (citable self.old.formula.constraints self.new.log.lemmas) self.old.formula.constraints (D.chooses d.old self.old.formula.variables) nothing self.new.trail.entries }
         ensures implied { AreImplied self.old.formula [] self.new.trail.entries }
+        ensures longer { Longer self.old.log.lemmas self.new.log.lemmas }
+        ensures goes_on { IfOk result (MayGoOn self.new.log.lemmas budget) }
         ensures end { Ended self.old.formula self.new.log.lemmas self.new.trail.entries budget result }
     {
         self.trail.truncate(0);

@@ -421,7 +421,7 @@ fn add_constraint(w: &mut Watches, n: u32, c: Lent<'_>) -> Result<(), Memory>
 }
 
 // Adds the constraints of a formula.
-pub(crate) fn watch_all(alloc: Global, f: &Formula) -> Result<Watches, Memory>
+fn watch_constraints(alloc: Global, f: &Formula) -> Result<Watches, Memory>
     requires within { Within f.now }
     requires once { OnceAll f.now.constraints }
     requires few { length f.now.constraints < 2 ^ 32 }
@@ -431,6 +431,23 @@ pub(crate) fn watch_all(alloc: Global, f: &Formula) -> Result<Watches, Memory>
     let mut w = no_watches(alloc, f.variables)?;
     for i in 0..f.constraints.len() {
         add_constraint(&mut w, f.variables, f.constraints.at(i))?;
+    }
+    Ok(w)
+}
+
+// Adds the constraints of a formula, and the lemmas of a log.
+pub(crate) fn watch_all(alloc: Global, f: &Formula, lemmas: &[Lemma]) -> Result<Watches, Memory>
+    requires within { Within f.now }
+    requires once { OnceAll f.now.constraints }
+    requires earlier { lemmas_within f.now.variables lemmas.now ≡ true }
+    requires filled { Filled lemmas.now }
+    requires few { length f.now.constraints + length lemmas.now < 2 ^ 32 }
+    ensures fitting { IfOk result (λ w. Fitting w f.now lemmas.now) }
+    ensures seen { IfOk result (λ w. w.seen ≡ 0) }
+{
+    let mut w = watch_constraints(alloc, f)?;
+    for i in 0..lemmas.len() {
+        add_clause(&mut w, f.variables, lemmas[i].lits.as_slice())?;
     }
     Ok(w)
 }

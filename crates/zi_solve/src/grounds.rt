@@ -199,8 +199,8 @@ impl Grounds {
     }
 }
 
-// Whether a variable is true.
-fn is_true(t: &Trail, x: u32) -> bool {
+/// Whether a variable is true; none is that the trail hasn't.
+pub(crate) fn is_true(t: &Trail, x: u32) -> bool {
     if x == 0 || x > t.variables() {
         return false;
     }

@@ -15,9 +15,14 @@
 mod answer;
 mod blocks;
 mod cutting;
+mod faces;
 mod grounds;
 pub mod laws;
+mod learner;
+mod pace;
 mod replaying;
+mod scores;
+mod seeking;
 mod solving;
 
 pub use answer::Answer;

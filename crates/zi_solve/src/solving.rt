@@ -8,6 +8,7 @@ ghost use Rattle.zi_solve.specs.Answers.{AnswerMeans, IsFound, HasEnded, IsCerti
 use crate::answer::Answer;
 use crate::blocks::{Making, blocks_of};
 use crate::cutting::cut;
+use crate::seeking::seek;
 use std::alloc::Global;
 use zi_build::{BuildFault, build};
 use zi_choice::{Choice, Names, trace_picks};
@@ -17,7 +18,7 @@ use zi_proof::{Block, Certificate, Marks, Proof};
 use zi_sat::{Found, Search, Trail};
 use zi_text::{List, Memory};
 use zi_universe::{Requirement, Universe};
-use zi_walk::{Walk, so_far};
+use zi_walk::so_far;
 
 /// The choice of a trail, with the blocks that show it the best.
 #[derive(Drop)]
@@ -60,28 +61,6 @@ fn chosen_of(
         choice: Choice { picks: kept },
         blocks,
     })
-}
-
-// Searches by the walk's decider.
-fn seek(
-    alloc: Global,
-    u: &Universe,
-    req: &Requirement,
-    search: &mut Search,
-    budget: u64,
-) -> Result<Found, Memory>
-    requires rooted { BeginsWith u.now req.now.interface }
-    requires formula { search.old.formula ≡ formula u.now req.now }
-    requires few { literals (formula u.now req.now).constraints ≤ most_literals }
-    requires empty_log { search.old.log.lemmas ≡ [] }
-    requires budget { budget ≤ 4000000000 }
-    ensures formula { search.new.formula ≡ search.old.formula }
-    ensures end { IfOk result (λ found. HasEnded u.now req.now budget search.new found) }
-{
-    let mut walk = Walk::new(alloc, u, req)?;
-    let found = search.run(alloc, &mut walk, budget)?;
-    search.trail().are_new();
-    Ok(found)
 }
 
 /// The best choice of a universe for a requirement, by a search that learns at most `budget` lemmas that have a literal.

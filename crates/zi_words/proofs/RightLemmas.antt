@@ -26,14 +26,15 @@ right_none [] e = short (Asks Right) [] begins (λ (r, h). h)
 right_none (w ∷ ws) e = absurd (omega arith)
 
 -- a word that is that of no command that loads feeds
-pub by_loaders : (w : Word) → w ≢ codes "select" → w ≢ codes "download" → w ≢ codes "run" → w ≢ codes "check" → w ≢ codes "refute" → w ≢ codes "why"
+pub by_loaders : (w : Word) → w ≢ codes "select" → w ≢ codes "download" → w ≢ codes "run" → w ≢ codes "check" → w ≢ codes "refute" → w ≢ codes "why" → w ≢ codes "conflict"
     → (l : Loader) → w ≢ loader_word l
-by_loaders w ns nd nu nc nr nw loader.Select = ns
-by_loaders w ns nd nu nc nr nw loader.Download = nd
-by_loaders w ns nd nu nc nr nw loader.Run = nu
-by_loaders w ns nd nu nc nr nw loader.Check = nc
-by_loaders w ns nd nu nc nr nw loader.Refute = nr
-by_loaders w ns nd nu nc nr nw loader.Why = nw
+by_loaders w ns nd nu nc nr nw nf loader.Select = ns
+by_loaders w ns nd nu nc nr nw nf loader.Download = nd
+by_loaders w ns nd nu nc nr nw nf loader.Run = nu
+by_loaders w ns nd nu nc nr nw nf loader.Check = nc
+by_loaders w ns nd nu nc nr nw nf loader.Refute = nr
+by_loaders w ns nd nu nc nr nw nf loader.Why = nw
+by_loaders w ns nd nu nc nr nw nf loader.Conflict = nf
 
 pub right_unknown : (ws rest : List Word) (w : Word) → ws ≡ w ∷ rest → ((l : Loader) → w ≢ loader_word l) → w ≢ codes "manifest" → w ≢ codes "store" → w ≢ codes "demo" → w ≢ codes "launch" → w ≢ codes "--help" → w ≢ codes "--version"
     → LeftAt (Asks Right) ws (length ws)
@@ -59,6 +60,7 @@ loader_at w =
     else if bytes_eq w (loader_word loader.Check) then Some loader.Check
     else if bytes_eq w (loader_word loader.Refute) then Some loader.Refute
     else if bytes_eq w (loader_word loader.Why) then Some loader.Why
+    else if bytes_eq w (loader_word loader.Conflict) then Some loader.Conflict
     else None
 
 at_word : (l : Loader) → loader_at (loader_word l) ≡ Some l
@@ -69,6 +71,7 @@ at_word loader.Run = refl
 at_word loader.Check = refl
 at_word loader.Refute = refl
 at_word loader.Why = refl
+at_word loader.Conflict = refl
 
 same_loader : (l m : Loader) → loader_word l ≡ loader_word m → l ≡ m
 same_loader l m e = let f : Some l ≡ Some m = sym (at_word l) ∙ (ap loader_at e ∙ at_word m) in cc

@@ -75,6 +75,7 @@ IsWithin (request.Run ask user) = ask.search ≤ most_lemmas
 IsWithin (request.Check ask sels proof) = ask.search ≤ most_lemmas
 IsWithin (request.Refute ask proof) = ask.search ≤ most_lemmas
 IsWithin (request.Why ask) = ask.search ≤ most_lemmas
+IsWithin (request.Conflict ask) = ask.search ≤ most_lemmas
 IsWithin (request.Demo n) = (1 ≤ n) × (n ≤ 1000)
 IsWithin other = Unit {0}
 
@@ -85,6 +86,7 @@ of_loader loader.Run ask proof named h = h
 of_loader loader.Check ask proof named h = h
 of_loader loader.Refute ask proof named h = h
 of_loader loader.Why ask proof named h = h
+of_loader loader.Conflict ask proof named h = h
 
 pub is_within : (ws : List Word) (r : Request) → Right ws r → IsWithin r
 is_within [] r h = absurd h

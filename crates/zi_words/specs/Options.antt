@@ -48,6 +48,8 @@ has_option loader.Refute kind.Proof = false
 has_option loader.Refute k = true
 has_option loader.Why kind.Proof = false
 has_option loader.Why k = true
+has_option loader.Conflict kind.Proof = false
+has_option loader.Conflict k = true
 
 -- its arguments
 abbrev pub forms : Kind → List Form

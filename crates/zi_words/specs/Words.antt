@@ -27,6 +27,7 @@ loader_word loader.Run = codes "run"
 loader_word loader.Check = codes "check"
 loader_word loader.Refute = codes "refute"
 loader_word loader.Why = codes "why"
+loader_word loader.Conflict = codes "conflict"
 
 -- how many words it has behind the root, at least
 abbrev pub count_of : Loader → ℕ
@@ -36,6 +37,7 @@ count_of loader.Run = 0
 count_of loader.Check = 2
 count_of loader.Refute = 1
 count_of loader.Why = 0
+count_of loader.Conflict = 0
 
 -- any number of words may follow those: they are the program's
 abbrev pub takes_more : Loader → Bool
@@ -45,6 +47,7 @@ takes_more loader.Run = true
 takes_more loader.Check = false
 takes_more loader.Refute = false
 takes_more loader.Why = false
+takes_more loader.Conflict = false
 
 -- so many words are as many as these, or where more may follow at least as many
 abbrev pub AreMany : Bool → ℕ → ℕ → Type 0
@@ -63,6 +66,7 @@ request_of loader.Run ask proof named = request.Run ask named
 request_of loader.Check ask proof named = request.Check ask (first named) (second named)
 request_of loader.Refute ask proof named = request.Refute ask (first named)
 request_of loader.Why ask proof named = request.Why ask
+request_of loader.Conflict ask proof named = request.Conflict ask
 
 abbrev pub asking : Loader → Word → List Word → Asked → Request
 asking l root named a = request_of l (ask_of root a) a.proof named

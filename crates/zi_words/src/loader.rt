@@ -19,6 +19,8 @@ pub enum Loader {
     Refute,
     /// `why [options] ROOT`.
     Why,
+    /// `conflict [options] ROOT`.
+    Conflict,
 }
 
 impl Loader {
@@ -28,11 +30,15 @@ impl Loader {
     {
         match self {
             Loader::Select => true,
-            Loader::Download | Loader::Run | Loader::Check | Loader::Refute | Loader::Why =>
-                match kind {
-                    Kind::Proof => false,
-                    _ => true,
-                },
+            Loader::Download
+            | Loader::Run
+            | Loader::Check
+            | Loader::Refute
+            | Loader::Why
+            | Loader::Conflict => match kind {
+                Kind::Proof => false,
+                _ => true,
+            },
         }
     }
 
@@ -48,7 +54,7 @@ impl Loader {
         ensures { result ≡ count_of self }
     {
         match self {
-            Loader::Select | Loader::Download | Loader::Run | Loader::Why => 0,
+            Loader::Select | Loader::Download | Loader::Run | Loader::Why | Loader::Conflict => 0,
             Loader::Refute => 1,
             Loader::Check => 2,
         }

@@ -188,6 +188,7 @@ fn request(
         Loader::Select => Ok(Request::Select { ask, proof }),
         Loader::Download => Ok(Request::Download { ask }),
         Loader::Why => Ok(Request::Why { ask }),
+        Loader::Conflict => Ok(Request::Conflict { ask }),
         Loader::Run => {
             let user = copied(alloc, named)?;
             Ok(Request::Run { ask, user })

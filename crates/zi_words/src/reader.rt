@@ -28,6 +28,7 @@ fn request(alloc: Global, words: &[Text]) -> Result<Request, Refusal>
         "check" => loading(alloc, Loader::Check, behind),
         "refute" => loading(alloc, Loader::Refute, behind),
         "why" => loading(alloc, Loader::Why, behind),
+        "conflict" => loading(alloc, Loader::Conflict, behind),
         "manifest" => manifest(alloc, behind),
         "store" => store(alloc, behind),
         "demo" => demo(behind),
@@ -43,7 +44,7 @@ impl Request {
     ///
     /// Right words are `select [options] ROOT`, `download [options] ROOT`, `run [options] ROOT WORDS..`,
     /// `launch FILE WORDS..`, `check [options] ROOT SELS PROOF`, `refute [options] ROOT PROOF`, `why [options] ROOT`,
-    /// `manifest ALG NAME`, `store add NAME FILE..`, `store verify NAME`, `store list`,
+    /// `conflict [options] ROOT`, `manifest ALG NAME`, `store add NAME FILE..`, `store verify NAME`, `store list`,
     /// `store purge FILE..` with one FILE or more, `demo N`, and `--help` or `--version` alone. The options and what each sets are
     /// in `Kind`; they come before ROOT, and `--` may end them. A word that looks like an option is a value where a value stands,
     /// and a FILE of `store purge`. All words behind ROOT of `run` and behind FILE of `launch` are the program's, whatever they

@@ -47,6 +47,8 @@ pub enum Request {
     Refute { ask: Ask, proof: Text },
     /// `why`: why each candidate that the best choice passes over isn't chosen.
     Why { ask: Ask },
+    /// `conflict`: what in the feeds leaves no choice.
+    Conflict { ask: Ask },
     /// `manifest`: the manifest and the digest of a tree in the store, under its name there.
     Manifest { algorithm: Algorithm, name: Text },
     /// `store add`: these files as a tree of the store with this digest.

@@ -1,4 +1,5 @@
 pub mod AskingLemmas
+pub mod FilesLemmas
 pub mod ShelvesLemmas
 pub mod CallLemmas
 pub mod PlacesLemmas

@@ -1,5 +1,6 @@
 pub mod Shelves
 pub mod Asking
+pub mod Files
 pub mod World
 pub mod Meets
 pub mod StoreRead

@@ -1,4 +1,6 @@
-use Rattle.std.proofs.Common.{arith}
+use Rattle.std.proofs.Common.{List, length, sym, ap, subst, arith}
+use Rattle.zi_proof.specs.declared.proof.Lemma.{Lemma}
+use Rattle.zi_sat.specs.Fresh.{Filled}
 use Rattle.zi_solve.proofs.EndLaws.{needed, nothing_taken, few_constraints}
 use Rattle.choice_rows.proofs.deciding.run_walk.Goals as goal
 
@@ -9,6 +11,12 @@ run-requires-clause-needs c =
 pub run-requires-clause-taken : goal.run-requires-clause-taken
 run-requires-clause-taken c =
     nothing_taken c.args.universe.now c.args.req.now c.args.search.now.formula c.requires.formula c.in_ok-walk.walk c.in_ok-walk.ensures
+
+pub run-requires-clause-bound : goal.run-requires-clause-bound
+run-requires-clause-bound c = omega (arith, ap length c.requires.empty_log)
+
+pub run-requires-clause-filled : goal.run-requires-clause-filled
+run-requires-clause-filled c = subst (λ (ms : List Lemma). Filled ms) (sym c.requires.empty_log) tt
 
 pub run-requires-clause-few : goal.run-requires-clause-few
 run-requires-clause-few c =

@@ -13,7 +13,7 @@ returns-in-Ok-load g c =
     let mid = g.F.Feeds.seen c.load.new.feeds in
     over_loaded (record { feeds = old; out = g.O.Sink.seen c.args.out.now }) (record { feeds = mid; out = g.O.Sink.seen c.count_best.new.out }) c.in-Ok.job.req c.in-Ok-load.universe
     c.count_best.result c.in-Ok.ensures.req
-    (loaded_as none_known c.nothing-packages.result demo_ask c.in-Ok.job.req c.in-Ok.job.policy old mid c.in-Ok-load.universe c.nothing-packages.ensures c.in-Ok.ensures.req c.in-Ok.ensures.policy c.in-Ok-load.ensures.loads)
+    (loaded_as none_known demo_ask c.in-Ok.job.req c.in-Ok.job.policy old mid c.in-Ok-load.universe c.in-Ok.ensures.req c.in-Ok.ensures.policy (rw c.nothing-packages.ensures at c.in-Ok-load.ensures.loads))
     c.count_best.ensures
 
 pub returns : goal.returns
@@ -22,4 +22,4 @@ returns g c =
     let mid = g.F.Feeds.seen c.load.new.feeds in
     let out = g.O.Sink.seen c.args.out.now in
     over_refused (record { feeds = old; out = out }) (record { feeds = mid; out = out }) c.in-Err.fault c.refused.result
-    (refused_as none_known c.nothing-packages.result demo_ask c.in-Ok.job.req c.in-Ok.job.policy old mid c.in-Err.fault c.nothing-packages.ensures c.in-Ok.ensures.req c.in-Ok.ensures.policy c.in-Err.ensures.refuses) refl c.refused.ensures
+    (refused_as none_known demo_ask c.in-Ok.job.req c.in-Ok.job.policy old mid c.in-Err.fault c.in-Ok.ensures.req c.in-Ok.ensures.policy (rw c.nothing-packages.ensures at c.in-Err.ensures.refuses)) refl c.refused.ensures

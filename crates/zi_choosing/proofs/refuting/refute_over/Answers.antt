@@ -1,6 +1,5 @@
 use Rattle.std.proofs.Common.{refl}
 use Rattle.zi_world.proofs.AskingLemmas.{asks_stay, feeds_same}
-use Rattle.zi_choosing.specs.Loaded.{no_packages}
 use Rattle.zi_choosing.proofs.LoadedLemmas.{loaded_as, refused_as}
 use Rattle.zi_choosing.proofs.RefuteLemmas.{refuted, refused_over, no_task, stays_over}
 use Rattle.zi_choosing.proofs.refuting.refute_over.Goals as goal
@@ -20,7 +19,7 @@ returns-in-Ok-load_over g c =
       over =
           refuted c.args.ask c.args.name c.args.known.now c.in-Ok.job.req (record { feeds = old; out = out }) (record { feeds = g.F.Feeds.seen c.check_file.new.feeds; out = g.O.Sink.seen c.check_file.new.out }) mid
           c.in-Ok-load_over.universe c.check_file.result c.in-Ok.ensures.req
-          (loaded_as c.args.known.now no_packages c.args.ask c.in-Ok.job.req c.in-Ok.job.policy old mid c.in-Ok-load_over.universe refl c.in-Ok.ensures.req c.in-Ok.ensures.policy c.in-Ok-load_over.ensures.loads)
+          (loaded_as c.args.known.now c.args.ask c.in-Ok.job.req c.in-Ok.job.policy old mid c.in-Ok-load_over.universe c.in-Ok.ensures.req c.in-Ok.ensures.policy c.in-Ok-load_over.ensures.loads)
           c.check_file.ensures;
       feeds =
           stays_over c.in-Ok.job.req c.in-Ok-load_over.universe c.args.name old (record { feeds = mid; out = out }) (record { feeds = g.F.Feeds.seen c.check_file.new.feeds; out = g.O.Sink.seen c.check_file.new.out }) c.check_file.result
@@ -35,7 +34,7 @@ returns-in-Err g c =
     record {
       over =
           refused_over c.args.ask c.args.name c.args.known.now (record { feeds = old; out = out }) (record { feeds = mid; out = out }) c.in-Err.fault c.refused.result
-          (refused_as c.args.known.now no_packages c.args.ask c.in-Ok.job.req c.in-Ok.job.policy old mid c.in-Err.fault refl c.in-Ok.ensures.req c.in-Ok.ensures.policy c.in-Err.ensures.refuses)
+          (refused_as c.args.known.now c.args.ask c.in-Ok.job.req c.in-Ok.job.policy old mid c.in-Err.fault c.in-Ok.ensures.req c.in-Ok.ensures.policy c.in-Err.ensures.refuses)
           refl c.refused.ensures;
       feeds = asks_stay _ old mid c.in-Err.ensures.refuses.asks;
     }

@@ -8,6 +8,7 @@ use Rattle.zi_sat.proofs.FewLaws.{log_few}
 use Rattle.zi_sat.proofs.EndLaws.{no_model_here, lawful_grown, lawful_back, some_entry}
 use Rattle.zi_sat.proofs.ChainLaws.{chained}
 use Rattle.zi_sat.proofs.LearnLaws.{learned_follows, learned_lean, learned_fresh, learned_filled, learned_hushed, learned_cut, refuted_follows, refuted_lean, refuted_fresh, refuted_proves}
+use Rattle.zi_sat.proofs.BehindLaws.{longer_none, longer_same, longer_one}
 use Rattle.zi_sat.proofs.rounds.resolve.Goals as goal
 
 pub learn_all-requires-clause-earlier : goal.learn_all-requires-clause-earlier
@@ -84,3 +85,24 @@ returns-in_ok-keep-in-Some-clause-grown g c =
       added = l.added;
       cut = learned_cut (citable c.args.f.now.constraints c.args.proof.now.lemmas) c.args.proof.now.lemmas c.learn.new.proof.lemmas c.args.t.now.entries c.truncate.new.self.entries c.in-Some.start c.in_ok-keep-in-Some.keep c.are_new.ensures.undecided c.in-Some.ensures.0 l c.truncate.ensures.entries;
     }
+
+pub returns-then-len-budget-clause-longer : goal.returns-then-len-budget-clause-longer
+returns-then-len-budget-clause-longer g c = longer_none c.args.proof.now.lemmas
+
+pub returns-in_ok-learn_all-in-None-clause-longer : goal.returns-in_ok-learn_all-in-None-clause-longer
+returns-in_ok-learn_all-in-None-clause-longer g c =
+    let l = c.in_ok-learn_all-in-None.ensures.ok in
+    longer_one c.args.proof.now.lemmas c.learn_all.new.proof.lemmas (lesson l.marked (lits_of c.args.t.now.entries) l.hints) l.added
+
+pub returns-in_ok-keep-in-Some-clause-longer : goal.returns-in_ok-keep-in-Some-clause-longer
+returns-in_ok-keep-in-Some-clause-longer g c =
+    let l = c.in_ok-keep-in-Some.ensures.ok in
+    longer_one c.args.proof.now.lemmas c.learn.new.proof.lemmas (lesson l.marked (lits_of c.args.t.now.entries) l.hints) l.added
+
+pub returns-in_err-learn_all-in-None-clause-longer : goal.returns-in_err-learn_all-in-None-clause-longer
+returns-in_err-learn_all-in-None-clause-longer g c =
+    longer_same c.args.proof.now.lemmas c.learn_all.new.proof.lemmas c.in_err-learn_all-in-None.ensures.err
+
+pub returns-in_err-keep-in-Some-clause-longer : goal.returns-in_err-keep-in-Some-clause-longer
+returns-in_err-keep-in-Some-clause-longer g c =
+    longer_same c.args.proof.now.lemmas c.learn.new.proof.lemmas c.in_err-keep-in-Some.ensures.err

@@ -1,21 +1,21 @@
-use Rattle.std.proofs.Common.{rules, refl, true, ◌≡◌, ◌∙◌, ◌-◌, map, [], length, get_or, sym, ap, subst}
+use Rattle.std.proofs.Common.{rules, arith, refl, true, ◌≡◌, ◌∙◌, ◌-◌, map, [], length, get_or, sym, ap, subst}
 use Rattle.zi_formula.specs.Form.{OnceAll}
 use Rattle.zi_proof.specs.Accepted.{citable}
 use Rattle.zi_sat.specs.Moves.{Lawful, Added}
-use Rattle.zi_sat.specs.Guard.{Adds, Steady, Ready}
+use Rattle.zi_sat.specs.Guard.{Adds, Fitting, Steady, Ready}
 use Rattle.zi_sat.proofs.AddLaws.{once_citable, last_is, ready_start}
 use Rattle.zi_sat.proofs.CutLaws.{steady_same, ready_again}
 use Rattle.zi_sat.proofs.MoveLaws.{lawful_added}
 use Rattle.zi_sat.proofs.FreshLaws.{hushed_added}
 use Rattle.zi_sat.specs.Chain.{Spoke}
-use Rattle.zi_sat.specs.Fresh.{Hushed}
+use Rattle.zi_sat.specs.Fresh.{Filled, Hushed}
 use Rattle.zi_proof.specs.Known.{nothing}
 use Rattle.zi_formula.specs.declared.formula.Constraint.TheVariants.{Clause}
 use Rattle.zi_proof.specs.Accepted.{lemma_clause, lemmas_within}
 use Rattle.zi_proof.proofs.Cites.{follows_within}
 use Rattle.zi_sat.specs.Trail.{known_from}
 use Rattle.zi_sat.proofs.CiteLaws.{silent_front}
-use Rattle.zi_sat.proofs.BehindLaws.{behind_none, behind_more}
+use Rattle.zi_sat.proofs.BehindLaws.{behind_none, behind_more, longer_none, longer_more}
 use Rattle.zi_sat.proofs.EndLaws.{all_model}
 use Rattle.zi_sat.proofs.rounds.seek.Goals as goal
 
@@ -44,7 +44,19 @@ advance-requires-clause-ready g c =
 
 pub loop-marked-init : goal.loop-marked-init
 loop-marked-init g c =
-    (refl, refl, refl, search rules, search rules, search rules, search rules, search rules, search rules, search rules, subst (λ ms. Ready c.in_ok-w.w c.args.f.now ms c.args.t.now.entries) (sym c.requires.empty_log) (ready_start c.in_ok-w.w c.args.f.now [] c.args.t.now.entries c.requires.empty_trail c.in_ok-w.ensures.fitting c.in_ok-w.ensures.seen), search rules, behind_none _ c.args.t.now.entries c.requires.taken)
+    let fitting : Fitting c.in_ok-w.w c.args.f.now c.args.proof.now.lemmas = subst (Fitting c.in_ok-w.w c.args.f.now) c.as_slice-learned.ensures c.in_ok-w.ensures.fitting in
+    (refl, refl, refl, c.requires.bound, c.requires.log, search rules, c.requires.lean, c.requires.filled, c.requires.fresh, search rules, ready_start c.in_ok-w.w c.args.f.now c.args.proof.now.lemmas c.args.t.now.entries c.requires.empty fitting c.in_ok-w.ensures.seen, search rules, behind_none _ c.args.t.now.entries c.requires.taken, longer_none c.args.proof.now.lemmas)
+
+pub watch_all-requires-clause-earlier : goal.watch_all-requires-clause-earlier
+watch_all-requires-clause-earlier g c =
+    rw c.as_slice-learned.ensures (follows_within c.args.f.now [] c.args.proof.now.lemmas c.requires.log)
+
+pub watch_all-requires-clause-filled : goal.watch_all-requires-clause-filled
+watch_all-requires-clause-filled g c = subst Filled (sym c.as_slice-learned.ensures) c.requires.filled
+
+pub watch_all-requires-clause-few : goal.watch_all-requires-clause-few
+watch_all-requires-clause-few g c =
+    omega (arith, ap length c.as_slice-learned.ensures, c.requires.bound, c.requires.few)
 
 pub go_back-requires : goal.go_back-requires
 go_back-requires g c =
@@ -69,7 +81,7 @@ loop-marked-preserved g c =
     let added : Added (citable c.args.f.now.constraints c.resolve.new.proof.lemmas) c.resolve.new.t.entries c.say_last.new.t.entries = subst (λ xs. Added (citable c.args.f.now.constraints xs) c.resolve.new.t.entries c.say_last.new.t.entries) c.as_slice-in-loop-marked-2.ensures c.say_last.ensures.added in
     let spoke : Spoke c.resolve.new.t.entries c.say_last.new.t.entries grown.lemma.lits = subst (Spoke c.resolve.new.t.entries c.say_last.new.t.entries) last-2 (c.in_ok-say_last.ensures.spoke grown.lemma) in
     let lawful : Lawful (citable c.args.f.now.constraints c.resolve.new.proof.lemmas) c.args.f.now.constraints (g.D.Decider.chooses c.args.d.now c.args.f.now.variables) c.resolve.new.t.entries = subst (λ ch. Lawful (citable c.args.f.now.constraints c.resolve.new.proof.lemmas) c.args.f.now.constraints (ch c.args.f.now.variables) c.resolve.new.t.entries) rule c.resolve.ensures.lawful in
-    (c.say_last.ensures.variables ∙ (c.resolve.ensures.variables ∙ (c.advance.ensures.variables ∙ i.0)), c.go_back.ensures.rule ∙ rule, c.go_back.ensures.same ∙ (c.advance.ensures.needed ∙ i.2), (rw c.in_default.is at c.in_ok-found.ensures.end).1, c.resolve.ensures.log, lawful_added (citable c.args.f.now.constraints c.resolve.new.proof.lemmas) c.args.f.now.constraints (g.D.Decider.chooses c.args.d.now c.args.f.now.variables) c.resolve.new.t.entries c.say_last.new.t.entries lawful added, c.resolve.ensures.lean, rw c.in_default.is at c.in_ok-found.ensures.filled, c.resolve.ensures.fresh, hushed_added (citable c.args.f.now.constraints c.resolve.new.proof.lemmas) (citable c.args.f.now.constraints c.resolve.new.proof.lemmas) c.resolve.new.t.entries c.say_last.new.t.entries (rw c.in_default.is at c.in_ok-found.ensures.hushed) added, ready_again c.cut_to.new.w c.watch_last.new.w c.args.f.now c.loop-marked.proof.lemmas c.resolve.new.proof.lemmas grown.lemma grown.lemma.lits c.advance.new.t.entries c.resolve.new.t.entries c.say_last.new.t.entries spoke.0 steady hush c.are_new.ensures.undecided grown.added refl grown.cut c.watch_last.ensures.len adds (c.watch_last.ensures.seen ∙ (c.cut_to.ensures.seen ∙ c.len.ensures)) added (spoke.1 grown.cut.speaks.front grown.cut.speaks.last grown.cut.speaks.lits), search rules, behind_more _ c.resolve.new.t.entries c.say_last.new.t.entries _ c.go_back.ensures.behind added.1)
+    (c.say_last.ensures.variables ∙ (c.resolve.ensures.variables ∙ (c.advance.ensures.variables ∙ i.0)), c.go_back.ensures.rule ∙ rule, c.go_back.ensures.same ∙ (c.advance.ensures.needed ∙ i.2), (rw c.in_default.is at c.in_ok-found.ensures.end).1, c.resolve.ensures.log, lawful_added (citable c.args.f.now.constraints c.resolve.new.proof.lemmas) c.args.f.now.constraints (g.D.Decider.chooses c.args.d.now c.args.f.now.variables) c.resolve.new.t.entries c.say_last.new.t.entries lawful added, c.resolve.ensures.lean, rw c.in_default.is at c.in_ok-found.ensures.filled, c.resolve.ensures.fresh, hushed_added (citable c.args.f.now.constraints c.resolve.new.proof.lemmas) (citable c.args.f.now.constraints c.resolve.new.proof.lemmas) c.resolve.new.t.entries c.say_last.new.t.entries (rw c.in_default.is at c.in_ok-found.ensures.hushed) added, ready_again c.cut_to.new.w c.watch_last.new.w c.args.f.now c.loop-marked.proof.lemmas c.resolve.new.proof.lemmas grown.lemma grown.lemma.lits c.advance.new.t.entries c.resolve.new.t.entries c.say_last.new.t.entries spoke.0 steady hush c.are_new.ensures.undecided grown.added refl grown.cut c.watch_last.ensures.len adds (c.watch_last.ensures.seen ∙ (c.cut_to.ensures.seen ∙ c.len.ensures)) added (spoke.1 grown.cut.speaks.front grown.cut.speaks.last grown.cut.speaks.lits), search rules, behind_more _ c.resolve.new.t.entries c.say_last.new.t.entries _ c.go_back.ensures.behind added.1, longer_more c.args.proof.now.lemmas ms ns i.13 c.resolve.ensures.longer)
 
 pub say_last-requires-clause-within : goal.say_last-requires-clause-within
 say_last-requires-clause-within g c =

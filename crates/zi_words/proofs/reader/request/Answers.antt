@@ -1,5 +1,5 @@
 use Rattle.std.proofs.Common.{sym, ◌∙◌}
-use Rattle.zi_words.specs.declared.loader.Loader.TheVariants.{Select, Download, Run, Check, Refute, Why}
+use Rattle.zi_words.specs.declared.loader.Loader.TheVariants.{Select, Download, Run, Check, Refute, Why, Conflict}
 use Rattle.zi_words.proofs.RightLemmas.{right_none, by_loaders, right_unknown, right_loading, right_manifest, right_store, right_demo, right_launch, right_help, right_version}
 use Rattle.zi_words.proofs.reader.request.Goals as goal
 
@@ -32,6 +32,11 @@ pub returns-in-why : goal.returns-in-why
 returns-in-why c =
     right_loading Why c.args.words.now c.in-Some.behind.now c.in-Some.word.now c.loading-in-why.result c.in-Some.ensures.cases.0 (sym c.as_str.ensures ∙ c.in-why.is) c.loading-in-why.ensures
 
+pub returns-in-conflict : goal.returns-in-conflict
+returns-in-conflict c =
+    right_loading Conflict c.args.words.now c.in-Some.behind.now c.in-Some.word.now c.loading-in-conflict.result c.in-Some.ensures.cases.0 (sym c.as_str.ensures ∙ c.in-conflict.is)
+    c.loading-in-conflict.ensures
+
 pub returns-in-manifest : goal.returns-in-manifest
 returns-in-manifest c =
     right_manifest c.args.words.now c.in-Some.behind.now c.in-Some.word.now c.manifest.result c.in-Some.ensures.cases.0 (sym c.as_str.ensures ∙ c.in-manifest.is) c.manifest.ensures
@@ -60,5 +65,5 @@ pub returns-in_default-as_str : goal.returns-in_default-as_str
 returns-in_default-as_str c =
     let is = c.as_str.ensures in
     right_unknown c.args.words.now c.in-Some.behind.now c.in-Some.word.now c.in-Some.ensures.cases.0
-    (by_loaders c.in-Some.word.now (λ e. c.in_default-as_str.not-select (is ∙ e)) (λ e. c.in_default-as_str.not-download (is ∙ e)) (λ e. c.in_default-as_str.not-run (is ∙ e)) (λ e. c.in_default-as_str.not-check (is ∙ e)) (λ e. c.in_default-as_str.not-refute (is ∙ e)) (λ e. c.in_default-as_str.not-why (is ∙ e))) (λ e. c.in_default-as_str.not-manifest (is ∙ e)) (λ e. c.in_default-as_str.not-store (is ∙ e)) (λ e. c.in_default-as_str.not-demo (is ∙ e)) (λ e. c.in_default-as_str.not-launch (is ∙ e))
+    (by_loaders c.in-Some.word.now (λ e. c.in_default-as_str.not-select (is ∙ e)) (λ e. c.in_default-as_str.not-download (is ∙ e)) (λ e. c.in_default-as_str.not-run (is ∙ e)) (λ e. c.in_default-as_str.not-check (is ∙ e)) (λ e. c.in_default-as_str.not-refute (is ∙ e)) (λ e. c.in_default-as_str.not-why (is ∙ e)) (λ e. c.in_default-as_str.not-conflict (is ∙ e))) (λ e. c.in_default-as_str.not-manifest (is ∙ e)) (λ e. c.in_default-as_str.not-store (is ∙ e)) (λ e. c.in_default-as_str.not-demo (is ∙ e)) (λ e. c.in_default-as_str.not-launch (is ∙ e))
     (λ e. c.in_default-as_str.not-text (is ∙ e)) (λ e. c.in_default-as_str.not-text-2 (is ∙ e))

@@ -1,0 +1,5 @@
+pub mod Core
+pub mod Resting
+pub mod Ground
+pub mod Conflict
+pub mod Laws

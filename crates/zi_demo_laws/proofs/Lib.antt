@@ -1,0 +1,14 @@
+mod RowLemmas
+mod ApartLemmas
+mod LikeLemmas
+mod PieceLemmas
+mod VersionLemmas
+mod FeedLemmas
+mod LengthLemmas
+mod CandidateLemmas
+mod LoadLemmas
+mod FewLemmas
+mod WalkLemmas
+mod ValidLemmas
+mod RightLemmas
+mod SolvedLemmas

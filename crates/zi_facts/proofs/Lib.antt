@@ -1,0 +1,4 @@
+pub mod FactLaws
+pub mod TellLaws
+pub mod LookLaws
+pub mod LineLaws

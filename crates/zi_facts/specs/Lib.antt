@@ -1,0 +1,4 @@
+pub mod Facts
+pub mod Telling
+pub mod Lines
+pub mod Laws
