@@ -7,9 +7,11 @@ import os
 import shutil
 import signal
 import subprocess
+from xml.sax.saxutils import escape
 
 from download import SPACE, feed, file, held, helper
-from store import EMPTY, PROGRAM, TOP, expect, holds, main, name_of, run, store, write
+from shims import shim
+from store import EMPTY, PROGRAM, TOP, begin, expect, holds, main, name_of, residues, run, store, write
 
 SHOWS = '#!/bin/sh\nfor word; do printf "[%s]" "$word"; done\n'
 
@@ -246,6 +248,104 @@ def wherever_the_program_goes(folder):
     holds(f"{done}", done.returncode == 0 and done.stdout == b"")
 
 
+HOSTILE = ["it's", "'", 'a "b"', "a\nb", "$HOME", "${HOME}", "$(id)", "`id`", "\\", "\\n", "a b", "-x", "--", "*", "~", "\u00e4\u4e2d\U0001f600", "x" * 5_000]
+
+
+def brackets(words):
+    return "".join(f"[{word}]" for word in words)
+
+
+def arguments(words):
+    """As arguments of a command: a dollar that stands for itself is written twice."""
+    return "".join(f"<arg>{escape(word.replace('$', '$$'))}</arg>" for word in words)
+
+
+def calling(folder, bindings, text):
+    """A program that calls a command of its dependency, which runs through two runners, with the folder's feed, and the words of that call."""
+    paths = {name: os.path.join(folder, name) for name in ("outer", "inner", "library")}
+    for name, path in paths.items():
+        os.makedirs(path, exist_ok=True)
+        program(path, name)
+    outer = app(paths["outer"], command("outer", "<arg>-o</arg>"), "outer")
+    inner = app(paths["inner"], command("inner", f'<arg>-i</arg><runner interface="{outer}">{arguments(HOSTILE[:3])}</runner>'), "inner")
+    library = app(paths["library"], command("library", f'{arguments(HOSTILE)}<runner interface="{inner}"><arg/></runner>', "go"), "library")
+    program(folder, "main", text)
+    root = app(folder, f'<requires interface="{library}">{bindings}</requires>' + command())
+    chain = [paths["outer"] + "/outer", "-o", *HOSTILE[:3], paths["inner"] + "/inner", "-i", "", paths["library"] + "/library", *HOSTILE]
+    return root, chain
+
+
+BOTH = '<executable-in-path name="tool" command="go"/><executable-in-var name="TOOL" command="go"/>'
+CALLS = '#!/bin/sh\ntool "a b" "$1" && printf "\\n" && "$TOOL" ""\n'
+
+
+def shims_of(chain):
+    """The digest names of the two programs that `BOTH` makes available."""
+    text = shim(chain).encode()
+    return [name_of({name: text}, "X") for name in ("tool", "TOOL")]
+
+
+def stored_names(folder):
+    return sorted(run(["store", "list"], folder)[1].decode().split())
+
+
+def commands_of_a_dependency(folder):
+    """By PATH and by a variable, through two runners: each word comes as it is. What makes them available is stored once, and verified at each start."""
+    root, chain = calling(folder, BOTH, CALLS)
+    wanted = f"{brackets(chain[1:])}[a b][u]\n{brackets(chain[1:])}[]".encode()
+    expect(run(["run", root, "u"], folder), 0, wanted, b"")
+    names = sorted(shims_of(chain))
+    holds(f"stored {stored_names(folder)}, not {names}", stored_names(folder) == names)
+    before = {name: os.stat(os.path.join(store(folder), name)).st_mtime_ns for name in os.listdir(store(folder))}
+    got = run(["select", root], folder)
+    document = write(folder, "selections", got[1])
+    for words in (["run", root, "u"], ["launch", document, "u"]):
+        expect(run(words, folder), 0, wanted, b"")
+    holds("added once", before == {name: os.stat(os.path.join(store(folder), name)).st_mtime_ns for name in os.listdir(store(folder))})
+    for name in names:
+        expect(run(["store", "verify", name], folder), 0, b"sound\n", b"")
+
+
+def damaged_shims(folder):
+    """One that was changed isn't started; one that was purged is made again."""
+    root, chain = calling(folder, BOTH, CALLS)
+    path = os.path.join(store(folder), shims_of(chain)[1], "TOOL")
+    first = run(["run", root, "u"], folder)
+    holds(f"first {first}", first[0] == 0)
+    document = write(folder, "selections", run(["select", root], folder)[1])
+    os.chmod(os.path.dirname(path), 0o755)
+    os.chmod(path, 0o755)
+    with open(path, "ab") as changed:
+        changed.write(b"echo changed\n")
+    for words in (["run", root, "u"], ["launch", document, "u"]):
+        got = run(words, folder)
+        holds(f"changed: {got}", got[0] == 87 and got[1] == b"" and got[2].startswith(f"zi: {shims_of(chain)[1]} is damaged: sha256new_".encode()))
+    got = run(["store", "purge", document], folder)
+    holds(f"purged: {got}", got[0] == 0 and sorted(got[1].decode().split()) == sorted(shims_of(chain)))
+    for words in (["run", root, "u"], ["launch", document, "u"]):
+        expect(run(words, folder), 0, first[1], b"")
+
+
+def shims_at_once(folder):
+    """Launchers that begin at one time, over a store that has none of them: each starts its program, and each shim is there once, whole."""
+    root, chain = calling(folder, BOTH, CALLS)
+    processes = [begin(["run", root, "u"], folder) for _ in range(8)]
+    got = [(*process.communicate(timeout=120), process.returncode) for process in processes]
+    wanted = f"{brackets(chain[1:])}[a b][u]\n{brackets(chain[1:])}[]".encode()
+    holds(f"{got[0]}", all(one == (wanted, b"", 0) for one in got))
+    holds(f"stored {stored_names(folder)}", stored_names(folder) == sorted(shims_of(chain)) and residues(folder) == [])
+
+
+def shims_that_are_refused(folder):
+    """A command that isn't there, and a store that can't be written: nothing is started."""
+    root, chain = calling(folder, '<executable-in-path name="tool" command="no"/>', CALLS)
+    expect(run(["run", root, "u"], folder), 73, b"", b"zi: no solution\n")
+    root, chain = calling(folder, BOTH, CALLS)
+    write(folder, "store", b"")
+    got = run(["run", root, "u"], folder)
+    holds(f"{got}", got[0] == 90 and got[1] == b"")
+
+
 def an_interrupt_goes_to_the_program(folder):
     """An interrupt of the terminal goes to both: zi ends by it, since the kit has no handling of signals, and the program ends as it sees fit."""
     program(folder, "main", '#!/bin/sh\ntrap "echo told; exit 7" INT\necho ready\nwhile :; do sleep 0.1; done\n')
@@ -274,6 +374,10 @@ ROWS = [
     a_stored_program,
     documents_that_are_none,
     wherever_the_program_goes,
+    commands_of_a_dependency,
+    damaged_shims,
+    shims_at_once,
+    shims_that_are_refused,
     an_interrupt_goes_to_the_program,
 ]
 

@@ -3,13 +3,17 @@
 //! behind `= `: `stdout` is a table of questions with the answers that were worked out by hand from the rules, and `stdin` has the questions.
 //!
 //! A line has a word and what belongs to it. What it tells (`told`) lasts up to the paragraph's end. What it asks is answered by the status, the
-//! line of how it ended and, on lines of their own, what was written; or by what is seen of the objects behind it. A line that begins
-//! with `#` says what the paragraph shows. In words and files `\n`, `\t`, `\d`, `\1` and `\e` stand for a line's end, a tab and the
-//! characters 7F, 1 and FFFE, and `_` is the empty word.
+//! line of how it ended and, on lines of their own, what was written; or by what is seen of the objects behind it. `each OBJECT WORDS`
+//! is answered by a run without a fault, and for each call of the object by one where that call fails; `cuts FILE WORDS` by a run for each
+//! front of the file. A line that begins with `#` says what the paragraph shows. In words and files `\n`, `\t`, `\d`, `\1` and `\e` stand
+//! for a line's end, a tab and the characters 7F, 1 and FFFE, and `_` is the empty word.
 #![tactic(auto)]
 
+mod again;
 mod asking;
 mod calling;
+mod cuts;
+mod each;
 mod held;
 mod limited;
 mod seen;
@@ -23,9 +27,18 @@ use told::{Told, tells};
 use zi_lines::{Sheet, halves};
 use zi_text::Memory;
 
-/// Adds the answer to what a word asks.
-fn put_answer(alloc: Global, out: &mut Sheet, word: &str, rest: &str, told: &mut Told) {
+/// Adds the answer to what a word of a paragraph asks.
+fn put_answer(
+    alloc: Global,
+    out: &mut Sheet,
+    paragraph: &str,
+    word: &str,
+    rest: &str,
+    told: &mut Told,
+) {
     match word {
+        "each" => each::put_each(alloc, out, paragraph, rest),
+        "cuts" => cuts::put_cuts(alloc, out, paragraph, rest),
         "zi" => calling::put_call(alloc, out, rest, told),
         "quiet" => calling::put_quiet(alloc, out, rest, told),
         "cut" => calling::put_refusal(alloc, out, rest),
@@ -36,13 +49,13 @@ fn put_answer(alloc: Global, out: &mut Sheet, word: &str, rest: &str, told: &mut
     }
 }
 
-/// Adds a line with its answer.
-fn put_line(alloc: Global, out: &mut Sheet, line: &str, told: &mut Told) {
+/// Adds a line of a paragraph with its answer.
+fn put_line(alloc: Global, out: &mut Sheet, paragraph: &str, line: &str, told: &mut Told) {
     out.put(line);
     let (word, rest) = halves(line);
     if !tells(alloc, out, word, rest, told) {
         let mut answer = Sheet::new(alloc);
-        put_answer(alloc, &mut answer, word, rest, told);
+        put_answer(alloc, &mut answer, paragraph, word, rest, told);
         out.answer(&answer);
     }
     out.put("\n");
@@ -55,7 +68,7 @@ fn put_paragraph(alloc: Global, out: &mut Sheet, paragraph: &str) {
     }
     let mut told = Told::new(alloc);
     for line in paragraph.lines() {
-        put_line(alloc, out, line, &mut told);
+        put_line(alloc, out, paragraph, line, &mut told);
     }
 }
 

@@ -3,7 +3,7 @@ use crate::told::Objects;
 use std::alloc::Global;
 use zi_lines::{Sheet, halves};
 use zi_memory::MemoryShelf;
-use zi_outside::{Launch, MemorySink};
+use zi_outside::{Dir, Launch, MemorySink};
 use zi_shelf::CallKind;
 use zi_text::{Memory, Text};
 use zi_tree::{RelPath, Tree, TreeNode};
@@ -24,9 +24,9 @@ fn put_variable(out: &mut Sheet, name: &str, launch: &Launch) {
     }
 }
 
-/// Adds the folders of a launch, each behind its interface.
-fn put_folders(out: &mut Sheet, launch: &Launch) {
-    for dir in launch.dirs.as_slice() {
+/// Adds folders of a launch, each behind its interface.
+fn put_folders(out: &mut Sheet, dirs: &[Dir]) {
+    for dir in dirs {
         out.put(dir.interface.as_str());
         out.put(" ");
         out.put(dir.folder.as_str());
@@ -119,22 +119,24 @@ fn put_launch(out: &mut Sheet, word: &str, rest: &str, objects: &Objects) {
     };
     match word {
         "variable" => put_variable(out, rest, launch),
-        "folders" => put_folders(out, launch),
+        "folders" => put_folders(out, launch.dirs.as_slice()),
+        "shims" => put_folders(out, launch.shims.as_slice()),
         _ => put_words(out, launch),
     }
 }
 
-/// Adds what is seen: the words, a variable or the folders of the last launch; how many were launched, asked of the web, called of the
-/// store that was told last or made in it; the reads of it; what is stored there; how often a text was written.
+/// Adds what is seen: the words, a variable, the folders or those of the shims of the last launch; how many were launched, asked of the web,
+/// called of the store that was told last or made in it; the reads of it; what is stored there, or in the first; how often a text was written.
 pub(crate) fn put_seen(alloc: Global, out: &mut Sheet, word: &str, rest: &str, objects: &Objects) {
     match word {
-        "last" | "variable" | "folders" => put_launch(out, word, rest, objects),
+        "last" | "variable" | "folders" | "shims" => put_launch(out, word, rest, objects),
         "launched" => out.number(objects.spawner.launches().len() as u64),
         "asked" => put_asked(out, objects.web.asked()),
         "called" => out.number(objects.store().calls().len() as u64),
         "reads" => put_reads(out, objects.store()),
         "made" => out.number(made(objects.store()) as u64),
         "stored" => put_stored(alloc, out, rest, objects.store()),
+        "first" => put_stored(alloc, out, rest, &objects.shelf),
         "times" => out.number(times(rest, &objects.out) as u64),
         _ => out.put("no question"),
     }

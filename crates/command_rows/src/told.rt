@@ -75,6 +75,8 @@ pub(crate) struct Told {
     pub objects: Objects,
     /// The calls of the output that fail.
     pub output_fails: List<u32>,
+    /// Those of the errors.
+    pub errors_fail: List<u32>,
     /// The tree whose nodes are told; `place` takes it away.
     tree: Tree,
 }
@@ -86,15 +88,17 @@ impl Told {
             feeds: Held::Planned(MemoryFeeds::new(alloc)),
             objects: Objects::new(alloc),
             output_fails: List::new(alloc),
+            errors_fail: List::new(alloc),
             tree: Tree::new(alloc),
         }
     }
 
-    /// Begins the streams of a call anew; those calls of the output fail that were told.
+    /// Begins the streams of a call anew; those calls of them fail that were told.
     pub(crate) fn begin(&mut self, alloc: Global) -> Result<(), Memory> {
         self.objects.out = MemorySink::new(alloc);
         self.objects.err = MemorySink::new(alloc);
-        self.objects.out.fail_at(self.output_fails.as_slice())
+        self.objects.out.fail_at(self.output_fails.as_slice())?;
+        self.objects.err.fail_at(self.errors_fail.as_slice())
     }
 
     /// Takes a feed: its address and what stands in its root.
@@ -105,6 +109,25 @@ impl Told {
         document.put(inside);
         document.put("</interface>");
         self.feeds.put(uri, document.text()?.as_bytes())
+    }
+
+    /// Takes the feed of this number in a chain.
+    fn take_link(&mut self, alloc: Global, number: u32) -> Result<(), Memory> {
+        let mut row = Sheet::new(alloc);
+        row.put("/");
+        row.number(u64::from(number));
+        row.put(" <feed src='/");
+        row.number(u64::from(number) + 1);
+        row.put("'/>");
+        self.take_feed(alloc, row.text()?)
+    }
+
+    /// Takes a chain of so many feeds from `/0`, each of which imports the next.
+    fn take_chain(&mut self, alloc: Global, count: u32) -> Result<(), Memory> {
+        for number in 0..count {
+            self.take_link(alloc, number)?;
+        }
+        Ok(())
     }
 
     /// Takes a document of selections: its name and what stands behind the namespace of its root.
@@ -236,6 +259,16 @@ impl Told {
         }
     }
 
+    /// Sets the number of the one call of an object that fails; 0 is none. `first` is the store that is written.
+    pub(crate) fn fail_once(&mut self, object: &str, call: u32) -> Result<(), Memory> {
+        match object {
+            "output" => self.output_fails.push(call),
+            "errors" => self.errors_fail.push(call),
+            "first" => self.objects.shelf.fail_at(&[call]),
+            _ => self.fail_object(object, &[call]),
+        }
+    }
+
     /// Sets the numbers of the calls of an object that fail.
     fn fail(&mut self, alloc: Global, row: &str) -> Result<(), Memory> {
         let (object, rest) = halves(row);
@@ -259,6 +292,14 @@ impl Told {
 fn take_statuses(statuses: &mut Vec<u8>, row: &str) -> Result<(), Memory> {
     for word in row.split(' ') {
         statuses.push(word.parse::<u8>().unwrap_or(0))?;
+    }
+    Ok(())
+}
+
+/// Makes so many allocations, and gives each back.
+fn spend(alloc: Global, count: u32) -> Result<(), Memory> {
+    for _ in 0..count {
+        let _spent = Vec::from_slice(alloc, &[0u8])?;
     }
     Ok(())
 }
@@ -296,6 +337,7 @@ fn insert(alloc: Global, tree: &mut Tree, at: &RelPath, node: TreeNode) -> Resul
 fn tells_of_feeds(alloc: Global, out: &mut Sheet, word: &str, rest: &str, told: &mut Told) -> bool {
     match word {
         "feed" => out.needs(told.take_feed(alloc, rest)),
+        "chain" => out.needs(told.take_chain(alloc, rest.parse::<u32>().unwrap_or(0))),
         "selections" => out.needs(told.take_selections(alloc, rest)),
         "file" => out.needs(told.take_file(alloc, rest)),
         "demonstration" => out.needs(told.take_demonstration(alloc, rest)),
@@ -317,6 +359,7 @@ pub(crate) fn tells(
 ) -> bool {
     match word {
         "#" => {}
+        "spend" => out.needs(spend(alloc, rest.parse::<u32>().unwrap_or(0))),
         "set" => out.needs(told.take_variable(rest)),
         "node" => out.needs(told.take_node(alloc, rest)),
         "zeros" => out.needs(told.take_zeros(alloc, rest)),

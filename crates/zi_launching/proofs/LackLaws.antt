@@ -24,8 +24,15 @@ use Rattle.zi_plan.specs.declared.fault.PlanFault.TheVariants as fault
 use Rattle.zi_plan.specs.Placed.{Placed, placed_in, all_placed, without_folder, placed_for}
 use Rattle.zi_plan.specs.Chain.{Asked, Link, is_met, command_of, is_path_in, command_fault, path_fault, checked_link, link_in, link_of, link_for, asked_by, behind, Leads, stops, ends, goes_on, no_path, last_fault}
 use Rattle.zi_plan.specs.Launches.{all_bindings, binding_fault, chain_words, spoken_all}
+use Rattle.zi_plan.specs.declared.call.ShimCall.{ShimCall}
 use Rattle.zi_plan.specs.Launches.{Bound}
-use Rattle.zi_plan.specs.Shims.{shim_element, unbuilt_shim, but_for, shims_of, PlansWithoutShims}
+use Rattle.zi_plan.specs.Shims.{asked_of, unless, SaysWords, Calls, ShimsBound, ShimsPlaced, ShimsOf, shims_of}
+use Rattle.zi_bind.specs.Expansion.{Values}
+use Rattle.zi_adding.specs.declared.adding.AddFault.{AddFault}
+use Rattle.zi_adding.specs.declared.adding.AddFault.TheVariants as add
+use Rattle.zi_adding.specs.Trying.{Tried}
+use Rattle.zi_fetching.specs.Outcomes.{unadded}
+use Rattle.zi_launching.specs.Shims.{StopsAdding}
 use Rattle.zi_plan.specs.Plans.{fault_by, said, bound, launched, checked, of_chain, by_chain, PlansCommand, PlansPlaced, Plans}
 use Rattle.zi_outcome.specs.declared.outcome.Outcome.{Outcome}
 use Rattle.zi_outcome.specs.declared.outcome.Outcome.TheVariants.{Plan}
@@ -34,8 +41,9 @@ use Rattle.zi_world.specs.Places.{place}
 use Rattle.zi_world.proofs.StandLemmas.{never_in_store}
 use Rattle.zi_launching.specs.Folders.{folder}
 use Rattle.zi_launching.specs.Verifying.{Condemns, FailsToVerify}
-use Rattle.zi_launching.specs.Launching.{Task, tree_folder, PreparesNot, LaunchesOver, Starts}
+use Rattle.zi_launching.specs.Launching.{Task, tree_folder, folders_in, no_shims, HasFault, PreparesNot, LaunchesOver, Starts}
 use Rattle.zi_launching.specs.Run.{IsNoLack, LacksNothing}
+use Rattle.zi_launching.proofs.NameLaws.{HasProgram}
 use Rattle.zi_choice.proofs.Base.{if_some_at}
 
 -- a fault that isn't of something that is missing
@@ -235,17 +243,6 @@ plan_lacks sels vars user folders shims reason whole placed plans =
         let asked : Asked = record { interface = sels.interface; command = name } in
         no_lack sels.command reason (by_chain_of asked chain (is_there sels.items folders placed asked h) leads is)
 
--- The same where no shim can be made.
-bare_lacks : (sels : Selections) (vars : List Var) (user : List (List ℕ)) (folders : List (Option (List ℕ))) (reason : PlanFault) → AreWhole sels → without_folder sels.items folders ≡ None
-    → PlansWithoutShims sels vars user folders (Err reason) → IsNoLack sels.command reason
-bare_lacks sels vars user folders reason whole placed (Err f, plans, is) =
-    subst (IsNoLack sels.command) (err_same f reason (sym is)) (plan_lacks sels vars user folders [] f whole placed plans)
-bare_lacks sels vars user folders reason whole placed (Ok launch, plans, is) = no_lack sels.command reason (by (shims_of sels folders) (sym is))
-  where
-    by : (bs : List Bound) → but_for (Ok launch) (unbuilt_shim bs) ≡ Err reason → NoneLacks reason
-    by [] e = absurd (cc e)
-    by (b ∷ bs) e = subst NoneLacks (err_same (fault.Unbuilt (shim_element b.binding)) reason e) tt
-
 folders_there : (path_of : DigestName → List ℕ) (stored : Names) (items : List Selection) → All (λ x. IsSome x.«package» ⊎ IsSome (folder path_of stored x)) items → without_folder items (map (folder path_of stored) items) ≡ None
 folders_there path_of stored [] h = refl
 folders_there path_of stored (x ∷ items) h =
@@ -275,17 +272,66 @@ fails_plans d before after outcome reason is (inl (v, why, calm, held)) = verdic
 fails_plans d before after outcome reason is (inr (inl (e, failed))) = absurd cc
 fails_plans d before after outcome reason is (inr (inr (e, calm))) = absurd cc
 
-pub lacks_nothing : (task : Task) (before after : List Shelving) (p q : Spawning) (outcome : Outcome) → AreWhole task.sels → All (λ x. IsSome x.«package» ⊎ IsSome (folder (tree_folder task before) task.stored x)) task.sels.items
-    → LaunchesOver task (record { stores = before; spawner = p }) (record { stores = after; spawner = q }) outcome → LacksNothing task.sels.command outcome
-lacks_nothing task before after p q outcome whole placed (inr (launch, ready, starts)) = λ reason is. absurd (subst (λ o. Starts launch p q o) is starts)
-lacks_nothing task before after p q outcome whole placed (inl (not, same)) = λ reason is. by reason is not
+no_adding : (fault : AddFault) (reason : PlanFault) → unadded fault ≡ Plan reason → ⊥
+no_adding (add.BadName path) reason e = cc
+no_adding (add.Mismatch name found) reason e = cc
+no_adding (add.Crowded tried) reason e = cc
+no_adding (add.Failed blamed) reason e = cc
+no_adding add.Memory reason e = cc
+
+-- The words of shims whose commands are there fail by nothing that is missing.
+module _ (sels : Selections) (folders : List (Option (List ℕ))) (placed : without_folder sels.items folders ≡ None) (whole : AreWhole sels) where
+  abbrev in_folders : List Placed
+  in_folders = all_placed sels.items folders
+
+  words_lack : (values : Values) (asked : Asked) (reason : PlanFault) → HasCommand sels.items asked.interface asked.command → SaysWords in_folders values asked (Err reason) → NoneLacks reason
+  words_lack values asked reason h (Err f, leads, is) = leads_lack sels.items folders placed whole.runners leads (is_there sels.items folders placed asked h) reason (ap (λ r. Err r) (err_same f reason (sym is)))
+  words_lack values asked reason h (Ok links, leads, is) = by (last_fault links) refl (sym is)
+    where
+      by : (o : Option PlanFault) → last_fault links ≡ o → unless o (said [] (spoken_all values (chain_words links))) ≡ Err reason → NoneLacks reason
+      by (Some f) at e = last_lacks links reason (at ∙ ap (λ r. Some r) (err_same f reason e))
+      by None at e = said_lacks [] (spoken_all values (chain_words links)) reason e
+
+  calls_lack : (values : Values) (bs : List Bound) (reason : PlanFault) (result : Result (List ShimCall) PlanFault) → result ≡ Err reason → All (HasProgram sels.items) bs → Calls in_folders values bs result → NoneLacks reason
+  calls_lack values [] reason result e h c = absurd (cc (sym e ∙ c))
+  calls_lack values (b ∷ bs) reason result e h (inl (f, w, is)) =
+      words_lack values (asked_of b) reason (All-head (HasProgram sels.items) b bs h) (subst (λ x. SaysWords in_folders values (asked_of b) (Err x)) (err_same f reason (sym is ∙ e)) w)
+  calls_lack values (b ∷ bs) reason result e h (inr (words, Ok rest, w, c, is)) = absurd (cc (sym e ∙ is))
+  calls_lack values (b ∷ bs) reason result e h (inr (words, Err f, w, c, is)) =
+      calls_lack values bs reason (Err f) (ap (λ r. Err r) (err_same f reason (sym is ∙ e))) (All-tail (HasProgram sels.items) b bs h) c
+
+  shims_lack : (vars : List Var) (reason : PlanFault) → All (HasProgram sels.items) (shims_of sels folders) → ShimsOf sels vars folders (Err reason) → NoneLacks reason
+  shims_lack vars reason h w = by (binding_fault (all_bindings in_folders)) refl (subst (λ o. ShimsPlaced in_folders vars o (Err reason)) placed w)
+    where
+      by : (o : Option ApplyFault) → binding_fault (all_bindings in_folders) ≡ o → ShimsBound in_folders vars o (Err reason) → NoneLacks reason
+      by (Some f) at e = subst NoneLacks (err_same (fault_by f) reason (sym e)) (binding_lacks f)
+      by None at c = calls_lack (value_of (bound in_folders [] vars)) (shims_of sels folders) reason (Err reason) refl h c
+
+pub lacks_nothing : (task : Task) (tried : List Tried) (before after : List Shelving) (p q : Spawning) (outcome : Outcome) → AreWhole task.sels
+    → All (HasProgram task.sels.items) (shims_of task.sels (folders_in task before)) → All (λ x. IsSome x.«package» ⊎ IsSome (folder (tree_folder task before) task.stored x)) task.sels.items
+    → LaunchesOver task tried (record { stores = before; spawner = p }) (record { stores = after; spawner = q }) outcome → LacksNothing task.sels.command outcome
+lacks_nothing task tried before after p q outcome whole programs placed (inr (launch, ready, starts)) = λ reason is. absurd (subst (λ o. Starts launch p q o) is starts)
+lacks_nothing task tried before after p q outcome whole programs placed (inl (not, same)) = λ reason is. by reason is not
   where
-    by : (reason : PlanFault) → outcome ≡ Plan reason → PreparesNot task before outcome after → IsNoLack task.sels.command reason
-    by reason is (inl (inl (d, m, e), calm)) = absurd cc
-    by reason is (inl (inr e, calm)) = absurd cc
-    by reason is (inr (inl (inl (f, e, plan), calm))) =
+    there : without_folder task.sels.items (folders_in task before) ≡ None
+    there = folders_there (tree_folder task before) task.stored task.sels.items placed
+
+    of_fault : (f : PlanFault) → HasFault task before f → IsNoLack task.sels.command f
+    of_fault f (inl plan) = plan_lacks task.sels task.vars task.user (folders_in task before) (no_shims task before) f whole there plan.plan
+    of_fault f (inr (plan, words)) = no_lack task.sels.command f (shims_lack task.sels (folders_in task before) there whole task.vars f programs words)
+
+    of_adding : (calls : List ShimCall) (reason : PlanFault) → outcome ≡ Plan reason → StopsAdding task.stored calls outcome tried → ⊥
+    of_adding calls reason is (inl f) = no_adding f.fault reason (sym f.is ∙ is)
+    of_adding calls reason is (inr (e, rest)) = cc (sym e ∙ is)
+
+    by : (reason : PlanFault) → outcome ≡ Plan reason → PreparesNot task tried before outcome after → IsNoLack task.sels.command reason
+    by reason is (inl (none, inl (inl (d, m, e), calm))) = absurd cc
+    by reason is (inl (none, inl (inr e, calm))) = absurd cc
+    by reason is (inl (none, inr (inl (f, e, has), calm))) =
         let same_fault : f ≡ reason = cc in
-        subst (IsNoLack task.sels.command) same_fault
-        (bare_lacks task.sels task.vars task.user (map (folder (tree_folder task before) task.stored) task.sels.items) f whole (folders_there (tree_folder task before) task.stored task.sels.items placed) plan.plan)
-    by reason is (inr (inl (inr e, calm))) = absurd cc
-    by reason is (inr (inr u)) = absurd (never_in_store (λ b a. FailsToVerify u.stops.name b outcome a) (λ b a f. fails_plans u.stops.name b a outcome reason is f) (place task.each u.stops.name) before after u.stops.fails)
+        subst (IsNoLack task.sels.command) same_fault (of_fault f has)
+    by reason is (inl (none, inr (inr e, calm))) = absurd cc
+    by reason is (inr (inl u)) = absurd (of_adding u.calls reason is u.stops)
+    by reason is (inr (inr (inl u))) =
+        absurd (never_in_store (λ b a. FailsToVerify u.stops.name b outcome a) (λ b a f. fails_plans u.stops.name b a outcome reason is f) (place task.each u.stops.name) before after u.stops.fails)
+    by reason is (inr (inr (inr u))) = let e = u.is in absurd cc

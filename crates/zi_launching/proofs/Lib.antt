@@ -4,5 +4,9 @@ pub mod LaunchLaws
 pub mod ReadyLaws
 pub mod MissingLaws
 pub mod LackLaws
+pub mod NameLaws
+pub mod AddLaws
+pub mod LiftLaws
+pub mod OwnLaws
 pub mod RunLaws
 pub mod OpenLaws

@@ -5,14 +5,18 @@ use Rattle.std.specs.Map.{lookup}
 use Rattle.std.proofs.lemmas.List.{map-append, take_more}
 use Rattle.zi_digest.specs.declared.DigestName.{DigestName}
 use Rattle.zi_digest.specs.Name.{spelling}
+use Rattle.zi_policy.specs.Platform.{listed}
 use Rattle.zi_shelf.specs.Names.{Name}
 use Rattle.zi_store.specs.Rising.{is_among}
 use Rattle.zi_store.specs.Finding.{spelled}
 use Rattle.zi_feed.proofs.LatestLaws.{text_swap}
 use Rattle.zi_choice.specs.Tables.{first_of, IsAdded}
 use Rattle.zi_choice.proofs.TableLaws.{position_last}
+use Rattle.zi_universe.specs.Naming.{joined}
+use Rattle.zi_universe.proofs.NamingLemmas.{listed-joined_left, listed-without_repeats}
 use Rattle.zi_world.specs.Places.{place, place_by}
-use Rattle.zi_launching.specs.Folders.{place_in}
+use Rattle.zi_choosing.specs.Knowing.{all_names}
+use Rattle.zi_fetching.specs.Known.{Names, names_of, is_known}
 use Rattle.zi_launching.specs.Placing.{ArePlaces, ArePlaced, IsPlaced}
 
 or_none : (o : Option ℕ) → o ≡ first_of o None
@@ -107,3 +111,31 @@ within n (ns ∷ each) j q h lt = by (is_among (map spelling ns) q) (within n ea
 
 pub place_within : (n : ℕ) (each : List (List DigestName)) (d : DigestName) → length each ≡ n + 1 → place each d ≤ n
 place_within n each d e = let w = within (n + 1) each 0 (spelling d) (omega (arith, e)) (omega arith) in omega (arith, w)
+
+-- A digest that is in none of the stores stands in the first.
+apart_from : (q : Name) (ds rest : List DigestName) → listed q (map spelling (ds ++ rest)) ≡ false → (is_among (map spelling ds) q ≡ false) × (listed q (map spelling rest) ≡ false)
+apart_from q [] rest h = (refl, h)
+apart_from q (d ∷ ds) rest h = by (bytes_eq q (spelling d)) refl h (apart_from q ds rest)
+  where
+    by : (b : Bool) → bytes_eq q (spelling d) ≡ b → (b || listed q (map spelling (ds ++ rest))) ≡ false
+        → (listed q (map spelling (ds ++ rest)) ≡ false → (is_among (map spelling ds) q ≡ false) × (listed q (map spelling rest) ≡ false))
+        → ((bytes_eq (spelling d) q || is_among (map spelling ds) q) ≡ false) × (listed q (map spelling rest) ≡ false)
+    by true e h go = absurd (cc h)
+    by false e h go = let r = go h in (ap (λ b. b || is_among (map spelling ds) q) (sym (text_swap q (spelling d)) ∙ e) ∙ r.0, r.1)
+
+no_place : (each : List (List DigestName)) (j : ℕ) (q : Name) → listed q (map spelling (all_names each)) ≡ false → position_from (λ ns. is_among ns q) j (spelled each) ≡ None
+no_place [] j q h = refl
+no_place (ds ∷ each) j q h =
+    let r = apart_from q ds (all_names each) h in
+    ap (λ b. cond b (Some j) (position_from (λ ns. is_among ns q) (j + 1) (spelled each))) r.0 ∙ no_place each (j + 1) q r.1
+
+pub new_first : (each : List (List DigestName)) (d : DigestName) → is_known (names_of (all_names each)) d ≡ false → place each d ≡ 0
+new_first each d h = ap place_by (no_place each 0 (spelling d) (sym (listed-without_repeats (spelling d) (map spelling (all_names each))) ∙ h))
+
+-- so does one that isn't there behind more that are
+pub new_behind : (each : List (List DigestName)) (more : Names) (d : DigestName) → is_known (joined (names_of (all_names each)) more) d ≡ false → place each d ≡ 0
+new_behind each more d h = new_first each d (by (is_known (names_of (all_names each)) d) refl)
+  where
+    by : (b : Bool) → is_known (names_of (all_names each)) d ≡ b → is_known (names_of (all_names each)) d ≡ false
+    by true e = let k = listed-joined_left (spelling d) (names_of (all_names each)) more e in absurd (cc (sym k ∙ h))
+    by false e = e

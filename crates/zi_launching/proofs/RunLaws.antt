@@ -1,7 +1,5 @@
 -- What a run comes to, stage by stage.
-use Rattle.std.proofs.Common.{◌≡◌, ℕ, zero, suc, ◌⊎◌, inl, inr, List, [], ◌∷◌, map, take, get_or, Some, refl, true, sym, ◌∙◌, subst, All, Result, Ok, Err}
-use Rattle.zi_digest.specs.Name.{spelling}
-use Rattle.zi_digest.specs.declared.DigestName.{DigestName}
+use Rattle.std.proofs.Common.{◌≡◌, ℕ, inl, inr, List, [], ◌∷◌, ◌++◌, map, get_or, refl, true, ap, sym, ◌∙◌, subst, All, Result, Ok, Err}
 use Rattle.zi_tree.specs.Dir.{Dir}
 use Rattle.zi_outside.specs.Views.{Feeding, Sinking, holding}
 use Rattle.zi_outside.specs.Launched.{Spawning}
@@ -9,21 +7,19 @@ use Rattle.zi_outside.specs.declared.launch.Launch.{Launch}
 use Rattle.zi_outside.specs.declared.var.Var.{Var}
 use Rattle.zi_shelf.specs.Shelved.{Shelved}
 use Rattle.zi_shelf.specs.Shelving.{Shelving}
-use Rattle.zi_text.specs.Count.{Rose}
-use Rattle.zi_shelf.specs.Told.{Told}
-use Rattle.zi_store.specs.Keeping.{Keeps, is_names, is_reading}
-use Rattle.zi_store.specs.Verdicts.{Verifies}
 use Rattle.zi_universe.specs.Loading.{names_of}
 use Rattle.zi_sels_laws.proofs.WholeLaws.{chosen_whole}
 use Rattle.zi_sels_laws.proofs.TreeLaws.{chosen_no_trees}
+use Rattle.zi_shim_laws.specs.Programs.{HavePrograms}
 use Rattle.zi_sels.specs.declared.types.Selection.{Selection}
-use Rattle.zi_plan.specs.Shims.{PlansWithoutShims}
+use Rattle.zi_plan.specs.declared.call.ShimCall.{ShimCall}
+use Rattle.zi_plan.specs.Plans.{Plans}
+use Rattle.zi_plan.specs.Shims.{ShimsOf, shims_of, empty_texts}
 use Rattle.zi_plan.specs.declared.fault.PlanFault.{PlanFault}
-use Rattle.zi_adding.specs.Trying.{Tried, Adds}
+use Rattle.zi_adding.specs.Trying.{Tried}
 use Rattle.zi_adding.proofs.AddingLemmas.{adds_nothing}
-use Rattle.zi_adding.proofs.HistoryLaws.{AreDone, calm_done, uses_gain, names_only_read, reads_use}
+use Rattle.zi_adding.proofs.HistoryLaws.{costs_from, uses_gain, names_only_read}
 use Rattle.zi_outcome.specs.declared.outcome.Outcome.{Outcome}
-use Rattle.zi_outcome.specs.declared.outcome.Outcome.TheVariants.{StoreFault}
 use Rattle.zi_choosing.specs.Wanted.{requirement_of}
 use Rattle.zi_choosing.specs.declared.asked.Asked.{Asked}
 use Rattle.zi_choosing.specs.declared.chosen.Chosen.{Chosen}
@@ -35,142 +31,94 @@ use Rattle.zi_fetching.proofs.FetchLaws.{turn_done}
 use Rattle.zi_world.proofs.AskingLemmas.{feeds_same}
 use Rattle.zi_fetching.proofs.WebLaws.{web_stays}
 use Rattle.zi_fetching.proofs.DownloadLaws.{used, chosen_so, cost_so, calm_so, turn_there}
-use Rattle.zi_store.specs.Stores.{Each, IsCalm, SomeFails}
+use Rattle.zi_store.specs.Stores.{Each, IsCalm}
 use Rattle.zi_world.specs.Shelves.{HeldThen}
-use Rattle.zi_world.specs.Places.{InStore, place, root_at}
-use Rattle.zi_world.proofs.PlacesLemmas.{each_by, each_then}
+use Rattle.zi_world.specs.Places.{InStore, place}
+use Rattle.zi_world.proofs.PlacesLemmas.{each_then}
 use Rattle.zi_launching.proofs.LaunchLaws.{reads_then}
 use Rattle.zi_launching.proofs.FolderLaws.{none_missing}
 use Rattle.zi_launching.proofs.MissingLaws.{all_placed, never_missing}
 use Rattle.zi_launching.proofs.LackLaws.{lacks_nothing}
-use Rattle.zi_launching.specs.Folders.{stored_folder, folder}
-use Rattle.zi_launching.specs.Verifying.{IsSound, AreSound, FailsToVerify, StopsVerifying}
-use Rattle.zi_launching.specs.Launching.{Task, tree_folder, IsPlan, IsExposed, IsReady, PreparesNot, LaunchesOver}
+use Rattle.zi_launching.proofs.NameLaws.{all_programs}
+use Rattle.zi_launching.specs.Folders.{folder}
+use Rattle.zi_launching.specs.Verifying.{IsSound}
+use Rattle.zi_launching.specs.Shims.{shim_digest, IsShim, CostsFirst}
+use Rattle.zi_launching.specs.Launching.{Task, tree_folder, folders_in, no_shims, IsPlan, IsCalled, HasFault, shim_folders, exposed_trees, IsExposed, IsReady, PreparesNot, LaunchesOver, LaunchesWith}
+use Rattle.zi_launching.proofs.AddLaws.{adds_more, read_use}
+use Rattle.zi_launching.proofs.LiftLaws.{Reaches, lift_held, in_lift, lift_calm, lift_stops, folders_stay, reaches, all_named, all_only_read}
 use Rattle.zi_launching.specs.Run.{RunsProgram}
 
--- A shelf has come so from an earlier moment: no call failed, and an honest one that told what it held is honest and tells it.
-pub record Reaches (before mid : Shelving) : Type 0 where
-  pub calm : IsCalm before mid
-  pub root : mid.root ≡ before.root
-  pub sure : before.sure → mid.sure
-  pub tells : (s : Told) → before.honest → before.told ≡ Some s → mid.honest × ((m : Told) × (mid.told ≡ Some m))
-
-lift_held : (before mid after : Shelving) (P : Shelved Dir → Type 0) → Reaches before mid → HeldThen mid after P → HeldThen before after P
-lift_held before mid after P r h = λ s honest e. let t = r.tells s honest e in h t.1.0 t.0 t.1.1
-
-lift_fails : (d : DigestName) (outcome : Outcome) (before mid after : Shelving) → Reaches before mid → FailsToVerify d mid outcome after → FailsToVerify d before outcome after
-lift_fails d outcome before mid after r (inl (v, c, calm, h)) = inl (v, c, calm ∙ r.calm, lift_held before mid after (λ s. Verifies d (Ok v) s) r h)
-lift_fails d outcome before mid after r (inr (inl (e, (rose, ne)))) = inr (inl (e, (subst (λ n. Rose n after.faults) r.calm rose, λ s. ne (r.sure s))))
-lift_fails d outcome before mid after r (inr (inr (e, calm))) = inr (inr (e, calm ∙ r.calm))
-
--- All stores have come so.
-in_lift : (P Q : Shelving → Shelving → Type 0) → ((b m a : Shelving) → Reaches b m → P m a → Q b a) → (i : ℕ) (before mid after : List Shelving) → Each Reaches before mid → InStore i mid after P → InStore i before after Q
-in_lift P Q by i before [] after r h = absurd h
-in_lift P Q by i before (m ∷ ms) [] r h = absurd h
-in_lift P Q by i [] (m ∷ ms) (a ∷ as_) r h = absurd r
-in_lift P Q by zero (b ∷ bs) (m ∷ ms) (a ∷ as_) r h = by b m a r.0 h
-in_lift P Q by (suc i) (b ∷ bs) (m ∷ ms) (a ∷ as_) r h = in_lift P Q by i bs ms as_ r.1 h
-
-roots_stay : (i : ℕ) (before mid : List Shelving) → Each Reaches before mid → root_at mid i ≡ root_at before i
-roots_stay i [] [] r = refl
-roots_stay i [] (m ∷ ms) r = absurd r
-roots_stay i (b ∷ bs) [] r = absurd r
-roots_stay zero (b ∷ bs) (m ∷ ms) r = r.0.root
-roots_stay (suc i) (b ∷ bs) (m ∷ ms) r = roots_stay i bs ms r.1
-
-some_after : (before mid after : List Shelving) → Each Reaches before mid → SomeFails mid after → SomeFails before after
-some_after before [] [] r h = absurd h
-some_after before [] (a ∷ as_) r h = absurd h
-some_after before (m ∷ ms) [] r h = absurd h
-some_after [] (m ∷ ms) (a ∷ as_) r h = absurd r
-some_after (b ∷ bs) (m ∷ ms) (a ∷ as_) r (inl (rose, ne)) = inl (subst (λ n. Rose n a.faults) r.0.calm rose, λ s. ne (r.0.sure s))
-some_after (b ∷ bs) (m ∷ ms) (a ∷ as_) r (inr h) = inr (some_after bs ms as_ r.1 h)
-
+-- What the launching comes to, over stores that have come so from an earlier moment.
 module _ (before mid after : List Shelving) (r : Each Reaches before mid) where
-  lift_calm : Each IsCalm mid after → Each IsCalm before after
-  lift_calm calm = each_then Reaches IsCalm IsCalm (λ b m a h c. c ∙ h.calm) before mid after r calm
-
-  lift_sound : (number : DigestName → ℕ) (names : List DigestName) → AreSound number mid after names → AreSound number before after names
-  lift_sound number names h = λ k d lt.
-      let name = get_or names k d in
-      in_lift (λ b a. HeldThen b a (λ s. IsSound s name)) (λ b a. HeldThen b a (λ s. IsSound s name)) (λ b m a reach held. lift_held b m a (λ s. IsSound s name) reach held) (number name) before mid after r (h k d lt)
-
-  folders_stay : (task : Task) → tree_folder task mid ≡ tree_folder task before
-  folders_stay task = λ j d. stored_folder (roots_stay (place task.each d) before mid r j) d
-
-  lift_plan : (task : Task) (result : Result Launch PlanFault) → IsPlan task mid result → IsPlan task before result
-  lift_plan task result p = record {
+  lift_plan : (task : Task) (shims : List (List ℕ)) (result : Result Launch PlanFault) → IsPlan task mid shims result → IsPlan task before shims result
+  lift_plan task shims result p = record {
     there = p.there;
-    plan = subst (λ path_of. PlansWithoutShims task.sels task.vars task.user (map (folder path_of task.stored) task.sels.items) result) (folders_stay task) p.plan;
+    plan = subst (λ path_of. Plans task.sels task.vars task.user (map (folder path_of task.stored) task.sels.items) shims result) (folders_stay before mid after r task) p.plan;
   }
 
-  lift_stops : (number : DigestName → ℕ) (names : List DigestName) (outcome : Outcome) → StopsVerifying number names mid outcome after → StopsVerifying number names before outcome after
-  lift_stops number names outcome s = record {
-    place = s.place;
-    name = s.name;
-    here = s.here;
-    sound = lift_sound number (take s.place names) s.sound;
-    fails = in_lift (λ b a. FailsToVerify s.name b outcome a) (λ b a. FailsToVerify s.name b outcome a) (λ b m a reach f. lift_fails s.name outcome b m a reach f) (number s.name) before mid after r s.fails;
-    calm = by s.calm;
+  first_plan : (task : Task) (result : Result Launch PlanFault) → IsPlan task mid (no_shims task mid) result → IsPlan task before (no_shims task before) result
+  first_plan task result p = record {
+    there = p.there;
+    plan = subst (λ path_of. Plans task.sels task.vars task.user (map (folder path_of task.stored) task.sels.items) (empty_texts (shims_of task.sels (map (folder path_of task.stored) task.sels.items))) result)
+        (folders_stay before mid after r task) p.plan;
   }
+
+  lift_words : (task : Task) (result : Result (List ShimCall) PlanFault) → ShimsOf task.sels task.vars (folders_in task mid) result → ShimsOf task.sels task.vars (folders_in task before) result
+  lift_words task result w = subst (λ path_of. ShimsOf task.sels task.vars (map (folder path_of task.stored) task.sels.items) result) (folders_stay before mid after r task) w
+
+  lift_called : (task : Task) (calls : List ShimCall) → IsCalled task mid calls → IsCalled task before calls
+  lift_called task calls c = record { launch = c.launch; planned = first_plan task (Ok c.launch) c.planned; words = lift_words task (Ok calls) c.words }
+
+  lift_fault : (task : Task) (fault : PlanFault) → HasFault task mid fault → HasFault task before fault
+  lift_fault task fault (inl p) = inl (first_plan task (Err fault) p)
+  lift_fault task fault (inr ((launch, p), w)) = inr ((launch, first_plan task (Ok launch) p), lift_words task (Err fault) w)
+
+  lift_cost : (tried : List Tried) → CostsFirst tried mid after → CostsFirst tried before after
+  lift_cost tried c = by before mid after r c
     where
-      by : Each IsCalm mid after ⊎ ((outcome ≡ StoreFault (spelling s.name)) × SomeFails mid after) → Each IsCalm before after ⊎ ((outcome ≡ StoreFault (spelling s.name)) × SomeFails before after)
-      by (inl calm) = inl (lift_calm calm)
-      by (inr (e, h)) = inr (e, some_after before mid after r h)
+      by : (before mid after : List Shelving) → Each Reaches before mid → CostsFirst tried mid after → CostsFirst tried before after
+      by before [] [] r c = absurd c
+      by before [] (a ∷ as_) r c = absurd c
+      by before (m ∷ ms) [] r c = absurd c
+      by [] (m ∷ ms) (a ∷ as_) r c = absurd r
+      by (b ∷ bs) (m ∷ ms) (a ∷ as_) r c = (costs_from tried b m a r.0.calm r.0.sure c.0, each_then Reaches IsCalm IsCalm (λ x y z h k. k ∙ h.calm) bs ms as_ r.1 c.1)
 
-  lift_not : (task : Task) (outcome : Outcome) → PreparesNot task mid outcome after → PreparesNot task before outcome after
-  lift_not task outcome (inl (lacks, calm)) = inl (lacks, lift_calm calm)
-  lift_not task outcome (inr (inl (inl (fault, e, p), calm))) = inr (inl (inl (fault, e, lift_plan task (Err fault) p), lift_calm calm))
-  lift_not task outcome (inr (inl (inr e, calm))) = inr (inl (inr e, lift_calm calm))
-  lift_not task outcome (inr (inr u)) = inr (inr (record { launch = u.launch; planned = lift_plan task (Ok u.launch) u.planned; stops = lift_stops (place task.each) _ outcome u.stops }))
+  lift_not : (task : Task) (tried : List Tried) (outcome : Outcome) → PreparesNot task tried mid outcome after → PreparesNot task tried before outcome after
+  lift_not task tried outcome (inl (none, inl (lacks, calm))) = inl (none, inl (lacks, lift_calm before mid after r calm))
+  lift_not task tried outcome (inl (none, inr (inl (fault, e, f), calm))) = inl (none, inr (inl (fault, e, lift_fault task fault f), lift_calm before mid after r calm))
+  lift_not task tried outcome (inl (none, inr (inr e, calm))) = inl (none, inr (inr e, lift_calm before mid after r calm))
+  lift_not task tried outcome (inr (inl u)) = inr (inl (record { calls = u.calls; called = lift_called task u.calls u.called; stops = u.stops; cost = lift_cost tried u.cost }))
+  lift_not task tried outcome (inr (inr (inl u))) =
+      inr (inr (inl (record { calls = u.calls; called = lift_called task u.calls u.called; added = u.added; stops = lift_stops before mid after r (place task.each) (exposed_trees task u.calls) outcome u.stops })))
+  lift_not task tried outcome (inr (inr (inr u))) =
+      inr (inr (inr (record { is = u.is; calls = u.calls; called = lift_called task u.calls u.called; added = u.added; calm = lift_calm before mid after r u.calm })))
+
+  lift_in : (P : Shelved Dir → Type 0) (i : ℕ) → InStore i mid after (λ b a. HeldThen b a P) → InStore i before after (λ b a. HeldThen b a P)
+  lift_in P i h = in_lift (λ b a. HeldThen b a P) (λ b a. HeldThen b a P) (λ b m a reach held. lift_held b m a P reach held) i before mid after r h
 
   lift_exposed : (task : Task) (x : Selection) → IsExposed task mid after x → IsExposed task before after x
   lift_exposed task x (inl h) = inl h
   lift_exposed task x (inr (inl h)) = inr (inl h)
-  lift_exposed task x (inr (inr (d, tree, has, sound))) =
-      inr (inr (d, tree, has, in_lift (λ b a. HeldThen b a (λ s. IsSound s d)) (λ b a. HeldThen b a (λ s. IsSound s d)) (λ b m a reach held. lift_held b m a (λ s. IsSound s d) reach held) (place task.each d) before mid after r sound))
+  lift_exposed task x (inr (inr (d, tree, has, sound))) = inr (inr (d, tree, has, lift_in (λ s. IsSound s d) (place task.each d) sound))
 
-  lift_ready : (task : Task) (launch : Launch) → IsReady task mid launch after → IsReady task before launch after
-  lift_ready task launch y = record {
-    planned = lift_plan task (Ok launch) y.planned;
-    calm = lift_calm y.calm;
+  lift_folders : (task : Task) (calls : List ShimCall) → shim_folders task mid calls ≡ shim_folders task before calls
+  lift_folders task calls = ap (λ path_of. map (λ call. path_of (shim_digest call)) calls) (folders_stay before mid after r task)
+
+  lift_ready : (task : Task) (tried : List Tried) (launch : Launch) → IsReady task tried mid launch after → IsReady task tried before launch after
+  lift_ready task tried launch y = record {
+    calls = y.calls;
+    called = lift_called task y.calls y.called;
+    added = y.added;
+    planned = lift_plan task (shim_folders task before y.calls) (Ok launch) (subst (λ ts. IsPlan task mid ts (Ok launch)) (lift_folders task y.calls) y.planned);
+    calm = lift_calm before mid after r y.calm;
     exposed = λ k d lt. lift_exposed task (get_or task.sels.items k d) (y.exposed k d lt);
+    shims = λ k d lt. lift_in (λ s. IsShim tried s (get_or y.calls k d)) (place task.each (shim_digest (get_or y.calls k d))) (y.shims k d lt);
   }
 
-  pub lift_over : (task : Task) (old new : Spawning) (outcome : Outcome) → LaunchesOver task (record { stores = mid; spawner = old }) (record { stores = after; spawner = new }) outcome
-      → LaunchesOver task (record { stores = before; spawner = old }) (record { stores = after; spawner = new }) outcome
-  lift_over task old new outcome (inl (not, nothing)) = inl (lift_not task outcome not, nothing)
-  lift_over task old new outcome (inr (launch, ready, starts)) = inr (launch, lift_ready task launch ready, starts)
-
--- behind the names and the sessions
-reaches : (tried : List Tried) (before mid after : Shelving) → AreDone tried → IsCalm before mid → Keeps is_names before mid → Adds tried mid after → Reaches before after
-reaches tried before mid after done calm k a = record {
-  calm = calm_done tried mid after done a.cost ∙ calm;
-  root = a.stays.root ∙ k.stays.root;
-  sure = λ s. a.stays.sure (k.stays.sure s);
-  tells = λ s h e.
-      let m = k.holds s h e in
-      let n = a.alone m.0 (k.stays.honest h) m.1 in
-      (a.stays.honest (k.stays.honest h), (n.0, n.1));
-}
-
--- behind the names alone
-reaches_named : (before mid : Shelving) → IsCalm before mid → Keeps is_names before mid → Reaches before mid
-reaches_named before mid calm k = record {
-  calm = calm;
-  root = k.stays.root;
-  sure = k.stays.sure;
-  tells = λ s h e. let m = k.holds s h e in (k.stays.honest h, (m.0, m.1));
-}
-
-pub all_named : (before mid : List Shelving) → Each IsCalm before mid → Each (Keeps is_names) before mid → Each Reaches before mid
-all_named [] [] calm k = tt
-all_named [] (m ∷ ms) calm k = absurd k
-all_named (b ∷ bs) [] calm k = absurd k
-all_named (b ∷ bs) (m ∷ ms) calm k = (reaches_named b m calm.0 k.0, all_named bs ms calm.1 k.1)
-
-pub all_only_read : (before mid : List Shelving) → Each (Keeps is_names) before mid → Each (Keeps is_reading) before mid
-all_only_read before mid k = each_by (Keeps is_names) (Keeps is_reading) (λ b a h. names_only_read b a h) before mid k
+  pub lift_over : (task : Task) (tried : List Tried) (old new : Spawning) (outcome : Outcome) → LaunchesOver task tried (record { stores = mid; spawner = old }) (record { stores = after; spawner = new }) outcome
+      → LaunchesOver task tried (record { stores = before; spawner = old }) (record { stores = after; spawner = new }) outcome
+  lift_over task tried old new outcome (inl (not, nothing)) = inl (lift_not task tried outcome not, nothing)
+  lift_over task tried old new outcome (inr (launch, ready, starts)) = inr (launch, lift_ready task tried launch ready, starts)
 
 -- Nothing was chosen.
 pub unfound_run : (asked : Asked) (vars : List Var) (user : List (List ℕ)) (old new : Feeding) (shelf mid : Shelving) (others thens : List Shelving) (web : Feeding) (spawner : Spawning) (out : Sinking) (outcome : Outcome)
@@ -209,19 +157,19 @@ module _ (asked : Asked) (vars : List Var) (user : List (List ℕ)) (fed new : F
 
   -- All were fetched, and they are launched.
   pub fetched_run : (web then : Feeding) (now after : Shelving) (ends : List Shelving) (old next : Spawning) (out : Sinking) (stored : Names) (outcome : Outcome)
-      → FetchesAll c (record { web = web; shelf = mid }) (Ok stored) (record { web = then; shelf = now })
-      → LaunchesOver (record { sels = c.sels; each = c.known.each; stored = stored; vars = vars; user = user }) (record { stores = now ∷ thens; spawner = old }) (record { stores = after ∷ ends; spawner = next }) outcome
-      → Each (Keeps is_reading) (now ∷ thens) (after ∷ ends)
+      → FetchesAll c (record { web = web; shelf = mid }) (Ok stored) (record { web = then; shelf = now }) → HavePrograms c.sels
+      → LaunchesWith (record { sels = c.sels; each = c.known.each; stored = stored; vars = vars; user = user }) (record { stores = now ∷ thens; spawner = old }) (record { stores = after ∷ ends; spawner = next }) outcome
       → RunsProgram asked vars user (record { feeds = fed; shelf = shelf; others = others; web = web; spawner = old; out = out }) (record { feeds = new; shelf = after; others = ends; web = then; spawner = next; out = out }) outcome
-  fetched_run web then now after ends old next out stored outcome g launches k =
+  fetched_run web then now after ends old next out stored outcome g programs l =
       let turn = g.fetches.in_turn in
       let done = turn_done (from_chosen c) c.sels.items (names_in c) web g.tried then turn in
       let r : Each Reaches (shelf ∷ others) (now ∷ thens) = (reaches g.tried shelf mid now done f.answer.1.0.0.0 f.stores.0 g.adds, all_named others thens f.answer.1.0.0.1 f.stores.1) in
-      let u = reads_use g.tried shelf mid now after (names_only_read shelf mid f.stores.0) g.adds k.0 in
-      let gains = uses_gain g.tried shelf after u in
-      let read = reads_then others thens ends (all_only_read others thens f.stores.1) k.1 in
+      let tried = g.tried ++ l.tried in
+      let u = read_use tried shelf mid after (names_only_read shelf mid f.stores.0) (adds_more g.tried l.tried mid now after g.adds l.works.0) in
+      let gains = uses_gain tried shelf after u in
+      let read = reads_then others thens ends (all_only_read others thens f.stores.1) l.works.1 in
       let task : Task = record { sels = c.sels; each = c.known.each; stored = stored; vars = vars; user = user } in
-      let over = lift_over (shelf ∷ others) (now ∷ thens) (after ∷ ends) r task old next outcome launches in
+      let over = lift_over (shelf ∷ others) (now ∷ thens) (after ∷ ends) r task l.tried old next outcome l.launches in
       let there = subst (λ n. All (λ x. is_there n x ≡ true) c.sels.items) (sym g.fetches.names) (turn_there (from_chosen c) c.sels.items (names_in c) web g.tried then turn) in
       let placed = all_placed (tree_folder task (shelf ∷ others)) stored c.sels.items there in
       let is = f.answer.2 in
@@ -232,18 +180,21 @@ module _ (asked : Asked) (vars : List Var) (user : List (List ℕ)) (fed new : F
         feeds = f.feeds;
         web = web_stays c web (Ok stored) g.tried then g.fetches;
         out = refl;
-        tried = g.tried;
+        tried = tried;
         comes = inr (
           c,
           chosen_so asked fed new shelf mid others thens c f,
           inr (record {
             stored = stored;
+            done = g.tried;
+            shims = l.tried;
+            all = refl;
             fetched = g.fetches;
             there = missed;
             placed = placed;
             launches = over;
-            found = never_missing c web then stored g.tried shelf after others ends f.answer.1.0.1 g.fetches gains u.stays read task old next outcome refl refl missed over;
-            whole = lacks_nothing task (shelf ∷ others) (after ∷ ends) old next outcome whole placed over;
+            found = never_missing c web then stored g.tried l.tried shelf after others ends f.answer.1.0.1 g.fetches gains u.stays read task old next outcome refl refl missed over;
+            whole = lacks_nothing task l.tried (shelf ∷ others) (after ∷ ends) old next outcome whole (all_programs c.sels (folders_in task (shelf ∷ others)) programs) placed over;
           }),
         );
         shelf = u;

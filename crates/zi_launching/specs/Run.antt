@@ -1,5 +1,5 @@
 -- `run`: what the best choice selects is fetched, and launched.
-use Rattle.std.specs.Prelude.{◌≡◌, ◌≢◌, ◌⊎◌, ℕ, List, Option, Some, None, IsSome, All, Err}
+use Rattle.std.specs.Prelude.{◌≡◌, ◌≢◌, ◌⊎◌, ℕ, List, ◌++◌, Option, None, IsSome, All, Err}
 use Rattle.zi_outside.specs.declared.var.Var.{Var}
 use Rattle.zi_shelf.specs.Shelving.{Shelving}
 use Rattle.zi_shelf.specs.Told.{Told}
@@ -44,15 +44,18 @@ IsNoLack command other = Unit {0}
 abbrev pub LacksNothing : Option (List ℕ) → Outcome → Type 0
 LacksNothing command outcome = (fault : PlanFault) → outcome ≡ Plan fault → IsNoLack command fault
 
--- Or all are fetched, so none is missing a tree and each but a package has a folder, and then they are launched, over the digest names that are stored
--- then. Their plan fails by nothing that is missing, but where the words ask for no command; and while nobody else writes the store no tree
--- is found missing when it is read.
+-- Or all are fetched, so none is missing a tree and each but a package has a folder, and then they are launched, over the digest names that are
+-- stored then. Their plan fails by nothing that is missing, nor do the words of their shims, but where the words ask for no command; and while
+-- nobody else writes the store no tree is found missing when it is read. What was tried are the trees that were fetched, and then the shims.
 pub record FetchesAndLaunches (c : Chosen) (vars : List Var) (user : List (List ℕ)) (tried : List Tried) (before after : Surroundings) (outcome : Outcome) : Type 0 where
   pub stored : Names
-  pub fetched : Fetches c before.web stored tried after.web
+  pub done : List Tried
+  pub shims : List Tried
+  pub all : tried ≡ done ++ shims
+  pub fetched : Fetches c before.web stored done after.web
   pub there : first_missing stored c.sels.items ≡ None
   pub placed : All (λ x. IsSome x.«package» ⊎ IsSome (folder (stored_at (launching before).stores (place c.known.each)) stored x)) c.sels.items
-  pub launches : LaunchesOver (record { sels = c.sels; each = c.known.each; stored = stored; vars = vars; user = user }) (launching before) (launching after) outcome
+  pub launches : LaunchesOver (record { sels = c.sels; each = c.known.each; stored = stored; vars = vars; user = user }) shims (launching before) (launching after) outcome
   pub found : NoneMissing (launching before).stores outcome
   pub whole : LacksNothing c.sels.command outcome
 

@@ -38,6 +38,20 @@ fn stored_folder(alloc: Global, root: &str, name: &DigestName) -> Result<Text, M
     Ok(folder)
 }
 
+/// The folder of a stored tree, in the store where it stands.
+pub(crate) fn stored_place<K: Shelf, R: Shelf>(
+    alloc: Global,
+    name: &DigestName,
+    places: &Places,
+    shelf: &K,
+    others: &[R],
+) -> Result<Text, Memory>
+    ensures { IfOk result (λ t. t ≡ stored_at (K.seen shelf.now ∷ map R.seen others.now) (place_in places.now.stores.entries) name.now) }
+{
+    let store = places.place(alloc, name)?;
+    stored_folder(alloc, root_at(store, shelf, others), name)
+}
+
 // What has no path and none of whose digests is stored: a tree is missing, if it has a digest.
 fn without_tree(alloc: Global, item: &Selection) -> Result<Option<Text>, Outcome>
     ensures { MatchResult result (λ path. (path ≡ None) × (first item.now.digests ≡ None)) (LacksFolder (first item.now.digests)) }
@@ -85,8 +99,7 @@ fn folder<K: Shelf, R: Shelf>(
     let Some(name) = first_stored(alloc, item.digests.as_slice(), stored)? else {
         return without_tree(alloc, item);
     };
-    let store = places.place(alloc, &name)?;
-    Ok(Some(stored_folder(alloc, root_at(store, shelf, others), &name)?))
+    Ok(Some(stored_place(alloc, &name, places, shelf, others)?))
 }
 
 /// The folders of what is selected, in its order. `MissingTree` names the first digest of the first that has digests and none of

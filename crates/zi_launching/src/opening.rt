@@ -1,11 +1,10 @@
 //! The work of `launch`.
 ghost use Rattle.std.specs.Prelude.{◌≡◌, ◌+◌, ◌∷◌, map, length};
 ghost use Rattle.zi_outside.specs.Views.{Feeding, Sinking};
-ghost use Rattle.zi_store.specs.Keeping.{Keeps, is_reading};
-ghost use Rattle.zi_store.specs.Stores.{Each};
 ghost use Rattle.zi_choosing.specs.Knowing.{all_names};
 ghost use Rattle.zi_fetching.specs.Known.{names_of};
-ghost use Rattle.zi_launching.specs.Launching.{LaunchesOver};
+ghost use Rattle.zi_shim_laws.specs.Names.{HaveShimNames};
+ghost use Rattle.zi_launching.specs.Launching.{LaunchesWith};
 ghost use Rattle.zi_launching.specs.Opening.{LaunchesFile};
 
 use crate::launching::launch_over;
@@ -18,6 +17,7 @@ use zi_outcome::Outcome;
 use zi_outside::{Feeds, Spawner, Vars};
 use zi_sels::Selections;
 use zi_shelf::Shelf;
+use zi_shim_laws::names_of_shims_are_right;
 use zi_text::{List, Text};
 
 // Launches selections over the digest names in the stores.
@@ -31,15 +31,23 @@ fn launch_named<K: Shelf, R: Shelf, P: Spawner>(
     others: &mut [R],
     spawner: &mut P,
 ) -> Outcome
-    requires { length each.now ≡ length others.old + 1 }
-    ensures launches { LaunchesOver (record { sels = sels.now; each = each.now; stored = names_of (all_names each.now); vars = vars.now; user = user.now })
+    requires stores { length each.now ≡ length others.old + 1 }
+    requires names { HaveShimNames sels.now }
+    ensures { LaunchesWith (record { sels = sels.now; each = each.now; stored = names_of (all_names each.now); vars = vars.now; user = user.now })
         (record { stores = K.seen shelf.old ∷ map R.seen others.old; spawner = P.seen spawner.old })
         (record { stores = K.seen shelf.new ∷ map R.seen others.new; spawner = P.seen spawner.new }) result }
-    ensures keeps { Each (Keeps is_reading) (K.seen shelf.old ∷ map R.seen others.old) (K.seen shelf.new ∷ map R.seen others.new) }
 {
     match Stored::of(alloc, each.as_slice()) {
-        Ok(stored) => launch_over(
-            alloc, sels, each, &stored, vars, user, shelf, others, spawner,
+        Ok(mut stored) => launch_over(
+            alloc,
+            sels,
+            each,
+            &mut stored,
+            vars,
+            user,
+            shelf,
+            others,
+            spawner,
         ),
         Err(_) => Outcome::Memory,
     }
@@ -65,6 +73,7 @@ pub fn launch<F: Feeds, K: Shelf, R: Shelf, P: Spawner>(
         Ok(sels) => sels,
         Err(outcome) => return outcome,
     };
+    names_of_shims_are_right();
     match find_names(alloc, shelf, others) {
         Ok(each) => launch_named(alloc, &sels, &each, vars, user, shelf, others, spawner),
         Err(outcome) => outcome,

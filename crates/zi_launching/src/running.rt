@@ -10,6 +10,7 @@ use zi_fetching::fetch_all;
 use zi_outcome::Outcome;
 use zi_outside::{Feeds, Spawner, Vars, Web};
 use zi_shelf::Shelf;
+use zi_shim_laws::{commands_of_shims_are_there, names_of_shims_are_right};
 use zi_text::Text;
 
 /// Finds the best choice as `select` does, fetches what it selects and no store has, and launches it with the user's words.
@@ -35,12 +36,14 @@ pub fn run<F: Feeds, K: Shelf, R: Shelf, W: Web, P: Spawner>(
         Err(outcome) => return outcome,
     };
     let _whole = chosen.universe.interfaces();
+    names_of_shims_are_right();
+    commands_of_shims_are_there();
     match fetch_all(alloc, &chosen, web, shelf) {
-        Ok(stored) => launch_over(
+        Ok(mut stored) => launch_over(
             alloc,
             &chosen.sels,
             &chosen.known.each,
-            &stored,
+            &mut stored,
             vars,
             user,
             shelf,

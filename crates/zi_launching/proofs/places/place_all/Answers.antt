@@ -1,4 +1,4 @@
-use Rattle.zi_launching.proofs.PlacesLaws.{placed_at_first, placed_next}
+use Rattle.zi_launching.proofs.PlacesLaws.{placed_next}
 use Rattle.zi_launching.proofs.places.place_all.Goals as goal
 
 pub loop-store-preserved : goal.loop-store-preserved

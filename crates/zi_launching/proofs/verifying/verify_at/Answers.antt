@@ -1,9 +1,8 @@
-use Rattle.std.proofs.Common.{◌-◌, map, refl, rules, inl, inr, ◌⊎◌, ◌≡◌, Err}
+use Rattle.std.proofs.Common.{◌-◌, map, refl, rules}
 use Rattle.zi_store.specs.Keeping.{Keeps, is_reading}
-use Rattle.zi_store.specs.Stores.{IsCalm}
 use Rattle.zi_store.specs.KeptNames.{IsKept}
 use Rattle.zi_store.proofs.KeepingLemmas.{keeps_none}
-use Rattle.zi_store.proofs.StoresLemmas.{each_same, each_set, calm_same}
+use Rattle.zi_store.proofs.StoresLemmas.{each_same, each_set}
 use Rattle.zi_world.proofs.PlacesLemmas.{in_store_set, behind_first, at_first}
 use Rattle.zi_launching.specs.Verifying.{VerifiesKept}
 use Rattle.zi_launching.proofs.LaunchLaws.{calm_first, calm_other}

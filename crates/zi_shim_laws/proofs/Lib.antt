@@ -1,0 +1,6 @@
+mod NameLaws
+mod PartLaws
+mod FeedLaws
+mod LoadedLaws
+mod SelectionLaws
+mod ProgramLaws
