@@ -5,18 +5,18 @@ In most kinds half of a feed is one thing that is said once, and half are elemen
 that are read, not with the product of the two halves. Each run has a limit of memory and one of time, so that it harms no one else: where it
 needs more the line says so, and larger sizes of that kind aren't tried. ZI_PROGRAM names another program than the built one, ZI_LIMIT the
 limit of memory in MiB (default 2048), ZI_SECONDS that of processor time (default 60). Words behind the script's name pick kinds by their
-beginnings; numbers pick sizes, in MiB.
+beginnings; numbers pick sizes, in MiB. ZI_BESIDE may name another program, whose processor time is then compared with (as one from before a
+change).
 """
-import sys
-
-sys.path.append(sys.path.pop(0))  # last: select.py beside this file has the name of a module that subprocess needs
-
 import os
 import resource
 import shutil
 import signal
 import subprocess
+import sys
 import tempfile
+
+from measure import beside
 
 TOP = os.path.dirname(os.path.dirname(os.path.abspath(__file__)))
 PROGRAM = os.environ.get("ZI_PROGRAM", os.path.join(TOP, "crates", "zi", "out", "zi"))
@@ -153,10 +153,10 @@ def limited():
     resource.setrlimit(resource.RLIMIT_CORE, (0, 0))
 
 
-def run(words):
+def run(words, program=PROGRAM):
     """One run: its processor time in seconds, its peak memory in MiB, its status and its line."""
     child = subprocess.Popen(
-        [PROGRAM, "select", "--no-command", *words], preexec_fn=limited, stdout=subprocess.DEVNULL, stderr=subprocess.PIPE
+        [program, "select", "--no-command", *words], preexec_fn=limited, stdout=subprocess.DEVNULL, stderr=subprocess.PIPE
     )
     with child.stderr:
         error = child.stderr.read().decode(errors="replace").strip()
@@ -169,14 +169,16 @@ def measured(make, size):
     """One line for a kind at a size, and whether larger ones are worth a try."""
     folder = tempfile.mkdtemp(prefix="zi-bench-")
     try:
-        taken, peak, status, error = run(make(folder, size * 2**20 - 1024))  # with its root a feed of 4 MiB is within the limit
+        words = make(folder, size * 2**20 - 1024)  # with its root a feed of 4 MiB is within the limit
+        taken, peak, status, error = run(words)
+        other = beside(PROGRAM, lambda one: run(words, one)[0]) if status >= 0 and status != NO_MEMORY else ""
     finally:
         shutil.rmtree(folder)
     if status in (-signal.SIGXCPU, -signal.SIGKILL):
         return f"more than {SECONDS} s, then at {peak:.1f} MiB", False
     if status == NO_MEMORY:
         return f"more than {LIMIT >> 20} MiB, after {taken:.2f} s", False
-    line = f"{taken:8.2f} s, peak {peak:7.1f} MiB, {peak / size:6.1f} times the size"
+    line = f"{taken:8.2f} s, peak {peak:7.1f} MiB, {peak / size:6.1f} times the size{other}"
     return line if status == 0 else f"{line}, status {status}: {error[:100]}", True
 
 

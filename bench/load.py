@@ -2,7 +2,8 @@
 """Times the loading of many candidates, interfaces and feeds up to their limits, and against `0install select` where that is installed.
 
 Prints the best of some runs for each size, the ratio of the time per item to that of the smallest size, the peak memory, and the
-ratio to 0install on the same feeds in the same run, where that ends within a minute.
+ratio to 0install on the same feeds in the same run, where that ends within a minute. The variable ZI_BESIDE may name another program, whose
+processor time is then compared with (as one from before a change).
 """
 import os
 import shutil
@@ -11,7 +12,7 @@ import sys
 import tempfile
 import time
 
-from measure import timed_with_peak
+from measure import beside, processor_time, timed_with_peak
 
 TOP = os.path.dirname(os.path.dirname(os.path.abspath(__file__)))
 PROGRAM = os.environ.get("ZI_PROGRAM", os.path.join(TOP, "crates", "zi", "out", "zi"))
@@ -105,6 +106,7 @@ def main():
                 other_time = theirs(other, folder, root)
                 given_up = other_time is None
                 line += f", 0install fails or takes more than {SECONDS} s" if given_up else f", {taken / other_time:.3f} of 0install's time"
+            line += beside(PROGRAM, lambda one: processor_time([one, "select", "--no-command", root], wanted))
             print(line, flush=True)
             shutil.rmtree(folder)
     if not other:

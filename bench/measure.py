@@ -1,10 +1,15 @@
 """What several of these scripts do: they fill folders with trees, and time programs."""
 import os
+import resource
 import signal
+import statistics
 import subprocess
 import sys
-import threading
 import time
+
+BESIDE = os.environ.get("ZI_BESIDE")
+IS_BUSY = bool(os.environ.get("ZI_BUSY"))
+ROUNDS = 8
 
 
 def put(path, data):
@@ -32,31 +37,69 @@ def forget_peak():
         pass
 
 
+def processor_time_of_children():
+    """What all that have ended took so far."""
+    used = resource.getrusage(resource.RUSAGE_CHILDREN)
+    return used.ru_utime + used.ru_stime
+
+
+def limited(seconds):
+    """What limits a program's processor time before it begins. One that takes longer is ended by a signal."""
+    return lambda: resource.setrlimit(resource.RLIMIT_CPU, (seconds, seconds + 1))
+
+
+def is_given_up(status):
+    """Whether a program was ended since it took too long, by its status as subprocess has it."""
+    return status in (-signal.SIGXCPU, -signal.SIGKILL)
+
+
 def timed_with_peak(command, runs, wanted=0, env=None, given=os.devnull, seconds=None):
     """The least time and the most memory of some runs, in seconds and bytes; each is to end with the status that is wanted.
 
-    What they read from standard input is the file `given`. One that takes longer than so many seconds is ended, and
-    subprocess.TimeoutExpired is raised.
+    What they read from standard input is the file `given`. One that takes more processor time than so many seconds is ended, and
+    subprocess.TimeoutExpired is raised. Where the variable ZI_BUSY is set it is the least processor time, which tells more on a busy machine.
     """
     best, peak = float("inf"), 0
     for _ in range(runs):
         forget_peak()
         with open(given, "rb") as source:
             start = time.perf_counter()
-            child = subprocess.Popen(command, stdin=source, stdout=subprocess.DEVNULL, stderr=subprocess.PIPE, env=env)
-        end = threading.Timer(seconds, child.kill) if seconds else None
-        if end:
-            end.start()
+            child = subprocess.Popen(
+                command, stdin=source, stdout=subprocess.DEVNULL, stderr=subprocess.PIPE, env=env, preexec_fn=limited(seconds) if seconds else None
+            )
         with child.stderr:
             error = child.stderr.read()
         _, status, usage = os.wait4(child.pid, 0)
-        if end:
-            end.cancel()
-            if os.WIFSIGNALED(status) and os.WTERMSIG(status) == signal.SIGKILL:
-                raise subprocess.TimeoutExpired(command, seconds)
         child.returncode = os.waitstatus_to_exitcode(status)
-        best = min(best, time.perf_counter() - start)
+        if seconds and is_given_up(child.returncode):
+            raise subprocess.TimeoutExpired(command, seconds)
+        best = min(best, usage.ru_utime + usage.ru_stime if IS_BUSY else time.perf_counter() - start)
         if child.returncode != wanted:
             sys.exit(f"{command[0]}: status {child.returncode}: {error.decode(errors='replace').strip()}")
         peak = max(peak, usage.ru_maxrss * 1024)
     return best, peak
+
+
+def processor_time(command, wanted=0):
+    """The processor time of one run, which is to end with the status that is wanted, in seconds."""
+    child = subprocess.Popen(command, stdin=subprocess.DEVNULL, stdout=subprocess.DEVNULL, stderr=subprocess.PIPE)
+    with child.stderr:
+        error = child.stderr.read()
+    _, status, usage = os.wait4(child.pid, 0)
+    child.returncode = os.waitstatus_to_exitcode(status)
+    if child.returncode != wanted:
+        sys.exit(f"{command[0]}: status {child.returncode}: {error.decode(errors='replace').strip()}")
+    return usage.ru_utime + usage.ru_stime
+
+
+def beside(program, time_of):
+    """How a program's time compares with that of the one that the variable ZI_BESIDE names, by the least and by the middle of some rounds, in which
+    the two take turns; nothing where it names none. `time_of` runs the one that it is told, and answers its processor time."""
+    if not BESIDE:
+        return ""
+    times = {program: [], BESIDE: []}
+    for number in range(ROUNDS):
+        for one in sorted(times, reverse=number % 2 == 0):
+            times[one].append(time_of(one))
+    least, middle = (of(times[program]) / max(of(times[BESIDE]), 1e-6) for of in (min, statistics.median))
+    return f"; {least:.3f} of the time of {BESIDE}, {middle:.3f} by the middle"

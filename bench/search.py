@@ -12,8 +12,8 @@ Then come feeds: the demonstration, whose formula the other solvers get too, and
 behind forty choices that have nothing to do with them. There `select --proof` tells the lemmas. 0install is given up after two minutes.
 
 Last come webs at random, with a solution and without one, near the edge between the two, where they are hard. The other solvers get their formulas: they find any
-model, where the program finds the best choice. A web for which the budget of the command line is spent is told as such. With the word
-`webs` behind its name the script runs these alone.
+model, where the program finds the best choice. A web for which the budget of the command line is spent is told as such; the other solvers and
+0install are given up after a minute there. With the word `webs` behind its name the script runs these alone.
 """
 import collections
 import itertools
@@ -27,8 +27,9 @@ import subprocess
 import sys
 import tempfile
 import time
+from typing import NamedTuple
 
-from measure import timed_with_peak
+from measure import IS_BUSY, is_given_up, limited, processor_time_of_children, timed_with_peak
 from shapes import hard_web, knot, pigeons as pigeons_as_feeds, theirs_on, write_feeds
 
 sys.path.append(str(pathlib.Path(__file__).resolve().parent.parent / "tests"))
@@ -56,6 +57,7 @@ UNSOLVABLE = (("three pigeons in two holes beside 40 choices", knot, 40), ("9 pi
 # interfaces, versions, what each names, the part of the versions that is admitted, the kind, the seed
 WEBS = (
     (50, 20, 3, 0.4, "req", 0),
+    (50, 20, 3, 0.3, "req", 0),
     (70, 6, 3, 0.5, "req", 0),
     (80, 7, 3, 0.45, "req", 0),
     (100, 6, 3, 0.5, "any", 1),
@@ -69,6 +71,7 @@ WEBS = (
     (100, 20, 3, 0.3, "any", 0),
 )
 WEB_SECONDS = 120
+THEIR_WEB_SECONDS = 60
 
 # the other solvers: what they are called with before the formula, and where they tell their conflicts
 OTHERS = {
@@ -76,6 +79,8 @@ OTHERS = {
     "cadical": (["cadical", "-n"], re.compile(r"^c conflicts:\s*(\d+)", re.M)),
 }
 ANSWERS = {10: "model", 20: "refuted"}
+# how they end where their time is over
+ENDED = (0, 1)
 
 
 def dimacs(variables, clauses, groups=()):
@@ -104,14 +109,21 @@ def threes(variables, seed):
     return text, text
 
 
-def timed(words, **given):
-    """What a run wrote, its status and its time; None where it takes too long."""
-    start = time.perf_counter()
-    try:
-        done = subprocess.run(words, capture_output=True, text=True, timeout=SECONDS, **given)
-    except subprocess.TimeoutExpired:
+class Run(NamedTuple):
+    out: str
+    status: int
+    taken: float
+    error: str
+
+
+def timed(words, seconds=SECONDS, **given):
+    """What a run wrote, its status and its time (processor time, where the variable ZI_BUSY is set); None where it takes more processor time."""
+    start, used = time.perf_counter(), processor_time_of_children()
+    done = subprocess.run(words, stdout=subprocess.PIPE, stderr=subprocess.PIPE, text=True, preexec_fn=limited(seconds), **given)
+    if is_given_up(done.returncode):
         return None
-    return done.stdout, done.returncode, time.perf_counter() - start
+    taken = processor_time_of_children() - used if IS_BUSY else time.perf_counter() - start
+    return Run(done.stdout, done.returncode, taken, done.stderr)
 
 
 def ours(text):
@@ -119,18 +131,20 @@ def ours(text):
     run = timed([PROGRAM, "search", str(BUDGET)], input=text)
     if run is None:
         return None
-    out, status, taken = run
+    out, status, taken, _ = run
     if status != 0 or out.split("\n", 1)[0] not in ("model", "refuted", "spent"):
         sys.exit(f"{PROGRAM}: status {status}, {out[:40]!r}")
     return out.split("\n", 1)[0], out.count("\nl "), taken
 
 
-def theirs(name, path):
+def theirs(name, path, seconds=SECONDS):
     words, conflicts = OTHERS[name]
-    run = timed([*words, path])
+    run = timed([*words, path], seconds)
     if run is None:
         return None
-    out, status, taken = run
+    out, status, taken, _ = run
+    if status in ENDED:
+        return None
     if status not in ANSWERS:
         sys.exit(f"{name}: status {status}")
     told = conflicts.search(out)
@@ -219,33 +233,28 @@ def on_web(others, *numbers):
     with tempfile.TemporaryDirectory(prefix="zi-bench-") as folder:
         root, _ = write_feeds(folder, hard_web(*numbers))
         print(f"a web of {count} interfaces by {versions}, {needs} named, {admitted} admitted, {kind}, {seed}")
-        start = time.perf_counter()
-        try:
-            told = subprocess.run([ZI, "select", "--no-command", "--proof", root], capture_output=True, text=True, timeout=WEB_SECONDS)
-        except subprocess.TimeoutExpired:
-            told = None
-        taken = time.perf_counter() - start
+        told = timed([ZI, "select", "--no-command", "--proof", root], WEB_SECONDS)
         if told is None:
             print(f"  here: given up after {WEB_SECONDS} s", flush=True)
-        elif told.returncode == SPENT:
-            print(f"  here: {told.stderr.strip()}, {taken:.3f} s", flush=True)
-        elif told.returncode in (DONE, NO_SOLUTION):
-            print(f"  here: {'the best choice' if told.returncode == DONE else 'no solution'}, {told.stdout.count(chr(10) + 'l ')} lemmas, {taken:.3f} s", flush=True)
+        elif told.status == SPENT:
+            print(f"  here: {told.error.strip()}, {told.taken:.3f} s", flush=True)
+        elif told.status in (DONE, NO_SOLUTION):
+            print(f"  here: {'the best choice' if told.status == DONE else 'no solution'}, {told.out.count(chr(10) + 'l ')} lemmas, {told.taken:.3f} s", flush=True)
         else:
-            sys.exit(f"{ZI}: status {told.returncode}: {told.stderr.strip()}")
+            sys.exit(f"{ZI}: status {told.status}: {told.error.strip()}")
         asked = universes.Asked(root)
         path = pathlib.Path(folder, "formula.cnf")
         path.write_text(for_others(universes.formula(universes.load(asked), asked)))
         for name in others:
-            run = theirs(name, path)
-            if run and told and told.returncode != SPENT and answered(run) != (told.returncode == DONE):
+            run = theirs(name, path, THEIR_WEB_SECONDS)
+            if run and told and told.status != SPENT and answered(run) != (told.status == DONE):
                 sys.exit(f"the web {numbers}: the answers are not the same")
-            ratio = f", {taken / run[2]:.2f} times its time here" if run else ""
-            print(f"  {name}: " + (f"given up after {SECONDS} s" if run is None else f"{run[0]}, {run[1]} conflicts, {run[2]:.3f} s{ratio}"), flush=True)
+            ratio = f", {told.taken / run[2]:.2f} times its time here" if run and told else ""
+            print(f"  {name}: " + (f"given up after {THEIR_WEB_SECONDS} s" if run is None else f"{run[0]}, {run[1]} conflicts, {run[2]:.3f} s{ratio}"), flush=True)
         try:
-            theirs_taken = theirs_on(folder, root, 1, 1 if told and told.returncode == NO_SOLUTION else 0, THEIR_SECONDS)
+            theirs_taken = theirs_on(folder, root, 1, 1 if told and told.status == NO_SOLUTION else 0, THEIR_WEB_SECONDS)
         except subprocess.TimeoutExpired:
-            print(f"  0install: given up after {THEIR_SECONDS} s", flush=True)
+            print(f"  0install: given up after {THEIR_WEB_SECONDS} s", flush=True)
             return
         print("  0install isn't installed: no ratio to it" if theirs_taken is None else f"  0install: {theirs_taken:.2f} s", flush=True)
 

@@ -3,7 +3,11 @@
 
 Run it after `rt ci`, which builds the program. Interfaces in a chain and in a web have a choice, and so has the last shape, where only
 the oldest of many versions fits: its certificate is written too, and its size printed. At the end of the third chain no version
-fits, so there is no choice. Where there is one, `zi why` is timed beside `zi select --proof`, which it may take 1.3 times as long as. A size is printed with the ratio of its time to that of the one before it, and of their interfaces or versions.
+fits, so there is no choice, and there is none for pigeons in too few holes and in the web near the edge of what can be solved. Where there is
+one, `zi why` is timed beside `zi select --proof`, which it may take 1.3 times as long as. Where there is none, `zi conflict` is timed beside
+`zi select`: it may take twice as long where no lemma was needed, and three times as long where the choice was searched for. A size is printed
+with the ratio of its time to that of the one before it, and of their interfaces or versions. The variable ZI_BESIDE may name another
+program, whose processor time `zi select` is then compared with (as one from before a change).
 """
 import os
 import pathlib
@@ -11,8 +15,8 @@ import subprocess
 import sys
 import tempfile
 
-from measure import timed_with_peak
-from shapes import chain, impl, impls, requires, stumbling, theirs_on, web, write_feeds
+from measure import beside, processor_time, timed_with_peak
+from shapes import chain, hard_web, impl, impls, knot, pigeons, requires, stumbling, theirs_on, web, write_feeds
 
 TOP = pathlib.Path(__file__).resolve().parent.parent
 PROGRAM = os.environ.get("ZI_PROGRAM", str(TOP / "crates/zi/out/zi"))
@@ -44,6 +48,9 @@ SHAPES = (
     ("versions of which the oldest alone fits", oldest, (15_000, 30_000, 60_000), (0, 0), True, False),
     ("interfaces of sixteen versions around one", wide, (1024, 2048, 4096), (0, 0), False, False),
     ("interfaces in a chain with 500 conflicts in 4,096", stumbling, (1024, 2048, 4096), (0, 0), False, False),
+    ("choices beside three pigeons in two holes", knot, (10, 20, 40), (73, 1), False, False),
+    ("pigeons in one hole fewer", pigeons, (7, 8, 9), (73, 1), False, False),
+    ("interfaces of six versions in a web near the edge", lambda count: hard_web(count, 6, 3, 0.5, "req", 0), (70,), (73, 1), False, False),
 )
 
 
@@ -56,6 +63,13 @@ def reasons(root):
     """The time of the reasons, as a ratio to that of the same choice with its certificate."""
     why, proof = (timed_with_peak([PROGRAM, *words, "--no-command", root], RUNS)[0] for words in (["why"], ["select", "--proof"]))
     return why / proof
+
+
+def conflicts(root):
+    """The time of the facts that leave no choice, as a ratio to that of finding that there is none, and how many lemmas that needs."""
+    conflict, select = (timed_with_peak([PROGRAM, word, "--no-command", root], RUNS, 73)[0] for word in ("conflict", "select"))
+    proof = subprocess.run([PROGRAM, "select", "--no-command", "--proof", root], stdout=subprocess.PIPE, stderr=subprocess.DEVNULL).stdout
+    return conflict / select, proof.count(b"\nl ")
 
 
 def main():
@@ -76,9 +90,13 @@ def main():
                     line += f", certificate {certificate(root)} bytes"
                 if here == 0:
                     line += f", why {reasons(root):.2f} times select --proof"
+                else:
+                    ratio, lemmas = conflicts(root)
+                    line += f", {lemmas} lemmas, conflict {ratio:.2f} times select"
                 if is_compared:
                     theirs = theirs_on(folder, root, RUNS, there)
                     line += "; 0install isn't installed: no ratio to it" if theirs is None else f"; {ours / theirs:.3f} of 0install's time ({theirs:.2f} s)"
+                line += beside(PROGRAM, lambda one: processor_time([one, "select", "--no-command", root], here))
                 print(line, flush=True)
 
 

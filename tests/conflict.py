@@ -100,7 +100,10 @@ class Feeds:
         """The facts of a line, or none where the feeds don't say it."""
         for interface, words in dict.fromkeys((fact.interface, fact.words) for fact in self.facts):
             facts = [fact for fact in self.facts if (fact.interface, fact.words) == (interface, words)]
-            those = list(dict.fromkeys(fact.candidate for fact in facts))
+            those = []
+            for fact in facts:
+                if fact.candidate not in those:
+                    those.append(fact.candidate)
             if line.startswith(f"  {interface} ") and line.endswith(words):
                 some = [c for c in those if version(self.candidates[interface], c) in line[: len(line) - len(words)].removeprefix(f"  {interface} ").removeprefix("(every version) ").split(", ")]
                 if some and line == self.line(interface, some, words):

@@ -3,13 +3,13 @@
 the ordinary one, and it is the ordinary one only where all that is seen behind it is as ever; else nothing was launched, a front of the
 ordinary text was written, and each tree that was stored is there as before, but those that a purge takes away.
 
-It isn't part of the gate, since a run costs some tenths of a second and there are many: each call of each row, over what its paragraph told
+It isn't part of the gate, since there are many runs and each is a process of its own: each call of each row, over what its paragraph told
 before it, once for each allocation between its words and its end, or for so many of them, evenly apart, as `--runs` says. The program is
 built by `rt try`, so it isn't proved for this; the build takes minutes, once for each slice. The status is 1 where a run is wrong.
 
     tests/memory.py                      each call of each row, 20 allocations of each
     tests/memory.py --runs 0             each allocation
-    tests/memory.py --first 40 --rows 5  the calls number 40 to 44
+    tests/memory.py --first 7 --every 40 the calls number 7, 47, 87 and so on
 """
 import argparse
 import os
@@ -21,12 +21,12 @@ import time
 
 TOP = os.path.dirname(os.path.dirname(os.path.abspath(__file__)))
 CRATE = os.path.join(TOP, "crates", "command_rows")
-# The number of the allocation that fails. What a row needs less is spent before it.
-AT = 100_000
+# The number of the allocation that fails: what a row makes less is spent before it. A row that makes more is left out.
+AT = 10_000
 # More allocations than any row needs.
 NEVER = 4_000_000_000
 CALLS = ("zi", "quiet")
-ASKS = tuple("# each cuts cut words bare address last variable folders launched asked called reads made stored first times".split(" "))
+ASKS = tuple("# each cuts cut words bare address last variable folders shims launched asked called reads made stored first times".split(" "))
 
 
 class Row:
@@ -36,7 +36,9 @@ class Row:
         self.title = title
         self.told = told
         self.call = f"zi {words}".rstrip()
-        self.questions = ["launched", *questions_of(told), *(f"first {name}" for name in names_in(words))]
+        self.questions = ["launched", *questions_of(told)]
+        if not any(line.startswith("fails ") for line in told):
+            self.questions += [f"zi store verify {name}" for name in sorted(set(names_in([*told, words])))]
 
     def text(self, *parts):
         return "\n".join(["# a row", *self.told, *(line for part in parts for line in part)]) + "\n"
@@ -45,9 +47,12 @@ class Row:
         return f"{self.title}: {self.call}"
 
 
-def names_in(words):
-    """The names of trees that a call may add."""
-    return [word for word in words.split(" ") if re.match(r"sha(1new=|256=|256new_)", word)]
+def names_in(lines):
+    """The names of trees that stand in lines, as names or as attributes."""
+    for line in lines:
+        yield from re.findall(r"sha1new=[0-9a-f]{40}|sha256=[0-9a-f]{64}|sha256new_[A-Z2-7]{52}", line)
+        for algorithm, digest in re.findall(r"(sha1new|sha256|sha256new)=['\"]([0-9a-fA-Z2-7]{40,64})['\"]", line):
+            yield f"{algorithm}{'_' if algorithm == 'sha256new' else '='}{digest}"
 
 
 def questions_of(told):
@@ -130,7 +135,7 @@ def tried(at, cases):
 def call_of(text, row):
     """The answer of the call of a row, and what is seen behind it."""
     found = answers(text)
-    at = max((i for i, (question, _) in enumerate(found) if question == row.call), default=None)
+    at = next((i for i, (question, _) in enumerate(found) if question == row.call), None)
     if at is None:
         return None, None
     return found[at][1], {question: answer for question, answer in found[at + 1 :]}
@@ -188,12 +193,12 @@ def measured(chosen):
 def main():
     words = argparse.ArgumentParser(description=__doc__.split("\n\n")[0])
     words.add_argument("--first", type=int, default=0)
-    words.add_argument("--rows", type=int, default=None)
+    words.add_argument("--every", type=int, default=1)
     words.add_argument("--runs", type=int, default=20)
     words.add_argument("--slice", type=int, default=2_000, help="runs for each build")
     given = words.parse_args()
     every = list(rows())
-    chosen = every[given.first :][: given.rows]
+    chosen = every[given.first :: given.every]
     began = time.time()
     counts = {"ordinary": 0, "refused": 0, "elsewhere": 0, "wrong": 0}
     waiting, long = [], 0

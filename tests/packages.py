@@ -1,17 +1,20 @@
 #!/usr/bin/env python3
 """Tries examples/packages, which writes tables of packages, over databases made up here and over that of this system, and runs the proved
-program over such tables.
+program over such tables, beside `0install select`, which asks the system itself.
 
 The program is found, and each row is run, as in store.py. The databases are shell scripts in the place of dpkg-query, rpm and apt-cache. What
-needs this system's own dpkg is skipped where there is none.
+needs this system's own dpkg is skipped where there is none, and what is compared with 0install where that isn't installed.
 """
 import importlib.machinery
 import importlib.util
 import os
+import platform
+import random
 import re
 import shutil
 import subprocess
 import sys
+import xml.etree.ElementTree
 
 from download import SPACE
 from store import TOP, expect, holds, main, run, write
@@ -26,6 +29,9 @@ VERSIONS = (
     + [("1.2-x-4", "1.2"), ("5.0^20230101-1.fc38", "5.0-1"), ("1.2.", "1.2"), ("1.", "1"), ("007", "007"), ("18446744073709551615", "18446744073709551615")]
     + [("18446744073709551616", None), ("1.18446744073709551616", None), ("1-18446744073709551616", "1"), ("", None), ("v1.2", None), ("1:", None), ("~1", None)]
 )
+# how many choices are compared with 0install's, and packages of which a system hardly has all
+DRAWN = 60
+LACKED = ("zsh", "ksh", "mksh", "fish", "tcsh")
 LINE = re.compile(r"[A-Za-z0-9+._-]+ \d+(\.\d+)*(-(pre|rc|post)?(\d+(\.\d+)*)?)* ([A-Za-z0-9_]+|\*) (installed|available)")
 
 
@@ -176,6 +182,166 @@ def tables_that_are_none(folder):
     holds("no table", run(words, folder, ZI_PACKAGES="")[0] == 0)
 
 
+def beside(*words):
+    """The rows of this system's table, as lists of items, and the table; None where it has no dpkg, or 0install isn't installed."""
+    if not shutil.which("0install"):
+        print("skipped, since 0install isn't installed")
+        return None
+    got = of_this_system(*words)
+    return got and ([line.split(" ") for line in got.stdout.decode().splitlines()[1:]], got.stdout)
+
+
+def numbers(version):
+    """The numbers with which a version begins."""
+    return [int(number) for number in version.split("-")[0].split(".")]
+
+
+def chosen(document):
+    """What a document selects, by interface: an implementation by its id, a package by its name and the numbers with which its version begins."""
+    selections = xml.etree.ElementTree.fromstring(document).findall(f"{{{SPACE}}}selection") if document else []
+    package = lambda each: (each.get("package"), numbers(each.get("version")))
+    return {each.get("interface"): package(each) if each.get("package") else each.get("id") for each in selections}
+
+
+def by_0install(root, folder, asks_apt=False):
+    """The document that it writes; an empty one where nothing fits. Off line it would ask apt too, which takes long."""
+    database(folder, "apt-cache", [])
+    path = os.environ["PATH"] if asks_apt else f"{folder}/commands:{os.environ['PATH']}"
+    env = dict(os.environ, HOME=folder, XDG_CONFIG_HOME=folder, XDG_CACHE_HOME=folder, PATH=path)
+    how = "--console" if asks_apt else "--offline"
+    words = ["0install", "select", how, "--xml", "--command=", "--os", "Linux", "--cpu", platform.machine(), root]
+    got = subprocess.run(words, env=env, stdin=subprocess.DEVNULL, capture_output=True, timeout=300)
+    holds(f"0install: {got.stderr.decode()}", got.returncode in (0, 1))
+    return got.stdout if got.returncode == 0 else b""
+
+
+def by_zi(root, folder, table):
+    """The same, by the program with that table."""
+    status, document, told = run(["select", "--no-command", "--os", "Linux", "--cpu", platform.machine(), root], folder, ZI_PACKAGES=table)
+    holds(f"{told}", status in (0, 73))
+    return document if status == 0 else b""
+
+
+def package(name, more=""):
+    return f'<package-implementation package="{name}" main="/bin/sh"{more}/>'
+
+
+def implementation(name, version, more=' stability="stable"'):
+    return f'<implementation id="{name}" version="{version}" local-path="."{more}/>'
+
+
+class Drawn:
+    """Feeds at random, which name packages that the system has, and implementations whose versions are near theirs."""
+
+    def __init__(self, seed, rows):
+        self.chance = random.Random(f"packages {seed}")
+        self.versions = {row[0]: numbers(row[1]) for row in rows}
+        # which distribution is named is the same for all, since 0install prefers what suits best
+        self.distributions = self.chance.choice(["", ' distributions="Debian"', ' distributions="Gentoo Debian RPM"'])
+
+    def near(self):
+        """A version that is that of some package, or lies beside it."""
+        found = self.chance.choice(list(self.versions.values()))
+        others = [found[:-1] + [found[-1] + 1], found[:-1] + [max(found[-1] - 1, 0)], found + [self.chance.randrange(3)], found[:1]]
+        return ".".join(map(str, self.chance.choice([found, found, *others])))
+
+    def offers(self, name):
+        for each in self.chance.sample(list(self.versions), self.chance.randint(0, 2)):
+            yield package(each, self.distributions)
+        for number in range(self.chance.randint(0, 3)):
+            stability = self.chance.choice(["stable", "stable", "testing", "developer", "buggy"])
+            machine = self.chance.choice(["", "", f' arch="Linux-{platform.machine()}"', ' arch="Linux-*"', ' arch="Windows-*"'])
+            version = self.near() + self.chance.choice(["", "", "-1", "-pre", "-post2"])
+            yield implementation(f"{name}{number}", version, f' stability="{stability}"{machine}')
+
+    def need(self, path):
+        kind = self.chance.choice(["requires", "requires", "requires", "restricts"])
+        wanted = self.chance.choice(["", "", f' version="{self.near()}.."', f' version="..!{self.near()}"'])
+        return f'<{kind} interface="{path}"{wanted}/>'
+
+    def write(self, folder):
+        """The root, which needs some other interfaces."""
+        paths = [feed(folder, name, "".join(self.offers(name))) for name in "abc"]
+        needs = "".join(self.need(path) for path in self.chance.choices(paths, k=self.chance.randint(1, 4)))
+        return feed(folder, "root", f'<implementation id="root" version="1" local-path=".">{needs}</implementation>')
+
+
+def beside_0install(folder):
+    """Where elements name no distribution, or all name this one, both choose alike, over packages that the system has."""
+    got = beside("bash", "coreutils", "dash", "grep", "perl-base", "tar")
+    if got is None:
+        return
+    rows, text = got
+    distinct = {tuple(numbers(row[1])): row for row in rows}.values()
+    table = write(folder, "packages", text)
+    some, packages = 0, 0
+    for seed in range(DRAWN):
+        inside = os.path.join(folder, str(seed))
+        os.mkdir(inside)
+        root = Drawn(seed, distinct).write(inside)
+        here, there = chosen(by_zi(root, folder, table)), chosen(by_0install(root, folder))
+        holds(f"{seed}: {here}, by 0install {there}", here == there)
+        some += bool(here)
+        packages += any(isinstance(each, tuple) for each in here.values())
+    print(f"{DRAWN} choices beside 0install: {some} alike, {packages} of them with packages; {DRAWN - some} with nothing that fits for both")
+
+
+def beside_0install_where_the_system_lacks_one(folder):
+    """A package that could be installed stands behind all else, and is chosen where nothing else is there."""
+    if not shutil.which("apt-cache"):
+        print("skipped, since there is no apt-cache")
+        return
+    got = beside("--available", *LACKED)
+    if got is None:
+        return
+    rows, text = got
+    lacked = next((row[0] for row in rows if row[3] == "available" and not any(other[0] == row[0] and other[3] == "installed" for other in rows)), None)
+    if lacked is None:
+        print("skipped, since apt knows of none that isn't installed")
+        return
+    table = write(folder, "packages", text)
+    for number, others in enumerate(("", implementation("i", "0.0.1"), implementation("i", "0.0.1", ' stability="testing"'))):
+        root = feed(folder, f"root{number}", package(lacked) + others)
+        here, there = chosen(by_zi(root, folder, table)), chosen(by_0install(root, folder, asks_apt=True))
+        holds(f"{lacked} {others}: {here}, by 0install {there}", here == there and here)
+
+
+def versions_beside_0install(folder):
+    """A version is cut by both, and by 0install less; it begins with the same numbers. The machine is the same."""
+    got = beside()
+    if got is None:
+        return
+    rows, _ = got
+    some = rows[:: max(1, len(rows) // 60)]
+    needs = "".join(f'<requires interface="{feed(folder, f"p{number}", package(row[0]))}"/>' for number, row in enumerate(some))
+    root = feed(folder, "root", f'<implementation id="root" version="1" local-path=".">{needs}</implementation>')
+    selections = xml.etree.ElementTree.fromstring(by_0install(root, folder)).findall(f"{{{SPACE}}}selection")
+    theirs = {each.get("package"): (each.get("version"), each.get("id").rpartition(":")[2]) for each in selections if each.get("package")}
+    for name, _, _, _ in some:
+        version, machine = theirs[name]
+        ours = [(numbers(row[1]), row[2]) for row in rows if row[0] == name]
+        holds(f"{name}: {version} {machine}, here {ours}", any(numbers(version)[: len(begins)] == begins and machine == its for begins, its in ours))
+
+
+def where_0install_chooses_otherwise(folder):
+    """It prefers the elements whose distributions suit best, and takes those of another one where none suits better; here each counts or doesn't."""
+    got = beside("bash", "dash")
+    if got is None:
+        return
+    rows, text = got
+    table = write(folder, "packages", text)
+    older, newer = sorted((numbers(row[1]), row[0]) for row in rows)[:: len(rows) - 1]
+    cases = (
+        (package(older[1], ' distributions="Debian"') + package(newer[1]), newer, older),
+        (package(older[1], ' distributions="RPM"'), None, older),
+    )
+    for number, (inside, ours, theirs) in enumerate(cases):
+        root = feed(folder, f"root{number}", inside)
+        wanted = tuple({root: (each[1], each[0])} if each else {} for each in (ours, theirs))
+        got = chosen(by_zi(root, folder, table)), chosen(by_0install(root, folder))
+        holds(f"{inside}: {got}, not {wanted}", got == wanted)
+
+
 ROWS = [
     versions_are_cut,
     a_database_of_dpkg,
@@ -186,6 +352,10 @@ ROWS = [
     a_shell_of_this_system,
     what_is_not_installed,
     tables_that_are_none,
+    beside_0install,
+    beside_0install_where_the_system_lacks_one,
+    versions_beside_0install,
+    where_0install_chooses_otherwise,
 ]
 
 

@@ -8,3 +8,4 @@ pub mod LaunchingEnds
 pub mod WorkEnds
 pub mod RunLemmas
 pub mod CauseLaws
+mod DueEnds

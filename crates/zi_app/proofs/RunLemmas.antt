@@ -23,6 +23,9 @@ use Rattle.zi_world.specs.World.{World, all_stores}
 use Rattle.zi_world.specs.Meets.{world_of}
 use Rattle.zi_world.specs.Surroundings.{Surroundings, NothingDoneAround, meets_of}
 use Rattle.zi_outcome.specs.Writing.{Prints}
+use Rattle.zi_due.proofs.CommandEnds.{DueLaws}
+use Rattle.zi_due.proofs.CompleteLemmas.{completes}
+use Rattle.zi_app.proofs.DueEnds.{ends_as_due}
 use Rattle.zi_app.specs.Showing.{ShowsText, ShowsDemo}
 use Rattle.zi_choosing.specs.Demo.{Demos}
 use Rattle.zi_choosing.specs.Table.{table_in}
@@ -320,9 +323,9 @@ module _ (words : List (List ℕ)) (vars : List Var) (before after : Surrounding
   works_quiet (inr (inl wrong)) ne = ap ran_in wrong.nothing.started
   works_quiet (inr (inr (e, n))) ne = ap ran_in n.started
 
-pub works_told : (words : List (List ℕ)) (vars : List Var) (before after : Surroundings) (err_before err_after : Sinking) (work outcome : Outcome) → Works words vars before after work → Tells work err_before err_after outcome
+pub works_told : DueLaws → (words : List (List ℕ)) (vars : List Var) (before after : Surroundings) (err_before err_after : Sinking) (work outcome : Outcome) → Works words vars before after work → Tells work err_before err_after outcome
     → ((n : ℕ) → work ≡ Child n → outcome ≡ Child n) → Runs words vars before after err_before err_after outcome
-works_told words vars before after err_before err_after work outcome done told status = record {
+works_told laws words vars before after err_before err_after work outcome done told status = record {
   work = work;
   done = done;
   told = told;
@@ -334,6 +337,8 @@ works_told words vars before after err_before err_after work outcome done told s
   web = works_web words vars before after work done;
   stored = works_keep words vars before after work done;
   quiet = λ ne. works_quiet words vars before after work done (λ n e. ne n (status n e));
+  due = ends_as_due laws words vars before after work outcome err_before err_after done told;
+  complete = completes words vars before after outcome (ends_as_due laws words vars before after work outcome err_before err_after done told);
 }
 
 -- right words stop at their end

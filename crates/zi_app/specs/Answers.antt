@@ -30,6 +30,8 @@ use Rattle.zi_storing.specs.StoreList.{Lists}
 use Rattle.zi_storing.specs.StoreVerify.{VerifiesTree}
 use Rattle.zi_storing.specs.Adding.{AddsFiles}
 use Rattle.zi_storing.specs.StorePurge.{PurgesFiles, SparesNamed}
+use Rattle.zi_due.specs.Demands.{EndsAsDue}
+use Rattle.zi_due.specs.Complete.{Completes}
 use Rattle.zi_app.specs.Showing.{ShowsText, ShowsDemo}
 use Rattle.zi_app.specs.Outcomes.{Leaves, Blames}
 
@@ -91,7 +93,8 @@ StoredStays words before after =
 -- The work is done, to an outcome of its own, and the line of that is told on err. That outcome says what was written, and whose calls failed.
 -- Whatever it was, feeds, stores and web can be used on; what stood under a digest in the store that is written stands there, but for what a
 -- purge takes away, and each tree that has come under one has it; the other stores were only read; and after every outcome but a program's
--- status nothing was launched.
+-- status nothing was launched. Where no call failed, it ends as is due by what is held when it begins: so where
+-- nothing stands in the way of what is asked for, it is done.
 pub record Runs (words : List (List ℕ)) (vars : List Var) (before after : Surroundings) (err_before err_after : Sinking) (outcome : Outcome) : Type 0 where
   pub work : Outcome
   pub done : Works words vars before after work
@@ -104,3 +107,5 @@ pub record Runs (words : List (List ℕ)) (vars : List Var) (before after : Surr
   pub stored : StoredStays words before after
   pub others : Each (Keeps is_reading) before.others after.others
   pub quiet : ((status : ℕ) → outcome ≢ Child status) → after.spawner.ran ≡ before.spawner.ran
+  pub due : EndsAsDue words vars before after outcome
+  pub complete : Completes words vars before after outcome

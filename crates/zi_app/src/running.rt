@@ -8,6 +8,7 @@ ghost use Rattle.zi_app.specs.Words.{IsInForm, Stops, RefusesWords, words_outcom
 use crate::help::{HELP, VERSION};
 use std::alloc::Global;
 use zi_choosing::{Asked, check, demonstrate, explain, refute, select, tell_conflict};
+use zi_due::what_is_due_comes;
 use zi_fetching::download;
 use zi_launching::launch;
 use zi_outcome::{Outcome, put_text, tell};
@@ -50,6 +51,7 @@ pub fn run<F: Feeds, K: Shelf, R: Shelf, W: Web, P: Spawner, O: Sink, E: Sink>(
         (record { feeds = F.seen feeds.new; shelf = K.seen shelf.new; others = map R.seen others.new; web = W.seen web.new; spawner = P.seen spawner.new; out = O.seen out.new })
         (E.seen err.old) (E.seen err.new) result }
 {
+    what_is_due_comes();
     let outcome = work(alloc, words, vars, feeds, shelf, others, web, spawner, out);
     told(outcome, err)
 }

@@ -1,33 +1,41 @@
 -- The counts of a demonstration, and what they mean for what was asked.
-use Rattle.std.proofs.Common.{◌≡◌, ℕ, true, inl, inr, List, [], Option, Some, None, codes, refl, sym, ap, subst, ◌∙◌}
+use Rattle.std.proofs.Common.{◌≡◌, ℕ, ◌<◌, ◌≤◌, arith, true, inl, inr, List, [], Option, Some, None, codes, refl, sym, ap, subst, ◌∙◌}
 use Rattle.std.specs.Prelude.{if◌then◌else◌}
 use Rattle.std.specs.Str.{chars}
-use Rattle.zi_outside.specs.Views.{Feeding, Sinking}
+use Rattle.zi_outside.specs.Views.{Holding, Feeding, Sinking, holding}
 use Rattle.zi_outside.specs.Memory.{sure_told, sure_seen}
 use Rattle.zi_outside.specs.declared.sure_feeds.SureFeeds.{SureFeeds}
+use Rattle.zi_text.specs.Count.{Rose}
 use Rattle.zi_demo.specs.Feeds.{feeds, Holds}
+use Rattle.zi_demo_laws.specs.Solved.{demo_root, IsClear, OfEachNumber}
+use Rattle.zi_words.specs.Options.{ask_of}
 use Rattle.zi_words.specs.Forms.{is_address, is_carried}
 use Rattle.zi_universe.specs.declared.types.Interface.{Interface}
 use Rattle.zi_universe.specs.declared.types.Requirement.{Requirement}
 use Rattle.zi_universe.specs.declared.fault.LoadFault.{LoadFault}
 use Rattle.zi_universe.specs.declared.fault.LoadFault.TheVariants as load
+use Rattle.zi_universe.specs.Candidates.{Store}
+use Rattle.zi_universe.specs.Loading.{Loads, Refuses, names_of}
+use Rattle.zi_universe.specs.Laws.{IsOfFeeds}
 use Rattle.zi_choice.specs.Choice.{Choice}
 use Rattle.zi_choice.specs.Valid.{NoneIsValid}
 use Rattle.zi_choice.specs.Best.{IsBest}
 use Rattle.zi_build.specs.declared.building.BuildFault.{BuildFault}
 use Rattle.zi_build.specs.declared.building.BuildFault.TheVariants as build
 use Rattle.zi_build.specs.Answers.{FaultMeans}
+use Rattle.zi_build.specs.Clauses.{formula, literals, most_literals}
 use Rattle.zi_proof.specs.declared.proof.Proof.{Proof}
 use Rattle.zi_proof.specs.declared.proof.Certificate.{Certificate}
 use Rattle.zi_certificate.specs.Certificates.{Excludes, Refutes}
 use Rattle.zi_solve.specs.Answers.{IsSpent}
 use Rattle.zi_outcome.specs.declared.outcome.Outcome.{Outcome}
-use Rattle.zi_outcome.specs.declared.outcome.Outcome.TheVariants.{TooLarge, NoSolution, Spent, Memory}
+use Rattle.zi_outcome.specs.declared.outcome.Outcome.TheVariants.{Done, FeedRead, NoRootFeed, BadFeed, FeedTooLong, TooManyFeeds, TooManyInterfaces, TooManyCandidates, TooLarge, NoSolution, Spent, SinkFault, Memory}
 use Rattle.zi_outcome.specs.Refused.{outcome_of}
 use Rattle.zi_outcome.specs.Writing.{Prints}
 use Rattle.zi_choosing.specs.Wanted.{requirement_of}
-use Rattle.zi_choosing.specs.Loaded.{Lent, IsLoaded, IsRefused, AreFew, build_outcome}
-use Rattle.zi_choosing.specs.Demo.{demo_ask, none_known, counts_of, lines, IsCounted, CountsOver, Demos}
+use Rattle.zi_choosing.specs.Table.{no_packages}
+use Rattle.zi_choosing.specs.Loaded.{Lent, IsLoaded, IsRefused, Refused, AreFew, AreMany, build_outcome}
+use Rattle.zi_choosing.specs.Demo.{demo_ask, none_known, counts_of, lines, IsCounted, CountsOver, EndsDemo, Demos}
 use Rattle.zi_choosing.specs.DemoParts.{budget, CountsNothing, CountsBest, CountsFrom}
 
 -- the address of the root is one
@@ -137,12 +145,73 @@ module _ (before after : Lent) where
 pub no_job : (lent : Lent) → CountsOver lent lent Memory
 no_job lent = inl refl
 
+-- Nothing stands in the way of the demonstration.
+
+asked_root : requirement_of demo_ask ≡ demo_root
+unfolding demo_ask ask_of
+asked_root = refl
+
+no_overrides : (demo_ask).policy.overrides ≡ []
+unfolding demo_ask ask_of
+no_overrides = refl
+
+abbrev nothing_stored : Store
+nothing_stored = names_of [] no_packages
+
+module _ (before after : Lent) (holds : Holding) (told : holding before.feeds ≡ Some holds) (still : before.feeds.faults ≡ 0) (sure : after.feeds.faults ≡ 0)
+    (clear : IsClear holds (demo_ask).policy nothing_stored) where
+  never_refused : (e : LoadFault) → IsOfFeeds e ≡ true → Refused none_known demo_ask before after e → ⊥
+  never_refused e of r =
+      clear.loads e of
+      (subst (λ q. Refuses (Some holds) q (demo_ask).policy nothing_stored e) asked_root (subst (λ t. Refuses t (requirement_of demo_ask) (demo_ask).policy nothing_stored e) told r.0.cause))
+
+  never_failed : (uri : List ℕ) → Refused none_known demo_ask before after (load.FeedRead uri) → ⊥
+  never_failed uri r = rose before.feeds.faults after.feeds.faults still sure r.0.count
+    where
+      rose : (a b : ℕ) → a ≡ 0 → b ≡ 0 → Rose a b → ⊥
+      rose a b e f (inl lt) = omega (arith, e, f, lt)
+      rose a b e f (inr le) = omega (arith, f, le)
+
+  so_loaded : (u : List Interface) → IsLoaded none_known demo_ask before.feeds after.feeds u → Loads (Some holds) demo_root (demo_ask).policy nothing_stored u
+  so_loaded u l =
+      subst (λ q. Loads (Some holds) q (demo_ask).policy nothing_stored u) asked_root (subst (λ t. Loads t (requirement_of demo_ask) (demo_ask).policy nothing_stored u) told l.loads)
+
+  never_many : (u : List Interface) (limit : ℕ) → IsLoaded none_known demo_ask before.feeds after.feeds u → AreMany u (requirement_of demo_ask) limit → ⊥
+  never_many u limit l m =
+      let few : literals (formula u demo_root).constraints ≤ most_literals = clear.few u (so_loaded u l) in
+      let many : most_literals < literals (formula u demo_root).constraints = subst (λ q. most_literals < literals (formula u q).constraints) asked_root m.1 in
+      omega (arith, few, many)
+
+  ends_so : (outcome : Outcome) → CountsOver before after outcome → EndsDemo outcome
+  ends_so Done c = tt
+  ends_so (Spent p count) c = tt
+  ends_so SinkFault c = tt
+  ends_so Memory c = tt
+  ends_so (TooLarge limit) c = absurd (never_many c.0.0 limit c.0.1 c.0.2)
+  ends_so (NoSolution p) c = absurd (clear.solved c.0.there.universe (so_loaded c.0.there.universe c.0.there.loaded) (subst (NoneIsValid c.0.there.universe) asked_root c.0.none))
+  ends_so (FeedRead uri) c = absurd (never_failed uri c)
+  ends_so NoRootFeed c = absurd (never_refused load.NoRootFeed refl c)
+  ends_so (BadFeed uri fault) c = absurd (never_refused (load.BadFeed uri fault) refl c)
+  ends_so (FeedTooLong uri limit) c = absurd (never_refused (load.FeedTooLong uri limit) refl c)
+  ends_so (TooManyFeeds limit) c = absurd (never_refused (load.TooManyFeeds limit) refl c)
+  ends_so (TooManyInterfaces limit) c = absurd (never_refused (load.TooManyInterfaces limit) refl c)
+  ends_so (TooManyCandidates limit) c = absurd (never_refused (load.TooManyCandidates limit) refl c)
+  ends_so other c = absurd c
+
 -- the feeds were made, and counted over
-pub demonstrated : (n : ℕ) (made later : SureFeeds) (old new : Sinking) (outcome : Outcome) → Holds (feeds n) (sure_told made).holds → (sure_told made).asked ≡ []
+pub demonstrated : (n : ℕ) (made later : SureFeeds) (old new : Sinking) (outcome : Outcome) → OfEachNumber IsClear → 1 ≤ n → n ≤ 1000 → Holds (feeds n) (sure_told made).holds → (sure_told made).asked ≡ []
     → CountsOver (record { feeds = sure_seen made; out = old }) (record { feeds = sure_seen later; out = new }) outcome → Demos n old new outcome
-demonstrated n made later old new outcome held unasked counts =
+demonstrated n made later old new outcome clear low high held unasked counts =
     let seen : List (List ℕ) → Feeding = λ asked. record { told = Some (record { holds = (sure_told made).holds; asked = asked }); faults = 0; plan = [] } in
-    inl (record { before = sure_seen made; after = sure_seen later; made = ((sure_told made).holds, held, ap seen unasked); sure = refl; counts = counts })
+    let free : IsClear (sure_told made).holds (demo_ask).policy nothing_stored = clear n (sure_told made).holds (demo_ask).policy nothing_stored low high held no_overrides in
+    inl (record {
+      before = sure_seen made;
+      after = sure_seen later;
+      made = ((sure_told made).holds, held, ap seen unasked);
+      sure = refl;
+      counts = counts;
+      ends = ends_so (record { feeds = sure_seen made; out = old }) (record { feeds = sure_seen later; out = new }) (sure_told made).holds refl refl refl free outcome counts;
+    })
 
 pub undemonstrated : (n : ℕ) (out : Sinking) → Demos n out out Memory
 undemonstrated n out = inr (refl, refl)

@@ -91,6 +91,15 @@ abbrev pub AreDemo : ℕ → Feeding → Type 0
 AreDemo n feeding =
     (holds : Holding) × Holds (feeds n) holds × (feeding ≡ record { told = Some (record { holds = holds; asked = [] }); faults = 0; plan = [] })
 
+-- How it ends over these feeds: the lines were written, the lemmas are spent, memory was refused, or the output failed. So the loading is
+-- never refused, the constraints are few enough, and some choice is valid.
+abbrev pub EndsDemo : Outcome → Type 0
+EndsDemo Done = Unit {0}
+EndsDemo (Spent p count) = Unit {0}
+EndsDemo SinkFault = Unit {0}
+EndsDemo Memory = Unit {0}
+EndsDemo other = ⊥
+
 -- these feeds were made, and over them the counts are written
 pub record Demonstrates (n : ℕ) (old new : Sinking) (outcome : Outcome) : Type 0 where
   pub before : Feeding
@@ -99,6 +108,8 @@ pub record Demonstrates (n : ℕ) (old new : Sinking) (outcome : Outcome) : Type
   -- they never fail
   pub sure : after.faults ≡ 0
   pub counts : CountsOver (record { feeds = before; out = old }) (record { feeds = after; out = new }) outcome
+  -- nothing stood in the way
+  pub ends : EndsDemo outcome
 
 -- The best choice of the demonstration of this number is counted; or there was no memory for its feeds, and nothing was written.
 abbrev pub Demos : ℕ → Sinking → Sinking → Outcome → Type 0

@@ -18,6 +18,7 @@ use std::alloc::Global;
 use zi_check::check_best;
 use zi_choice::Choice;
 use zi_demo::universe_of;
+use zi_demo_laws::demo_is_clear;
 use zi_outcome::{Outcome, put_text, refused};
 use zi_outside::{Feeds, Sink};
 use zi_packages::Packages;
@@ -164,7 +165,10 @@ pub fn demonstrate<O: Sink>(alloc: Global, n: u64, out: &mut O) -> Outcome
     ensures { Demos n (O.seen out.old) (O.seen out.new) result }
 {
     match universe_of(alloc, n) {
-        Ok(mut feeds) => count_over(alloc, &mut feeds, out),
+        Ok(mut feeds) => {
+            demo_is_clear();
+            count_over(alloc, &mut feeds, out)
+        }
         Err(Memory) => Outcome::Memory,
     }
 }

@@ -1,0 +1,16 @@
+pub mod PlainLemmas
+pub mod NamesLemmas
+pub mod TreesLemmas
+pub mod StoringEnds
+pub mod FilesLemmas
+pub mod LoadingEnds
+pub mod KnowingEnds
+pub mod CommandEnds
+pub mod ChoosingEnds
+pub mod CheckingEnds
+pub mod CrowdedLemmas
+pub mod GatheringLemmas
+pub mod AddingEnds
+pub mod PurgerLemmas
+pub mod PurgingEnds
+pub mod CompleteLemmas

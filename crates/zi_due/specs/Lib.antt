@@ -1,0 +1,11 @@
+pub mod Due
+pub mod Held
+pub mod Files
+pub mod Trees
+pub mod Knowing
+pub mod Choosing
+pub mod Adding
+pub mod Purging
+pub mod Demands
+pub mod Complete
+pub mod Laws
