@@ -28,6 +28,8 @@ use Rattle.zi_due.proofs.CrowdedLemmas.{taken_finds_none}
 use Rattle.zi_due.proofs.AddingEnds.{add_command}
 use Rattle.zi_due.proofs.PurgingEnds.{purge_command}
 use Rattle.zi_due.proofs.CommandEnds.{DueLaws, select_command, refute_command, check_command}
+use Rattle.zi_due.proofs.LaunchEnds.{launch_ends}
+use Rattle.zi_due.proofs.ChosenEnds.{ended_due, download_command, run_command}
 
 -- where no search is made
 plainly_due : (Is : Outcome → Type 0) (due : Due) (outcome : Outcome) → ((o : Outcome) → Is o → Ends (plainly o) outcome) → Plainly Is due → Ends due outcome
@@ -47,6 +49,11 @@ module _ (laws : DueLaws) (vars : List Var) (before after : Surroundings) (held 
       select_command laws (asked_in vars ask) (world_of (meets_of before)) (world_of (meets_of after)) held outcome are.stores are.feeds quiet_all form.Reasons due h d.does.does
   does_due (request.Conflict ask) outcome due d h =
       select_command laws (asked_in vars ask) (world_of (meets_of before)) (world_of (meets_of after)) held outcome are.stores are.feeds quiet_all form.Conflict due h d.does.does
+  does_due (request.Download ask) outcome due d h =
+      download_command laws taken_finds_none (asked_in vars ask) (meets_of before) (meets_of after) held are.stores are.feeds are.web quiet_all none.web due outcome h d.does
+  does_due (request.Run ask user) outcome due d h = run_command laws taken_finds_none (asked_in vars ask) vars user before after held are none due outcome d h
+  does_due (request.Launch file user) outcome due d h =
+      ended_due due outcome (launch_ends laws.launches.plan laws.launches.shims taken_finds_none laws.texts.sels file vars user before after held are none due.end h.1 outcome d)
   does_due (request.Check ask sels proof) outcome due d h =
       plainly_due _ due outcome
       (λ o is. check_command laws (asked_in vars ask) (world_of (meets_of before)) (world_of (meets_of after)) held outcome are.stores are.feeds quiet_all sels proof o is d.does.does) h

@@ -1,5 +1,5 @@
 -- `store add` ends as is due.
-use Rattle.std.proofs.Common.{◌≡◌, ◌≢◌, ℕ, ◌<◌, ◌≤◌, ◌⊎◌, inl, inr, true, List, [], ◌∷◌, take, length, map, sum, Option, Some, None, Result, Ok, Err, slice_get, refl, sym, ap, subst, ◌∙◌, arith}
+use Rattle.std.proofs.Common.{◌≡◌, ℕ, ◌<◌, ◌≤◌, ◌⊎◌, inl, inr, true, List, [], ◌∷◌, take, length, map, sum, Option, Some, None, Result, Ok, Err, refl, sym, ap, subst, ◌∙◌, arith}
 use Rattle.std.specs.Prelude.{IfSome, IsSomeAnd, All}
 use Rattle.std.proofs.lemmas.List.Elements.{All-head}
 use Rattle.zi_text.specs.Count.{Rose}
@@ -9,10 +9,9 @@ use Rattle.zi_outside.specs.Views.{Holding, Feeding, holding}
 use Rattle.zi_tree.specs.Dir.{Dir}
 use Rattle.zi_tree.specs.Limits.{nodes_limit, size_limit}
 use Rattle.zi_tree.specs.declared.change.TreeLimit.TheVariants.{Size, Nodes, Depth}
-use Rattle.zi_manifest.specs.Manifest.{first_bad, digest_of}
+use Rattle.zi_manifest.specs.Manifest.{digest_of}
 use Rattle.zi_shelf.specs.Shelving.{Shelving}
 use Rattle.zi_shelf.specs.Told.{Told}
-use Rattle.zi_session.specs.Phases.{tmp_name}
 use Rattle.zi_session.specs.declared.step.Step.{Step}
 use Rattle.zi_session.specs.declared.step.Step.TheVariants as step
 use Rattle.zi_adding.specs.declared.adding.Added.{Added}
@@ -28,52 +27,13 @@ use Rattle.zi_storing.specs.Gathering.{file_limit, are_apart, AreParts, IsFirstT
 use Rattle.zi_storing.specs.Adding.{lent, AddsGathered, AddsTo, AddsFiles}
 use Rattle.zi_due.specs.Due.{plainly, Ends}
 use Rattle.zi_due.specs.Files.{got}
-use Rattle.zi_due.specs.Adding.{all_got, names_of, IsTreeOf, AreTaken, IsFree, EndsTree, EndsFiles, OfGot, EndsAdd}
+use Rattle.zi_due.specs.Adding.{all_got, names_of, IsTreeOf, AreTaken, EndsTree, EndsFiles, OfGot, EndsAdd}
 use Rattle.zi_due.specs.Laws.{TakenFindsNone}
 use Rattle.zi_due.proofs.PlainLemmas.{memory_ends, same_ends, clash}
 use Rattle.zi_due.proofs.FilesLemmas.{large_got}
-use Rattle.zi_due.proofs.CrowdedLemmas.{none_some}
+use Rattle.zi_due.proofs.TreeEnds.{taken_not_free, tree_bad, tree_other, tree_crowded, tree_done}
 use Rattle.zi_due.proofs.GatheringLemmas.{parts_so, stops_so, never_twice, twice_one}
 use Rattle.zi_due.proofs.KnowingEnds.{IsQuietAll}
-
--- one bad name is the first
-some_same : (p q : List ℕ) → Some p ≡ Some q → p ≡ q
-some_same p q e = cc
-
-none_or : {A : Type 0} (o : Option A) (x : A) → o ≡ None → o ≡ Some x → ⊥
-none_or o x e f = absurd (cc (e, f))
-
--- what is due of a tree
-
-tree_bad : (name : DigestName) (s : Told) (tree : Dir) (path : List ℕ) (due : Outcome) → first_bad tree ≡ Some path → EndsTree name s tree due → BadName path ≡ due
-tree_bad name s tree path (BadName other) e h = ap BadName (some_same path other (sym e ∙ h))
-tree_bad name s tree path (Mismatch wanted found) e h = absurd (none_or (first_bad tree) path h.0 e)
-tree_bad name s tree path (Crowded tried) e h = absurd (none_or (first_bad tree) path h.0.0 e)
-tree_bad name s tree path Done e h = absurd (none_or (first_bad tree) path h.0.0 e)
-tree_bad name s tree path other e h = absurd h
-
-tree_other : (name : DigestName) (s : Told) (tree : Dir) (due : Outcome) → first_bad tree ≡ None → digest_of (algorithm_of name) tree ≢ name → EndsTree name s tree due
-    → Mismatch (spelling name) (spelling (digest_of (algorithm_of name) tree)) ≡ due
-tree_other name s tree (BadName path) e n h = absurd (none_or (first_bad tree) path e h)
-tree_other name s tree (Mismatch wanted found) e n h =
-    ap (λ w. Mismatch w (spelling (digest_of (algorithm_of name) tree))) (sym h.2) ∙ ap (Mismatch wanted) (sym h.3)
-tree_other name s tree (Crowded tried) e n h = absurd (n h.0.1)
-tree_other name s tree Done e n h = absurd (n h.0.1)
-tree_other name s tree other e n h = absurd h
-
-tree_crowded : (name : DigestName) (s : Told) (tree : Dir) (due : Outcome) → IsRight name tree → AreTaken s → EndsTree name s tree due → Crowded 10000 ≡ due
-tree_crowded name s tree (BadName path) r t h = absurd (none_or (first_bad tree) path r.0 h)
-tree_crowded name s tree (Mismatch wanted found) r t h = absurd (h.1 r.1)
-tree_crowded name s tree (Crowded tried) r t h = ap Crowded (sym h.1)
-tree_crowded name s tree Done r t h = let f = h.1 in absurd (none_some (s.shelf.tops (tmp_name f.0)) f.2 (t f.0 f.1))
-tree_crowded name s tree other r t h = absurd h
-
-tree_done : (name : DigestName) (s : Told) (tree : Dir) (due : Outcome) → IsRight name tree → ¬ AreTaken s → EndsTree name s tree due → Done ≡ due
-tree_done name s tree (BadName path) r t h = absurd (none_or (first_bad tree) path r.0 h)
-tree_done name s tree (Mismatch wanted found) r t h = absurd (h.1 r.1)
-tree_done name s tree (Crowded tried) r t h = absurd (t h.2)
-tree_done name s tree Done r t h = refl
-tree_done name s tree other r t h = absurd h
 
 -- what is due of files
 
@@ -201,7 +161,7 @@ module _ (law : TakenFindsNone) (name : DigestName) (files : List Word) (before 
       let r = (tried_alone name g.tree (step.Crowded number) tried before.shelf after.shelf s g.ends.1 adds honest told).1 in
       let taken : AreTaken s = r.leaves.tops.1.taken in
       same_ends (Crowded number) due
-      (ap Crowded g.ends.0 ∙ tree_crowded name s g.tree due (tried_right name g.tree (step.Crowded number) tried g.ends.1 adds.ended) taken (tree_due g.tree g.gathers))
+      (ap Crowded g.ends.0 ∙ tree_crowded name s g.tree due (tried_right name g.tree (step.Crowded number) tried g.ends.1 adds.ended) (taken_not_free s taken) (tree_due g.tree g.gathers))
   adds_ends (StoreFault blamed) c = let g = c.0 in fault_ends g.ends.0 g.tree blamed g.ends.2
   adds_ends SinkFault c = absurd (quiet.world.out c.2.failed)
   adds_ends Memory c = memory_ends (plainly due)

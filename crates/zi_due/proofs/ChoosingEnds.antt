@@ -40,7 +40,7 @@ module _ (universe : List Interface) (req : Requirement) (budget : ℕ) where
   none_found p Refutes none h = tt
   none_found p Starts none h = absurd h
 
-  spent_so : (p proof : Proof) (count : ℕ) (searched : Bool) → solve.IsSpent universe req budget proof → IsSearched universe req budget searched → IsSpent searched (Spent p count)
+  pub spent_so : (p proof : Proof) (count : ℕ) (searched : Bool) → solve.IsSpent universe req budget proof → IsSearched universe req budget searched → IsSpent searched (Spent p count)
   spent_so p proof count true s h = tt
   spent_so p proof count false s (inl first) = absurd (s.not_first first)
   spent_so p proof count false s (inr le) = absurd (clash budget (3 ^ var_count universe) s.less le)

@@ -15,7 +15,7 @@ use Rattle.zi_choosing.specs.Check.{ChecksOver, ChecksBest}
 use Rattle.zi_due.specs.Due.{Due, plainly, Ends}
 use Rattle.zi_due.specs.Held.{Held}
 use Rattle.zi_due.specs.Choosing.{ChoosesBy, OfUniverse, RefutesBy, ChecksBy, EndsSelect, EndsRefute, EndsCheck}
-use Rattle.zi_due.specs.Laws.{TextsAreOne, SelectEndsAsDue, RefuteEndsAsDue, CheckEndsAsDue}
+use Rattle.zi_due.specs.Laws.{TextsAreOne, SelectEndsAsDue, RefuteEndsAsDue, CheckEndsAsDue, LoadingsAreOne, LaunchesAreOne}
 use Rattle.zi_due.proofs.KnowingEnds.{IsQuietAll, IsOfLoading, over_ends}
 
 -- the laws
@@ -24,6 +24,8 @@ pub record DueLaws : Type 0 where
   pub select : SelectEndsAsDue
   pub refute : RefuteEndsAsDue
   pub check : CheckEndsAsDue
+  pub loadings : LoadingsAreOne
+  pub launches : LaunchesAreOne
 
 plainly_same : (due outcome : Outcome) → due ≡ outcome → plainly due ≡ plainly outcome
 plainly_same due outcome e = ap plainly e

@@ -16,7 +16,8 @@ use Rattle.zi_world.proofs.AskingLemmas.{unasked_stay}
 use Rattle.zi_choosing.specs.declared.asked.Asked.{Asked}
 use Rattle.zi_choosing.specs.declared.known.Known.{Known}
 use Rattle.zi_choosing.specs.Table.{table_limit, no_packages, HasTable, LacksTable}
-use Rattle.zi_choosing.specs.Knowing.{AreNamed, Starts, IsUnknown}
+use Rattle.zi_store.specs.Stores.{HaveNames}
+use Rattle.zi_choosing.specs.Knowing.{IsUnknown}
 use Rattle.zi_choosing.specs.Loaded.{Lent, lent, Over, sources, FindsOut, DoesOver}
 use Rattle.zi_due.specs.Due.{Due, plainly, Ends}
 use Rattle.zi_due.specs.Held.{Held}
@@ -45,12 +46,12 @@ packages_one laws None holds r q a b = a ∙ sym b
 packages_one laws (Some file) holds r q a b = table_one laws (got table_limit file (holds file)) r q a b
 
 module _ (holds : Holding) (before after : Feeding) (told : holding before ≡ Some holds) where
-  has_so : (table : Option (List ℕ)) (t : Packages) → HasTable table before t after → HasPackages table holds (Ok t)
+  pub has_so : (table : Option (List ℕ)) (t : Packages) → HasTable table before t after → HasPackages table holds (Ok t)
   has_so None t h = ap Ok h.0
   has_so (Some file) t (bytes, g, text) =
       subst (λ g. IsTable g (Ok t)) (sym (within_got table_limit file holds before after told bytes g)) text
 
-  has_holds : (table : Option (List ℕ)) (t : Packages) → HasTable table before t after → holding after ≡ Some holds
+  pub has_holds : (table : Option (List ℕ)) (t : Packages) → HasTable table before t after → holding after ≡ Some holds
   has_holds None t h = (unasked_stay before after h.1).holds ∙ told
   has_holds (Some file) t (bytes, g, text) = holds_on before after holds g.asked.asked told
 
@@ -119,31 +120,33 @@ module _ (tables : TextsAreOne) (asked : Asked) (Does : Over) (By : Result (List
   lacks_or (inl h) = lacks h comes
   lacks_or (inr e) = subst (λ o. Ends due o) (sym e) (memory_ends due)
 
-  unknown : IsUnknown asked.table (sources before) (sources after) outcome → Ends due outcome
+  pub unknown : IsUnknown asked.table (sources before) (sources after) outcome → Ends due outcome
   unknown (inl (s, e)) = stopped_ends [] (all_stores before) (all_stores after) outcome due quiet.world.stores s
   unknown (inr (each, named, l)) = lacks_or (lacks_so held.feeds before.feeds after.feeds feeds asked.table quiet.feeds outcome l)
 
   -- all was found out
-  starts : (start : Starts asked.table (sources before) (all_stores after)) → Does start.known (record { feeds = start.feeds; out = before.out }) (lent after) outcome → ComesTo asked held result
-      → Ends due outcome
-  starts start d (inl (o, has, e)) =
-      absurd (ok_err start.known.packages o
-      (packages_one tables asked.table held.feeds (Ok start.known.packages) (Err o) (has_so held.feeds before.feeds start.feeds feeds asked.table start.known.packages start.found.1) has))
-  starts start d (inr (known, is, l)) =
-      let names : start.known.each ≡ known.each = names_same (all_stores before) held.stores start.known.each known.each told start.found.0.1 is.names in
-      let packages : start.known.packages ≡ known.packages =
-      ok_same start.known.packages known.packages
-      (packages_one tables asked.table held.feeds (Ok start.known.packages) (Ok known.packages) (has_so held.feeds before.feeds start.feeds feeds asked.table start.known.packages start.found.1) is.packages) in
-      let same : known ≡ start.known = sym (known_by start.known known names packages) in
-      let still : ¬ Rose start.feeds.faults after.feeds.faults =
-      λ r. quiet.feeds (subst (λ n. Rose n after.feeds.faults) (has_calm held.feeds before.feeds start.feeds feeds asked.table start.known.packages start.found.1) r) in
-      over start.known (record { feeds = start.feeds; out = before.out }) (lent after) result
-      (record { told = has_holds held.feeds before.feeds start.feeds feeds asked.table start.known.packages start.found.1; feeds = still; out = quiet.world.out })
-      d (subst (λ k. LoadsTo asked.ask held.feeds k result) same l) by
+  module _ (start : Known) (now : Feeding) (named : HaveNames (all_stores before) start.each) (table : HasTable asked.table before.feeds start.packages now) where
+    knows : Does start (record { feeds = now; out = before.out }) (lent after) outcome → ComesTo asked held result → Ends due outcome
+    knows d (inl (o, has, e)) =
+        absurd (ok_err start.packages o (packages_one tables asked.table held.feeds (Ok start.packages) (Err o) (has_so held.feeds before.feeds now feeds asked.table start.packages table) has))
+    knows d (inr (known, is, l)) =
+        let names : start.each ≡ known.each = names_same (all_stores before) held.stores start.each known.each told named is.names in
+        let packages : start.packages ≡ known.packages =
+        ok_same start.packages known.packages
+        (packages_one tables asked.table held.feeds (Ok start.packages) (Ok known.packages) (has_so held.feeds before.feeds now feeds asked.table start.packages table) is.packages) in
+        let same : known ≡ start = sym (known_by start known names packages) in
+        let still : ¬ Rose now.faults after.feeds.faults =
+        λ r. quiet.feeds (subst (λ n. Rose n after.feeds.faults) (has_calm held.feeds before.feeds now feeds asked.table start.packages table) r) in
+        over start (record { feeds = now; out = before.out }) (lent after) result
+        (record { told = has_holds held.feeds before.feeds now feeds asked.table start.packages table; feeds = still; out = quiet.world.out })
+        d (subst (λ k. LoadsTo asked.ask held.feeds k result) same l) by
+
+    pub known_ends : Does start (record { feeds = now; out = before.out }) (lent after) outcome → Ends due outcome
+    known_ends d = knows d comes
 
   finds_out : FindsOut asked.table Does before after outcome → Ends due outcome
   finds_out (inl (u, w)) = unknown u
-  finds_out (inr (start, d)) = starts start d comes
+  finds_out (inr (start, d)) = known_ends start.known start.feeds start.found.0.1 start.found.1 d
 
   pub over_ends : DoesOver asked.table Does before after outcome → Ends due outcome
   over_ends d = finds_out d.answer

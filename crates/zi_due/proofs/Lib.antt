@@ -9,8 +9,16 @@ pub mod CommandEnds
 pub mod ChoosingEnds
 pub mod CheckingEnds
 pub mod CrowdedLemmas
+pub mod TreeEnds
 pub mod GatheringLemmas
 pub mod AddingEnds
 pub mod PurgerLemmas
 pub mod PurgingEnds
+pub mod TurnLemmas
+pub mod SessionLemmas
+pub mod PlaceLemmas
+pub mod StartEnds
+pub mod LaunchEnds
+pub mod FetchEnds
+pub mod ChosenEnds
 pub mod CompleteLemmas

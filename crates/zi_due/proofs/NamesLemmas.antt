@@ -30,3 +30,12 @@ names_same (k ∷ ks) (s ∷ ss) (x ∷ xs) (y ∷ ys) told have are =
     let e : x ≡ y = names_are_one s.shelf x y (have.0 s told.0 told.1) are.0 in
     let f : xs ≡ ys = names_same ks ss xs ys told.2 have.1 are.1 in
     ap (λ z. z ∷ xs) e ∙ ap (λ zs. y ∷ zs) f
+
+-- and so they are those
+pub names_so : (stores : List Shelving) (held : List Told) (xs : List (List DigestName)) → AreTold stores held → HaveNames stores xs → AreNames held xs
+names_so [] [] [] told have = tt
+names_so [] [] (x ∷ xs) told have = absurd have
+names_so [] (s ∷ ss) xs told have = absurd told
+names_so (k ∷ ks) [] xs told have = absurd told
+names_so (k ∷ ks) (s ∷ ss) [] told have = absurd have
+names_so (k ∷ ks) (s ∷ ss) (x ∷ xs) told have = (have.0 s told.0 told.1, names_so ks ss xs told.2 have.1)

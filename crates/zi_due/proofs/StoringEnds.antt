@@ -31,7 +31,7 @@ use Rattle.zi_due.specs.Due.{Due, plainly, Ends}
 use Rattle.zi_due.specs.Held.{StandsStill}
 use Rattle.zi_due.specs.Trees.{first_tree, tree_fault, OfTree, EndsManifest, Compares, EndsVerify}
 use Rattle.zi_due.proofs.PlainLemmas.{stopped_ends, printed_ends, same_ends}
-use Rattle.zi_due.proofs.TreesLemmas.{entry_tree, no_tree, Meets, first_told, of_none, of_fault, of_right, passes_fault, bad_fault, no_fault}
+use Rattle.zi_due.proofs.TreesLemmas.{entry_tree, no_tree, Meets, first_told, of_none, of_fault, of_right, passes_fault, bad_fault, no_fault, compares_same, compares_other}
 
 -- no call failed on what a command of the store meets
 pub record IsQuietWorld (before after : World) : Type 0 where
@@ -134,16 +134,6 @@ checks_meet name = record { each = each; there = there; lacks = λ t is. is }
     there (checked.BadName path) t n (tree, is, f) = (tree, is)
     there checked.Sound t n (tree, is, f, same) = (tree, is)
     there (checked.Damaged found difference) t n (tree, is, f, same, other) = (tree, is)
-
-compares_same : (name found : DigestName) (due : Outcome) → found ≡ name → Compares name found due → due ≡ Done
-compares_same name found Done e c = refl
-compares_same name found (DamagedTree wanted other) e c = absurd (c.0 e)
-compares_same name found other e c = absurd c
-
-compares_other : (name found : DigestName) (due : Outcome) → found ≢ name → Compares name found due → due ≡ DamagedTree (spelling name) (spelling found)
-compares_other name found Done n c = absurd (n c)
-compares_other name found (DamagedTree wanted other) n (d, e, f) = ap (λ w. DamagedTree w other) e ∙ ap (DamagedTree (spelling name)) f
-compares_other name found other n c = absurd c
 
 module _ (name : DigestName) (before after : World) (held : List Told) (told : AreTold (all_stores before) held) (quiet : IsQuietWorld before after) where
   abbrev Is : Dir → Outcome → Type 0

@@ -1,6 +1,8 @@
 -- What is said of the first store that has a tree is so of the first tree that stands there.
 use Rattle.std.proofs.Common.{◌≡◌, ◌≢◌, ℕ, ◌⊎◌, inl, inr, List, [], ◌∷◌, refl, sym, ap, subst, ◌∙◌, Option, Some, None}
 use Rattle.std.specs.Option.{option_map}
+use Rattle.zi_digest.specs.declared.DigestName.{DigestName}
+use Rattle.zi_digest.specs.Name.{spelling}
 use Rattle.zi_tree.specs.Dir.{Dir}
 use Rattle.zi_tree.specs.Limits.{limit_of}
 use Rattle.zi_tree.specs.declared.change.TreeLimit.{TreeLimit}
@@ -11,9 +13,9 @@ use Rattle.zi_shelf.specs.Shelving.{Shelving}
 use Rattle.zi_shelf.specs.Told.{Told, tree_at}
 use Rattle.zi_store.specs.Walking.{passed}
 use Rattle.zi_outcome.specs.declared.outcome.Outcome.{Outcome}
-use Rattle.zi_outcome.specs.declared.outcome.Outcome.TheVariants.{MissingTree, BadName, TreeTooLarge}
+use Rattle.zi_outcome.specs.declared.outcome.Outcome.TheVariants.{Done, MissingTree, DamagedTree, BadName, TreeTooLarge}
 use Rattle.zi_world.specs.Places.{FirstOf, AreTold}
-use Rattle.zi_due.specs.Trees.{or_next, first_tree, fault_by, tree_fault, OfSound, OfTree}
+use Rattle.zi_due.specs.Trees.{or_next, first_tree, fault_by, tree_fault, OfSound, OfTree, Compares}
 
 -- the tree of an entry
 pub entry_tree : (s : Told) (top : Name) (e : Top Dir) → s.shelf.tops top ≡ Some e → tree_at s top ≡ Some e.tree
@@ -22,7 +24,7 @@ entry_tree s top e is = ap (λ o. option_map (λ (e : Top Dir). e.tree) o) is
 pub no_tree : (s : Told) (top : Name) → s.shelf.tops top ≡ None → tree_at s top ≡ None
 no_tree s top is = ap (λ o. option_map (λ (e : Top Dir). e.tree) o) is
 
-or_none : (t : Option Dir) → or_next t None ≡ t
+pub or_none : (t : Option Dir) → or_next t None ≡ t
 or_none (Some d) = refl
 or_none None = refl
 
@@ -73,3 +75,14 @@ bad_fault tree path e f = ap (λ o. fault_by o (first_bad (as_read tree))) e ∙
 
 pub no_fault : (tree : Dir) → passed (as_read tree) ≡ None → first_bad (as_read tree) ≡ None → tree_fault tree ≡ None
 no_fault tree e f = ap (λ o. fault_by o (first_bad (as_read tree))) e ∙ ap (λ o. fault_by None o) f
+
+-- by the digest that a tree has
+pub compares_same : (name found : DigestName) (due : Outcome) → found ≡ name → Compares name found due → due ≡ Done
+compares_same name found Done e c = refl
+compares_same name found (DamagedTree wanted other) e c = absurd (c.0 e)
+compares_same name found other e c = absurd c
+
+pub compares_other : (name found : DigestName) (due : Outcome) → found ≢ name → Compares name found due → due ≡ DamagedTree (spelling name) (spelling found)
+compares_other name found Done n c = absurd (n c)
+compares_other name found (DamagedTree wanted other) n (d, e, f) = ap (λ w. DamagedTree w other) e ∙ ap (DamagedTree (spelling name)) f
+compares_other name found other n c = absurd c

@@ -38,15 +38,22 @@ FindsEnd universe req Refutes = NoneIsValid universe req
 FindsEnd universe req (Comes outcome) = (choice : Choice) × IsValid universe req choice × (outcome ≡ Done)
 FindsEnd universe req other = ⊥
 
--- what is due of a choice from a universe: its constraints are too many, or a search is made
-abbrev pub ChoosesFrom : List Interface → Requirement → ℕ → Due → Type 0
-ChoosesFrom universe req budget due =
+-- what is due of a search in a universe: its constraints are too many, or it is made, and so it is of its end
+abbrev pub SearchesFor : (End → Type 0) → List Interface → Requirement → ℕ → Due → Type 0
+SearchesFor Finds universe req budget due =
     (AreMany universe req most_literals × (due ≡ plainly (TooLarge most_literals)))
-    ⊎ (AreFew universe req × IsSearched universe req budget due.searched × FindsEnd universe req due.end)
+    ⊎ (AreFew universe req × IsSearched universe req budget due.searched × Finds due.end)
+
+abbrev pub SearchesBy : (List Interface → End → Type 0) → Requirement → ℕ → Result (List Interface) Outcome → Due → Type 0
+SearchesBy Finds req budget (Err outcome) due = due ≡ plainly outcome
+SearchesBy Finds req budget (Ok universe) due = SearchesFor (Finds universe) universe req budget due
+
+-- of a choice
+abbrev pub ChoosesFrom : List Interface → Requirement → ℕ → Due → Type 0
+ChoosesFrom universe req budget due = SearchesFor (FindsEnd universe req) universe req budget due
 
 abbrev pub ChoosesBy : Requirement → ℕ → Result (List Interface) Outcome → Due → Type 0
-ChoosesBy req budget (Err outcome) due = due ≡ plainly outcome
-ChoosesBy req budget (Ok universe) due = ChoosesFrom universe req budget due
+ChoosesBy req budget result due = SearchesBy (λ universe. FindsEnd universe req) req budget result due
 
 -- `select`, `why` and `conflict`
 abbrev pub EndsSelect : Asked → Held → Due → Type 0

@@ -9,22 +9,31 @@ use Rattle.zi_world.specs.Surroundings.{Surroundings}
 use Rattle.zi_outcome.specs.declared.outcome.Outcome.{Outcome}
 use Rattle.zi_outcome.specs.declared.outcome.Outcome.TheVariants.{Done, Usage}
 use Rattle.zi_choosing.specs.Wanted.{asked_in}
-use Rattle.zi_due.specs.Due.{Due, Comes, plainly, Ends}
+use Rattle.zi_due.specs.Due.{Due, End, Comes, plainly, Ends}
 use Rattle.zi_due.specs.Held.{Held, AreHeld, NoneFailed}
 use Rattle.zi_due.specs.Trees.{EndsManifest, EndsVerify}
 use Rattle.zi_due.specs.Adding.{EndsAdd}
 use Rattle.zi_due.specs.Purging.{EndsPurge}
 use Rattle.zi_due.specs.Choosing.{EndsSelect, EndsRefute, EndsCheck}
+use Rattle.zi_due.specs.Launching.{EndsLaunch}
+use Rattle.zi_due.specs.Chosen.{EndsDownload, EndsRun}
 
 -- no search is made, and this is so of the outcome that is due
 abbrev pub Plainly : (Outcome → Type 0) → Due → Type 0
 Plainly Is due = (outcome : Outcome) × (due ≡ plainly outcome) × Is outcome
 
--- What is due of a request. Nothing is said yet of those that fetch, nor of those that start a program.
+-- no search is made, and this is so of the end that is due
+abbrev pub Unsearched : (End → Type 0) → Due → Type 0
+Unsearched Is due = (due.searched ≡ false) × Is due.end
+
+-- What is due of a request. Nothing is said of the demonstration, which ends by its own feeds.
 abbrev pub IsDueOf : Request → List Var → Held → Due → Type 0
 IsDueOf (request.Select ask proof) vars held due = EndsSelect (asked_in vars ask) held due
 IsDueOf (request.Why ask) vars held due = EndsSelect (asked_in vars ask) held due
 IsDueOf (request.Conflict ask) vars held due = EndsSelect (asked_in vars ask) held due
+IsDueOf (request.Download ask) vars held due = EndsDownload (asked_in vars ask) held due
+IsDueOf (request.Run ask user) vars held due = EndsRun (asked_in vars ask) vars user held due
+IsDueOf (request.Launch file user) vars held due = Unsearched (EndsLaunch file vars user held) due
 IsDueOf (request.Check ask sels proof) vars held due = Plainly (EndsCheck (asked_in vars ask) sels proof held) due
 IsDueOf (request.Refute ask proof) vars held due = Plainly (EndsRefute (asked_in vars ask) proof held) due
 IsDueOf (request.Manifest algorithm name) vars held due = Plainly (EndsManifest name held.stores) due

@@ -2,7 +2,7 @@
 use Rattle.std.specs.Prelude.{◌≡◌, ◌≢◌, ℕ, List, Some, Result, Ok}
 use Rattle.zi_text.specs.Count.{Rose}
 use Rattle.zi_digest.specs.declared.DigestName.{DigestName}
-use Rattle.zi_outside.specs.Views.{Holding, holding}
+use Rattle.zi_outside.specs.Views.{Holding, Feeding, holding}
 use Rattle.zi_tree.specs.Dir.{Dir}
 use Rattle.zi_shelf.specs.Shelved.{Shelved}
 use Rattle.zi_shelf.specs.Told.{Told}
@@ -12,12 +12,18 @@ use Rattle.zi_session.specs.Stepping.{CallsToEnd}
 use Rattle.zi_session.specs.declared.step.Step.{Step}
 use Rattle.zi_session.specs.declared.step.Step.TheVariants.{Stored, Present}
 use Rattle.zi_store.specs.Stored.{NamesStored}
+use Rattle.zi_parts.specs.declared.types.Method.{Method}
+use Rattle.zi_recipe.specs.declared.fault.RecipeFault.{RecipeFault}
+use Rattle.zi_recipe.specs.Making.{Makes, Refuses}
+use Rattle.zi_recipe.specs.Made.{made, IsFirstFault}
 use Rattle.zi_packages.specs.Laws.{TableIsOne, BadLineIsOne}
 use Rattle.zi_words.specs.declared.request.Ask.{Ask}
 use Rattle.zi_words.specs.declared.request.Request.{Request}
 use Rattle.zi_words.specs.Words.{Right}
 use Rattle.zi_sels.specs.Reading.{IsSettled}
 use Rattle.zi_universe.specs.declared.types.Interface.{Interface}
+use Rattle.zi_universe.specs.Laws.{HasOneUniverse, UniverseExcludes, HasOneRefusal}
+use Rattle.zi_plan.specs.Laws.{PlanIsOne, ShimsAreOne}
 use Rattle.zi_outcome.specs.declared.outcome.Outcome.{Outcome}
 use Rattle.zi_choosing.specs.declared.known.Known.{Known}
 use Rattle.zi_choosing.specs.declared.shows.Shows.{Shows}
@@ -40,6 +46,12 @@ abbrev pub TakenFindsNone : Type 0
 TakenFindsNone =
     (name : DigestName) (tree : Dir) (s : Told) (step : Step) (y : Standing) (t : Told) → AreTaken s → CallsToEnd (at_start name tree) s step y t → (step ≢ Stored) × (step ≢ Present)
 
+-- What a web holds makes one thing by a way to fetch: the tree that is made, or the fault that is told, but for a failed call and want of memory.
+abbrev pub WaysMakeOne : Type 0
+WaysMakeOne =
+    (web : Holding) (m : Method) (old new : Feeding) → holding old ≡ Some web
+    → ((t : Dir) → Makes m old t new → made web m ≡ Ok t) × ((e : RecipeFault) → Refuses m old e new → IsFirstFault (made web m) e)
+
 -- what is read of the texts that users hand in is one thing: words make one request; a table says one
 -- table, or is bad at one line; selections are one, or have one fault
 pub record TextsAreOne : Type 0 where
@@ -47,6 +59,17 @@ pub record TextsAreOne : Type 0 where
   pub table : TableIsOne
   pub line : BadLineIsOne
   pub sels : (bytes : List ℕ) → IsSettled bytes
+
+-- what a loading comes to over feeds that hold something is one thing
+pub record LoadingsAreOne : Type 0 where
+  pub universe : HasOneUniverse
+  pub excludes : UniverseExcludes
+  pub refusal : HasOneRefusal
+
+-- a launch has one plan, and its shims have one list of calls
+pub record LaunchesAreOne : Type 0 where
+  pub plan : PlanIsOne
+  pub shims : ShimsAreOne
 
 -- the feeds hold this, and no call failed
 pub record IsQuiet (holds : Holding) (before after : Lent) : Type 0 where

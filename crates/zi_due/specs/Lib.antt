@@ -6,6 +6,10 @@ pub mod Knowing
 pub mod Choosing
 pub mod Adding
 pub mod Purging
+pub mod Turns
+pub mod Launching
+pub mod Fetching
+pub mod Chosen
 pub mod Demands
 pub mod Complete
 pub mod Laws

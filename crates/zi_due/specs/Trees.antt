@@ -49,7 +49,10 @@ Compares name found Done = found ≡ name
 Compares name found (DamagedTree wanted other) = (found ≢ name) × (wanted ≡ spelling name) × (other ≡ spelling found)
 Compares name found other = ⊥
 
--- `store verify`: it is sound, or damaged
+-- under a name a tree is sound, or damaged
+abbrev pub EndsSound : DigestName → Option Dir → Outcome → Type 0
+EndsSound name tree outcome = OfTree (spelling name) tree (λ t o. Compares name (digest_of (algorithm_of name) t) o) outcome
+
+-- `store verify`
 abbrev pub EndsVerify : DigestName → List Told → Outcome → Type 0
-EndsVerify name stores outcome =
-    OfTree (spelling name) (first_tree (spelling name) stores) (λ tree o. Compares name (digest_of (algorithm_of name) tree) o) outcome
+EndsVerify name stores outcome = EndsSound name (first_tree (spelling name) stores) outcome

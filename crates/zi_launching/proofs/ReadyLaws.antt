@@ -256,6 +256,7 @@ module _ (task : Task) (b : Shelving) (bs : List Shelving) (number : DigestName 
                 added = turn;
                 planned = subst (λ ts. IsPlan task stores ts (Ok launch)) t (plan_is texts (Ok launch) p);
                 calm = calm_all;
+                sound = are_sound;
                 exposed = exposed_all task stores (a ∷ as_) (tree_folder task stores) task.sels.items
                     (all_have task.sels task.vars task.user (folders_in task stores) texts launch (plan_is texts (Ok launch) p).plan)
                     (all_front (λ d. SoundAt (place task.each) stores (a ∷ as_) d) (trees_of task.stored task.sels.items) (map shim_digest calls) are_sound);

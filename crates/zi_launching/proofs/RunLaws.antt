@@ -111,6 +111,7 @@ module _ (before mid after : List Shelving) (r : Each Reaches before mid) where
     added = y.added;
     planned = lift_plan task (shim_folders task before y.calls) (Ok launch) (subst (λ ts. IsPlan task mid ts (Ok launch)) (lift_folders task y.calls) y.planned);
     calm = lift_calm before mid after r y.calm;
+    sound = λ k d lt. lift_in (λ s. IsSound s (get_or (exposed_trees task y.calls) k d)) (place task.each (get_or (exposed_trees task y.calls) k d)) (y.sound k d lt);
     exposed = λ k d lt. lift_exposed task (get_or task.sels.items k d) (y.exposed k d lt);
     shims = λ k d lt. lift_in (λ s. IsShim tried s (get_or y.calls k d)) (place task.each (shim_digest (get_or y.calls k d))) (y.shims k d lt);
   }

@@ -21,7 +21,7 @@ use Rattle.zi_world.specs.Places.{place, InStore}
 use Rattle.zi_world.specs.Shelves.{HeldThen}
 use Rattle.zi_fetching.specs.Known.{Names}
 use Rattle.zi_launching.specs.Folders.{stored_at, folder, tree_of, trees_of, first_missing, LacksFolder}
-use Rattle.zi_launching.specs.Verifying.{SoundAt, StopsVerifying}
+use Rattle.zi_launching.specs.Verifying.{SoundAt, AreSound, StopsVerifying}
 use Rattle.zi_launching.specs.Shims.{shim_digest, AddsInTurn, StopsAdding, IsShim, CostsFirst, WorksOn}
 
 -- what is launched: selections, over stores with these trees, with variables and the user's words
@@ -86,14 +86,15 @@ abbrev pub IsExposed : Task → List Shelving → List Shelving → Selection �
 IsExposed task before after x =
     IsSome x.«package» ⊎ (IsSome x.local ⊎ ((d : DigestName) × (tree_of task.stored x ≡ Some d) × Contains x.digests d × SoundAt (place task.each) before after d))
 
--- The launch is planned, no call of a store failed, the folder of each selection but a package is its path or that of a sound tree, and that
--- of each shim is that of a sound tree, which says the words of the command where this call stored it.
+-- The launch is planned, no call of a store failed, and each tree that is exposed is sound: the folder of each selection but a package is its path
+-- or that of a sound tree, and that of each shim is that of a sound tree, which says the words of the command where this call stored it.
 pub record IsReady (task : Task) (tried : List Tried) (before : List Shelving) (launch : Launch) (after : List Shelving) : Type 0 where
   pub calls : List ShimCall
   pub called : IsCalled task before calls
   pub added : AddsInTurn task.stored calls tried
   pub planned : IsPlan task before (shim_folders task before calls) (Ok launch)
   pub calm : Each IsCalm before after
+  pub sound : AreSound (place task.each) before after (exposed_trees task calls)
   pub exposed : All (IsExposed task before after) task.sels.items
   pub shims : All (λ call. InStore (place task.each (shim_digest call)) before after (λ b a. HeldThen b a (λ s. IsShim tried s call))) calls
 
