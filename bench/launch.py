@@ -3,19 +3,27 @@
 
 Run it after `rt ci`, which builds the program. The program is a local shell script; the goal is at most 0.2 of 0install's time. A second
 feed has a stored tree with a file of 100 MB: what `run` takes there beside `store verify` of the same tree, since each start reads the
-tree anew. Each figure is the best of some runs.
+tree anew. Each of these figures is the best of some runs.
+
+Last come five commands of a dependency that are made available, three by PATH and two by variables: `launch` of such selections,
+whose shims are stored already, beside that of the same selections without those bindings, and beside that of the latter with the
+five trees among them, which are read and verified as the shims are. The goal is at most 1.3 times the time of the last. The three
+take turns, and the figures are the middle of the rounds.
 """
 import base64
 import hashlib
 import os
 import pathlib
 import shutil
+import subprocess
 import sys
 import tempfile
 
-from measure import put, timed_with_peak
+from measure import in_turns, put, timed_with_peak
 
 RUNS = 10
+ROUNDS = 201
+SHIMS = ["path"] * 3 + ["var"] * 2
 SIZE = 100_000_000
 TOP = pathlib.Path(__file__).resolve().parent.parent
 PROGRAM = os.environ.get("ZI_PROGRAM") or str(TOP / "crates/zi/out/zi")
@@ -62,6 +70,40 @@ def stored(work):
     return str(feed), f"sha256new_{digest}"
 
 
+def documents(work, env):
+    """Selections of a program and of a dependency: as they are, with five shims, and with the trees of the shims as more selections."""
+    script(work / "tool")
+    commands = "".join(f'<command name="c{number}" path="tool"><arg>--number</arg><arg>{number}</arg></command>' for number in range(len(SHIMS)))
+    library = work / "library.xml"
+    library.write_text(FEED.format(name="library", implementation=f'<implementation id="." version="1" local-path=".">{commands}</implementation>'))
+    bindings = "".join(f'<executable-in-{kind} name="T{number}" command="c{number}"/>' for number, kind in enumerate(SHIMS))
+    made = []
+    for name, inside in (("plain", ""), ("shims", bindings)):
+        needs = f'<requires interface="{library}">{inside}</requires><command name="run" path="main"/>'
+        feed = work / f"{name}.xml"
+        feed.write_text(FEED.format(name="app", implementation=f'<implementation id="." version="1" local-path=".">{needs}</implementation>'))
+        made.append(work / name)
+        made[-1].write_bytes(subprocess.run([PROGRAM, "select", str(feed)], env=env, capture_output=True, check=True).stdout)
+    plain, shims = made
+    subprocess.run([PROGRAM, "launch", str(shims)], env=env, check=True)
+    names = subprocess.run([PROGRAM, "store", "list"], env=env, capture_output=True, check=True).stdout.decode().split()
+    if len(names) != len(SHIMS):
+        sys.exit(f"shims: {len(names)} trees are stored")
+    more = "".join(f'<selection interface="/{name}" id="x" version="1"><manifest-digest sha256new="{name[10:]}"/></selection>' for name in names)
+    trees = work / "trees"
+    trees.write_bytes(plain.read_bytes().replace(b"</selections>", more.encode() + b"</selections>"))
+    return plain, trees, shims
+
+
+def shimmed(work):
+    env = dict(os.environ, ZI_STORE=str(work / "shims-store"))
+    plain, trees, shims = in_turns([[PROGRAM, "launch", str(document)] for document in documents(work, env)], ROUNDS, env)
+    for place, word in enumerate(("by the clock", "processor time")):
+        with_shims, verified, without = shims[place], trees[place], plain[place]
+        print(f"launch with {len(SHIMS)} shims, {word}: {with_shims * 1000:.2f} ms; {with_shims / verified:.2f} of the same without them and their", end="")
+        print(f" trees verified ({verified * 1000:.2f} ms), {with_shims / without:.2f} of the same without them ({without * 1000:.2f} ms)", flush=True)
+
+
 def theirs(work, feed):
     """0install's time, in a home of its own; None where it isn't installed."""
     if not shutil.which("0install"):
@@ -82,7 +124,8 @@ def measure(work):
     feed, name = stored(work)
     ours, peak = timed_with_peak([PROGRAM, "run", feed], RUNS, env=env)
     verifying, _ = timed_with_peak([PROGRAM, "store", "verify", name], RUNS, env=env)
-    print(f"a stored program beside 100 MB: {ours * 1000:.0f} ms, {peak / 1e6:.0f} MB; {ours / verifying:.2f} of the time of store verify")
+    print(f"a stored program beside 100 MB: {ours * 1000:.0f} ms, {peak / 1e6:.0f} MB; {ours / verifying:.2f} of the time of store verify", flush=True)
+    shimmed(work)
 
 
 def main():

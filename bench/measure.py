@@ -80,6 +80,29 @@ def timed_with_peak(command, runs, wanted=0, env=None, given=os.devnull, seconds
     return best, peak
 
 
+def in_turns(commands, rounds, env=None, between=None):
+    """The middle time by the clock and the middle processor time of each command, in seconds, over some rounds in which they take turns.
+
+    Each run is to end with status 0, and what they start counts with them. `between` is called before each run, which counts nothing.
+    """
+    clock, used = [[[] for _ in commands] for _ in range(2)]
+    for number in range(rounds):
+        for place in sorted(range(len(commands)), reverse=number % 2 == 1):
+            if between:
+                between()
+            start = time.perf_counter()
+            child = subprocess.Popen(commands[place], stdin=subprocess.DEVNULL, stdout=subprocess.DEVNULL, stderr=subprocess.PIPE, env=env)
+            with child.stderr:
+                error = child.stderr.read()
+            _, status, usage = os.wait4(child.pid, 0)
+            clock[place].append(time.perf_counter() - start)
+            used[place].append(usage.ru_utime + usage.ru_stime)
+            child.returncode = os.waitstatus_to_exitcode(status)
+            if child.returncode:
+                sys.exit(f"{commands[place][0]}: status {child.returncode}: {error.decode(errors='replace').strip()}")
+    return [(statistics.median(one), statistics.median(other)) for one, other in zip(clock, used)]
+
+
 def processor_time(command, wanted=0):
     """The processor time of one run, which is to end with the status that is wanted, in seconds."""
     child = subprocess.Popen(command, stdin=subprocess.DEVNULL, stdout=subprocess.DEVNULL, stderr=subprocess.PIPE)

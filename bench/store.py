@@ -8,8 +8,10 @@ and 100,000 nodes), for `verify`; 1,000 files of 1,000 bytes for `add`. The goal
 there are; a folder is listed once. How often is counted by strace, where that is installed. `add` may take twice the time of
 0install, which doesn't make what it stored last through a crash: what that costs is shown by the time of `sync -f` alone. Each
 figure is the best of some runs. Where 0install isn't installed, `sha256sum` and `cp -r` over the same files stand for it.
-A purge of 1,000 trees of 100 files may take 1.5 times the time of `rm -r` of the same folders. Last come five stores of 10,000 trees, over which programs of 10, 100 and 1,000 interfaces are chosen: the smallest in at most 5.5 times the
-time that it takes over one of them, and what the stores add is the same however much is selected.
+A purge of 1,000 trees of 100 files may take 1.5 times the time of `rm -r` of the same folders: the two take turns, and the figures are
+the middle of the rounds. Last come five stores of 10,000 trees, over which programs of 10, 100 and 1,000 interfaces are chosen: the
+smallest in at most 5.5 times the time that it takes over one of them, and what the stores add is the same however much is selected.
+The words `verify`, `add`, `purge` and `choose` measure that alone.
 """
 import base64
 import hashlib
@@ -21,7 +23,7 @@ import sys
 import tempfile
 import time
 
-from measure import IS_BUSY, fill, processor_time_of_children, put
+from measure import IS_BUSY, fill, in_turns, processor_time_of_children, put
 
 RUNS = 5
 TOP = pathlib.Path(__file__).resolve().parent.parent
@@ -193,26 +195,34 @@ def purge(work):
         subprocess.run(["cp", "-r", str(made), str(store)], check=True)
         os.sync()
 
-    ours = timed([str(PROGRAM), "store", "purge", str(document)], env, laid)
+    words = [str(PROGRAM), "store", "purge", str(document)]
+    laid()
+    subprocess.run(words, env=env, stdout=subprocess.DEVNULL, check=True)
     if sorted(os.listdir(store)) != [kept]:
         sys.exit("purge: other trees are left")
-    theirs = timed(["sh", "-c", f"cd '{store}' && ls | grep -v {kept} | xargs rm -r"], env, laid)
-    print(f"purge, {TREES:,} trees of 100 files: {ours:.3f} s; rm -r {theirs:.3f} s; ratio {ours / theirs:.2f}", flush=True)
+    ours, theirs = in_turns([words, ["sh", "-c", f"cd '{store}' && ls | grep -v {kept} | xargs rm -r"]], RUNS, env, laid)
+    for place, word in enumerate(("by the clock", "processor time")):
+        print(f"purge, {TREES:,} trees of 100 files, {word}: {ours[place]:.3f} s; rm -r {theirs[place]:.3f} s; ratio {ours[place] / theirs[place]:.2f}", flush=True)
 
 
-def main():
+def verify_all(work):
+    for number, (shape, make, nodes) in enumerate(shapes()):
+        inside = work / str(number)
+        inside.mkdir()
+        verify(shape, make, nodes, inside)
+        shutil.rmtree(inside)
+
+
+def main(words):
     if not PROGRAM.exists():
         sys.exit(f"{PROGRAM} isn't built: run `rt ci` first")
-    for shape, make, nodes in shapes():
+    parts = {"verify": verify_all, "add": add, "purge": purge, "choose": choose}
+    if not set(words) <= set(parts):
+        sys.exit(__doc__)
+    for name in words or parts:
         with tempfile.TemporaryDirectory() as work:
-            verify(shape, make, nodes, pathlib.Path(work))
-    with tempfile.TemporaryDirectory() as work:
-        add(pathlib.Path(work))
-    with tempfile.TemporaryDirectory() as work:
-        purge(pathlib.Path(work))
-    with tempfile.TemporaryDirectory() as work:
-        choose(pathlib.Path(work))
+            parts[name](pathlib.Path(work))
 
 
 if __name__ == "__main__":
-    main()
+    main(sys.argv[1:])

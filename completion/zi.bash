@@ -15,12 +15,13 @@ _zi() {
     local options="--command --no-command --version --version-for --os --cpu --lang --level --network --use --rate --search --"
     COMPREPLY=()
     if [ "$COMP_CWORD" -eq 1 ]; then
-        mapfile -t COMPREPLY < <(compgen -W "select why conflict check refute download run launch manifest store demo --help --version" -- "$word")
+        mapfile -t COMPREPLY < <(compgen -W "select why conflict check refute download run launch script show manifest store demo --help --version" -- "$word")
         return
     fi
     case ${COMP_WORDS[1]} in
-        select | why | conflict | check | refute | download | run)
+        select | why | conflict | check | refute | download | run | script)
             [ "${COMP_WORDS[1]}" = select ] && options="--proof $options"
+            [ "${COMP_WORDS[1]}" = script ] && options="--launch $options"
             case $before in
                 --os) mapfile -t COMPREPLY < <(compgen -W "Linux Darwin FreeBSD Cygwin Solaris Windows POSIX" -- "$word") ;;
                 --cpu) mapfile -t COMPREPLY < <(compgen -W "x86_64 i686 i586 i486 i386 aarch64 ppc64" -- "$word") ;;
@@ -35,7 +36,7 @@ _zi() {
                     ;;
             esac
             ;;
-        launch)
+        launch | show)
             mapfile -t COMPREPLY < <(compgen -f -- "$word")
             ;;
         manifest)

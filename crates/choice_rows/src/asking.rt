@@ -4,7 +4,9 @@ ghost use Rattle.zi_universe.specs.Whole.{BeginsWith};
 
 use crate::refusing::put_load_fault;
 use crate::told::Told;
-use crate::{certificates, choices, conflicting, deciding, explaining, selections, solving};
+use crate::{
+    certificates, choices, conflicting, deciding, explaining, refusals, selections, solving,
+};
 use std::alloc::Global;
 use zi_lines::{Sheet, halves};
 use zi_outside::SureFeeds;
@@ -21,7 +23,7 @@ pub(crate) struct Asked {
 }
 
 /// Takes Linux on x86_64 for the host.
-fn take_linux(policy: &mut Policy) -> Result<(), Memory> {
+pub(crate) fn take_linux(policy: &mut Policy) -> Result<(), Memory> {
     policy.os.push_str("Linux")?;
     policy.machine.push_str("x86_64")
 }
@@ -77,8 +79,11 @@ fn put_asked(alloc: Global, out: &mut Sheet, word: &str, row: &str, asked: &Aske
     }
 }
 
-/// Adds the answer to what a word asks. A row begins with the command, but for that of a number.
+/// Adds the answer to what a word asks. A row begins with the command, but for that of a number and of refusals, which have no universe.
 pub(crate) fn put_answer(alloc: Global, out: &mut Sheet, word: &str, rest: &str, told: &mut Told) {
+    if word == "refused" {
+        return refusals::put_refused(alloc, out, rest, told);
+    }
     let (command, row) = if word == "number" {
         ("-", rest)
     } else {

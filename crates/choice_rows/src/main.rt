@@ -13,6 +13,7 @@ mod choices;
 mod conflicting;
 mod deciding;
 mod explaining;
+mod refusals;
 mod refusing;
 mod selections;
 mod solving;

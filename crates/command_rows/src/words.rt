@@ -140,6 +140,10 @@ fn put_asked(alloc: Global, out: &mut Sheet, request: &Request) {
             put_named(out, "launch", file);
             put_texts(out, user.as_slice());
         }
+        Request::Show { file } => {
+            out.put("show ");
+            out.put(file.as_str());
+        }
         Request::Manifest { algorithm, name } => {
             out.put("manifest ");
             out.value(algorithm);

@@ -4,7 +4,9 @@ ghost use Rattle.zi_folder.specs.Paths.{in_folder};
 
 use std::alloc::Global;
 use std::env::{self, FillError, VarError};
+use std::io::IsTerminal;
 use std::rt::Env;
+use zi_edge::feed_file;
 use zi_text::{List, Memory, Text};
 
 /// The program's words, its own name left out, up to the first that isn't UTF-8.
@@ -122,4 +124,23 @@ pub fn other_folders<R: Env + AllocGlobal>(rt: &R) -> Result<Vec<Text>, Memory> 
         }
     }
     Ok(folders)
+}
+
+/// The path of the file that has the feed of an address.
+pub fn feed_path<R: Env + AllocGlobal>(rt: &R, uri: &str) -> Result<Text, Memory> {
+    if !uri.starts_with("http://") && !uri.starts_with("https://") {
+        return Text::from_str(rt.alloc(), uri);
+    }
+    let name = feed_file(rt.alloc(), uri)?;
+    joined(rt.alloc(), feeds_folder(rt)?.as_str(), name.as_str())
+}
+
+/// Whether hints are wanted: where the variable `ZI_HINTS` is `1`, or it isn't `0` and standard error is a terminal.
+pub fn hints_wanted(rt: &HostRuntime) -> Result<bool, Memory> {
+    let said = text_or(rt, "ZI_HINTS", "")?;
+    Ok(match said.as_str() {
+        "1" => true,
+        "0" => false,
+        _ => rt.stderr().is_terminal(),
+    })
 }

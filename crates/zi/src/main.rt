@@ -1,12 +1,16 @@
 //! The program: its words, its folders of feeds and of trees, its helper, its programs and the standard streams, handed to `zi_app::run`.
 //! What these real objects do is tried, and not claimed.
 //!
-//! Code: `arguments` (words and variables). The objects are those of `zi_folder` and `zi_edge`.
+//! Code: `arguments` (words and variables), `hinting` (what hints are made of). The objects are those of `zi_folder` and `zi_edge`.
 #![tactic(auto)]
 
 mod arguments;
+mod hinting;
 
-use arguments::{TextWords, feeds_folder, log_name, other_folders, store_folder, words};
+use arguments::{
+    TextWords, feeds_folder, hints_wanted, log_name, other_folders, store_folder, words,
+};
+use hinting::{document, first_line, first_of_stores, tell};
 use std::alloc::Global;
 use std::process::ExitCode;
 use zi_app::{Outcome, refuse, run};
@@ -76,6 +80,26 @@ fn work(rt: &HostRuntime) -> Result<Outcome, Memory> {
         let _ = write_log(rt, &name, spawner.log().as_bytes());
         let _ = write_log(rt, &name, out.log().as_bytes());
         let _ = write_log(rt, &name, err.log().as_bytes());
+    }
+    if matches!(hints_wanted(rt), Ok(true)) {
+        let document = document(alloc, &outcome, texts.as_slice(), &mut feeds);
+        let failure = match &outcome {
+            Outcome::FeedRead { .. } => first_line(alloc, feeds.log().as_bytes()),
+            Outcome::FetchRead { .. } => first_line(alloc, web.log().as_bytes()),
+            Outcome::StoreFault { .. } => first_of_stores(alloc, &shelf, others.as_slice()),
+            Outcome::SpawnFault => first_line(alloc, spawner.log().as_bytes()),
+            Outcome::SinkFault => first_line(alloc, out.log().as_bytes()),
+            _ => first_line(alloc, b""),
+        };
+        if let Ok(failure) = failure {
+            let _ = tell(
+                rt,
+                &outcome,
+                texts.as_slice(),
+                failure.as_str(),
+                document.as_slice(),
+            );
+        }
     }
     Ok(outcome)
 }

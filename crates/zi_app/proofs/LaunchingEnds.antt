@@ -135,7 +135,7 @@ run_ends asked vars user o before after r = by r.comes
         ends o before after (feeds_still o f.2 (chosen_calm asked _ before.feeds c after.feeds chosen)) f.0 (web_still o f.3 (web_calm c before.web l.stored l.done after.web l.fetched)) f.1 (unwritten o before.out after.out f.4 r.out)
 
 -- The document isn't got.
-gets_not : (file : List ℕ) (o : Outcome) (before after : Feeding) → GetsNot file before o after
+pub gets_not : (file : List ℕ) (o : Outcome) (before after : Feeding) → GetsNot file before o after
     → RoseOnFeedRead o before.faults after.faults × IsSpared Stores o × IsSpared Web o × IsSpared Spawner o × IsSpared Output o
 gets_not file (FeedRead uri) before after g = (g.2, tt, tt, tt, tt)
 gets_not file (NoFile name) before after g = (g.1.calm, tt, tt, tt, tt)

@@ -50,6 +50,8 @@ use Rattle.zi_storing.proofs.AddingLemmas.{adds_use}
 use Rattle.zi_storing.proofs.PurgingLemmas.{purge_lasts, purge_spares}
 use Rattle.zi_storing.proofs.RightLemmas.{prints_right, lists_right, manifest_right, verify_right, add_right, purge_right}
 use Rattle.zi_app.proofs.KeptLemmas.{uses_last, download_right}
+use Rattle.zi_app.proofs.ScriptingEnds.{run_of, launch_of, script_right, script_file_right}
+use Rattle.zi_app.proofs.ShowingEnds.{show_right}
 use Rattle.zi_app.proofs.WorkEnds.{works_end}
 
 -- right words ask for files with names, for no more lemmas than there may be, and for a demonstration that there is
@@ -60,6 +62,7 @@ IsLoading (request.Conflict ask) = Unit {0}
 IsLoading (request.Refute ask proof) = Unit {0}
 IsLoading (request.Download ask) = Unit {0}
 IsLoading (request.Run ask user) = Unit {0}
+IsLoading (request.Script ask user) = Unit {0}
 IsLoading (request.Check ask sels proof) = Unit {0}
 IsLoading other = ⊥
 
@@ -81,6 +84,7 @@ loads_form ws r w (l, e, asks) = subst IsLoading (sym asks.asked) (of_loader l (
     of_loader loader.Refute ask proof named = tt
     of_loader loader.Download ask proof named = tt
     of_loader loader.Run ask proof named = tt
+    of_loader loader.Script ask proof named = tt
     of_loader loader.Check ask proof named = tt
 
 within_form : (r : Request) → IsWithin r → IsLoading r → IsInForm r
@@ -90,6 +94,8 @@ within_form (request.Conflict ask) h l = h
 within_form (request.Refute ask proof) h l = tt
 within_form (request.Download ask) h l = h
 within_form (request.Run ask user) h l = h
+within_form (request.Script ask user) h l = h
+within_form (request.ScriptLaunch file user) h l = tt
 within_form (request.Launch file user) h l = tt
 within_form (request.Check ask sels proof) h l = tt
 within_form (request.Manifest algorithm name) h l = tt
@@ -97,6 +103,7 @@ within_form (request.Add name files) h l = absurd l
 within_form (request.Purge files) h l = tt
 within_form (request.Verify name) h l = tt
 within_form request.Names h l = tt
+within_form (request.Show file) h l = tt
 within_form (request.Demo n) h l = h
 within_form request.Help h l = tt
 within_form request.Version h l = tt
@@ -111,7 +118,9 @@ in_form (w ∷ ws) r (inl loads) = within_form r (is_within (w ∷ ws) r (inl lo
 in_form (w ∷ ws) r (inr (inl (inl (e, (a, name, are, right, asked))))) = subst IsInForm (sym asked) tt
 in_form (w ∷ ws) r (inr (inl (inr (e, s)))) = store_form ws r s
 in_form (w ∷ ws) r (inr (inr (inl demo))) = demo_form ws r (is_within (w ∷ ws) r (inr (inr (inl demo)))) demo.1
-in_form (w ∷ ws) r (inr (inr (inr (inl (e, (file, user, are, asked)))))) = subst IsInForm (sym asked) tt
+in_form (w ∷ ws) r (inr (inr (inr (inl (inl (e, (file, user, are, asked))))))) = subst IsInForm (sym asked) tt
+in_form (w ∷ ws) r (inr (inr (inr (inl (inr (inl (e, (behind, f, (file, user, are, asked))))))))) = subst IsInForm (sym asked) tt
+in_form (w ∷ ws) r (inr (inr (inr (inl (inr (inr (e, (file, are, asked)))))))) = subst IsInForm (sym asked) tt
 in_form (w ∷ ws) r (inr (inr (inr (inr (are, inl (e, asked)))))) = subst IsInForm (sym asked) tt
 in_form (w ∷ ws) r (inr (inr (inr (inr (are, inr (e, asked)))))) = subst IsInForm (sym asked) tt
 
@@ -130,6 +139,9 @@ never_usage (request.Add name files) vars before after index d = add_right name 
 never_usage (request.Purge files) vars before after index d = purge_right files (world_of (meets_of before)) (world_of (meets_of after)) index d.does.does
 never_usage (request.Verify name) vars before after index d = verify_right name (world_of (meets_of before)) (world_of (meets_of after)) index d.does.does
 never_usage request.Names vars before after index d = lists_right (world_of (meets_of before)) (world_of (meets_of after)) index d.does.does
+never_usage (request.Script ask user) vars before after index d = script_right (asked_in vars ask) vars user before after index d
+never_usage (request.ScriptLaunch file user) vars before after index d = script_file_right file vars user before after index d
+never_usage (request.Show file) vars before after index d = show_right file (world_of (meets_of before)) (world_of (meets_of after)) index d.does.does
 never_usage (request.Demo n) vars before after index d = elim d.does.does.out [ inl shown ↦ shown.counts | inr m ↦ (let e = m.0 in (cc e)) ]
 never_usage request.Help vars before after index d = prints_right _ before.out after.out index d.does.does.out
 never_usage request.Version vars before after index d = prints_right _ before.out after.out index d.does.does.out
@@ -191,6 +203,9 @@ does_read (request.Add name files) vars before after outcome d = none_touched be
 does_read (request.Purge files) vars before after outcome d = none_touched before.others after.others d.does.does.others
 does_read (request.Verify name) vars before after outcome d = d.does.does.stores.1
 does_read request.Names vars before after outcome d = all_read before.others after.others d.does.does.stores.1
+does_read (request.Script ask user) vars before after outcome d = (run_of _ vars user _ _ outcome d.does).2.others
+does_read (request.ScriptLaunch file user) vars before after outcome d = (launch_of file vars user _ _ outcome d.does).2.others
+does_read (request.Show file) vars before after outcome d = all_read before.others after.others d.does.does.stores.1
 does_read (request.Demo n) vars before after outcome d = none_touched before.others after.others d.does.does.stores.1
 does_read request.Help vars before after outcome d = none_touched before.others after.others d.does.does.stores.1
 does_read request.Version vars before after outcome d = none_touched before.others after.others d.does.does.stores.1
@@ -210,6 +225,9 @@ does_last (request.Add name files) vars before after outcome d = uses_last d.doe
 does_last (request.Purge files) vars before after outcome d = purge_lasts files (world_of (meets_of before)) (world_of (meets_of after)) outcome d.does.does
 does_last (request.Verify name) vars before after outcome d = keeps_lasts is_reading before.shelf after.shelf d.does.does.stores.0
 does_last request.Names vars before after outcome d = keeps_lasts is_names before.shelf after.shelf d.does.does.stores.0
+does_last (request.Script ask user) vars before after outcome d = (let r = (run_of _ vars user _ _ outcome d.does).2 in uses_last r.tried before.shelf after.shelf r.shelf)
+does_last (request.ScriptLaunch file user) vars before after outcome d = (let r = (launch_of file vars user _ _ outcome d.does).2 in uses_last r.tried before.shelf after.shelf r.shelf)
+does_last (request.Show file) vars before after outcome d = keeps_lasts is_names before.shelf after.shelf d.does.does.stores.0
 does_last (request.Demo n) vars before after outcome d = untouched_lasts before.shelf after.shelf d.does.does.stores.0
 does_last request.Help vars before after outcome d = untouched_lasts before.shelf after.shelf d.does.does.stores.0
 does_last request.Version vars before after outcome d = untouched_lasts before.shelf after.shelf d.does.does.stores.0
@@ -228,6 +246,9 @@ does_stay (request.Add name files) vars before after outcome d = d.does.does.fee
 does_stay (request.Purge files) vars before after outcome d = d.does.does.feeds
 does_stay (request.Verify name) vars before after outcome d = unasked_stay before.feeds after.feeds d.does.does.feeds
 does_stay request.Names vars before after outcome d = unasked_stay before.feeds after.feeds d.does.does.feeds
+does_stay (request.Script ask user) vars before after outcome d = (run_of _ vars user _ _ outcome d.does).2.feeds
+does_stay (request.ScriptLaunch file user) vars before after outcome d = (launch_of file vars user _ _ outcome d.does).2.feeds
+does_stay (request.Show file) vars before after outcome d = d.does.does.feeds
 does_stay (request.Demo n) vars before after outcome d = unasked_stay before.feeds after.feeds d.does.does.feeds
 does_stay request.Help vars before after outcome d = unasked_stay before.feeds after.feeds d.does.does.feeds
 does_stay request.Version vars before after outcome d = unasked_stay before.feeds after.feeds d.does.does.feeds
@@ -246,6 +267,9 @@ web_stays (request.Add name files) vars before after outcome d = unasked_stay be
 web_stays (request.Purge files) vars before after outcome d = unasked_stay before.web after.web d.does.web
 web_stays (request.Verify name) vars before after outcome d = unasked_stay before.web after.web d.does.web
 web_stays request.Names vars before after outcome d = unasked_stay before.web after.web d.does.web
+web_stays (request.Script ask user) vars before after outcome d = (run_of _ vars user _ _ outcome d.does).2.web
+web_stays (request.ScriptLaunch file user) vars before after outcome d = unasked_stay before.web after.web (launch_of file vars user _ _ outcome d.does).2.web
+web_stays (request.Show file) vars before after outcome d = unasked_stay before.web after.web d.does.web
 web_stays (request.Demo n) vars before after outcome d = unasked_stay before.web after.web d.does.web
 web_stays request.Help vars before after outcome d = unasked_stay before.web after.web d.does.web
 web_stays request.Version vars before after outcome d = unasked_stay before.web after.web d.does.web
@@ -268,6 +292,9 @@ does_keep words (request.Purge files) vars before after outcome right d = elim (
 ]
 does_keep words (request.Verify name) vars before after outcome right d = inl (reading_keeps is_reading before.shelf after.shelf d.does.does.stores.0)
 does_keep words request.Names vars before after outcome right d = inl (reading_keeps is_names before.shelf after.shelf d.does.does.stores.0)
+does_keep words (request.Script ask user) vars before after outcome right d = (let r = (run_of _ vars user _ _ outcome d.does).2 in inl (uses_keep r.tried before.shelf after.shelf r.shelf))
+does_keep words (request.ScriptLaunch file user) vars before after outcome right d = (let r = (launch_of file vars user _ _ outcome d.does).2 in inl (uses_keep r.tried before.shelf after.shelf r.shelf))
+does_keep words (request.Show file) vars before after outcome right d = inl (reading_keeps is_names before.shelf after.shelf d.does.does.stores.0)
 does_keep words (request.Demo n) vars before after outcome right d = inl (told_keeps before.shelf after.shelf d.does.does.stores.0.told)
 does_keep words request.Help vars before after outcome right d = inl (told_keeps before.shelf after.shelf d.does.does.stores.0.told)
 does_keep words request.Version vars before after outcome right d = inl (told_keeps before.shelf after.shelf d.does.does.stores.0.told)
@@ -287,6 +314,9 @@ does_quiet (request.Add name files) vars before after outcome d ne = ap ran_in d
 does_quiet (request.Purge files) vars before after outcome d ne = ap ran_in d.started
 does_quiet (request.Verify name) vars before after outcome d ne = ap ran_in d.started
 does_quiet request.Names vars before after outcome d ne = ap ran_in d.started
+does_quiet (request.Script ask user) vars before after outcome d ne = ap ran_in d.started
+does_quiet (request.ScriptLaunch file user) vars before after outcome d ne = ap ran_in d.started
+does_quiet (request.Show file) vars before after outcome d ne = ap ran_in d.started
 does_quiet (request.Demo n) vars before after outcome d ne = ap ran_in d.started
 does_quiet request.Help vars before after outcome d ne = ap ran_in d.started
 does_quiet request.Version vars before after outcome d ne = ap ran_in d.started

@@ -20,6 +20,8 @@ use Rattle.zi_app.proofs.ChoosingEnds.{select_ends, refute_ends, check_ends, dem
 use Rattle.zi_app.proofs.StoringEnds.{list_ends, manifest_ends, verify_ends, add_ends, purge_ends}
 use Rattle.zi_app.proofs.FetchingEnds.{download_ends}
 use Rattle.zi_app.proofs.LaunchingEnds.{run_ends, launch_ends}
+use Rattle.zi_app.proofs.ScriptingEnds.{script_ends, script_file_ends}
+use Rattle.zi_app.proofs.ShowingEnds.{show_ends}
 
 shows_ends : (text : List ℕ) (o : Outcome) (before after : World) → ShowsText text before after o → EndsIn o before after
 shows_ends text o before after s = calm_in o before after s.feeds (untouched_calm (all_stores before) (all_stores after) s.stores) (prints text before.out after.out o s.out)
@@ -46,6 +48,9 @@ module _ (o : Outcome) (before after : Surroundings) where
   does_end (request.Purge files) vars d = within _ d (purge_ends files o)
   does_end (request.Verify name) vars d = within _ d (verify_ends name o)
   does_end request.Names vars d = within _ d (list_ends o)
+  does_end (request.Script ask user) vars d = script_ends (asked_in vars ask) vars user o before after d
+  does_end (request.ScriptLaunch file user) vars d = script_file_ends file vars user o before after d
+  does_end (request.Show file) vars d = within _ d (show_ends file o)
   does_end (request.Demo n) vars d = within _ d (shows_demo_ends n o)
   does_end request.Help vars d = within _ d (shows_ends _ o)
   does_end request.Version vars d = within _ d (shows_ends _ o)

@@ -25,11 +25,13 @@ use Rattle.zi_choosing.specs.Select.{Selects, Explains, TellsConflict}
 use Rattle.zi_fetching.specs.Download.{Downloads}
 use Rattle.zi_launching.specs.Run.{RunsProgram}
 use Rattle.zi_launching.specs.Opening.{LaunchesFile}
+use Rattle.zi_scripting.specs.Scripting.{Scripts, ScriptsFile}
 use Rattle.zi_storing.specs.ManifestCommand.{Manifests}
 use Rattle.zi_storing.specs.StoreList.{Lists}
 use Rattle.zi_storing.specs.StoreVerify.{VerifiesTree}
 use Rattle.zi_storing.specs.Adding.{AddsFiles}
 use Rattle.zi_storing.specs.StorePurge.{PurgesFiles, SparesNamed}
+use Rattle.zi_showing.specs.Showing.{ShowsSelections}
 use Rattle.zi_due.specs.Demands.{EndsAsDue}
 use Rattle.zi_due.specs.Complete.{Completes}
 use Rattle.zi_app.specs.Showing.{ShowsText, ShowsDemo}
@@ -39,8 +41,8 @@ use Rattle.zi_app.specs.Outcomes.{Leaves, Blames}
 abbrev pub Apart : (World → World → Outcome → Type 0) → Surroundings → Surroundings → Outcome → Type 0
 Apart Does before after outcome = Unstarted (λ (b a : Meets) o. Within Does b a o) before after outcome
 
--- What a request asks for is done over these variables, to this outcome. Of all commands only `download` and `run` meet the web, and only
--- `run` and `launch` the spawner.
+-- What a request asks for is done over these variables, to this outcome. Of all commands only `download`, `run` and `script` meet the web, and
+-- only `run` and `launch` the spawner.
 abbrev pub Does : Request → List Var → Surroundings → Surroundings → Outcome → Type 0
 Does (request.Select ask proof) vars before after outcome = Apart (Selects (asked_in vars ask) proof) before after outcome
 Does (request.Why ask) vars before after outcome = Apart (Explains (asked_in vars ask)) before after outcome
@@ -48,6 +50,8 @@ Does (request.Conflict ask) vars before after outcome = Apart (TellsConflict (as
 Does (request.Download ask) vars before after outcome = Unstarted (Downloads (asked_in vars ask)) before after outcome
 Does (request.Run ask user) vars before after outcome = RunsProgram (asked_in vars ask) vars user before after outcome
 Does (request.Launch file user) vars before after outcome = LaunchesFile file vars user before after outcome
+Does (request.Script ask user) vars before after outcome = Unstarted (Scripts (asked_in vars ask) vars user) before after outcome
+Does (request.ScriptLaunch file user) vars before after outcome = Unstarted (ScriptsFile file vars user) before after outcome
 Does (request.Check ask sels proof) vars before after outcome = Apart (ChecksBest (asked_in vars ask) sels proof) before after outcome
 Does (request.Refute ask proof) vars before after outcome = Apart (ChecksNone (asked_in vars ask) proof) before after outcome
 Does (request.Manifest algorithm name) vars before after outcome = Apart (Manifests algorithm name) before after outcome
@@ -55,6 +59,7 @@ Does (request.Add name files) vars before after outcome = Apart (AddsFiles name 
 Does (request.Purge files) vars before after outcome = Apart (PurgesFiles files) before after outcome
 Does (request.Verify name) vars before after outcome = Apart (VerifiesTree name) before after outcome
 Does request.Names vars before after outcome = Apart Lists before after outcome
+Does (request.Show file) vars before after outcome = Apart (ShowsSelections file) before after outcome
 Does (request.Demo n) vars before after outcome = Apart (ShowsDemo n) before after outcome
 Does request.Help vars before after outcome = Apart (ShowsText HELP.now) before after outcome
 Does request.Version vars before after outcome = Apart (ShowsText VERSION.now) before after outcome

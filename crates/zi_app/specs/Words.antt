@@ -21,6 +21,7 @@ IsInForm (request.Why ask) = ask.search ≤ most_lemmas
 IsInForm (request.Conflict ask) = ask.search ≤ most_lemmas
 IsInForm (request.Download ask) = ask.search ≤ most_lemmas
 IsInForm (request.Run ask user) = ask.search ≤ most_lemmas
+IsInForm (request.Script ask user) = ask.search ≤ most_lemmas
 IsInForm (request.Add name files) = list_all is_file files ≡ true
 IsInForm (request.Demo n) = (1 ≤ n) × (n ≤ 1000)
 IsInForm other = Unit {0}

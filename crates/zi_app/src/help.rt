@@ -31,6 +31,14 @@ zi run [options] ROOT WORDS..
 zi launch FILE WORDS..
     Starts the program of the selections document in FILE with WORDS. All that is selected has
     to be there. The status is as of run.
+zi script [options] ROOT WORDS..
+zi script --launch FILE WORDS..
+    Does all that run, or launch, does up to the start, and writes a script in place of it. A
+    shell that evaluates the script becomes the program: s=$(zi script ..) && eval \"$s\"
+zi show FILE
+    Writes the selections document in FILE as people read it: for each selection its address, its
+    version, its folder or digest and whether that is stored, its commands, and below it what it
+    is the first to need.
 zi manifest ALGORITHM NAME
     Writes the manifest and the digest of the tree that the first store with NAME has under it.
     ALGORITHM is sha1new, sha256 or sha256new.
@@ -55,7 +63,7 @@ zi --help
 zi --version
     Writes the name and the version.
 
-Options of select, why, conflict, check, refute, download and run, before ROOT:
+Options of select, why, conflict, check, refute, download, run and script, before ROOT:
     --command NAME              The command of the program that is wanted (default: run).
     --no-command                Needs no command of the program.
     --version RANGE             Versions of ROOT, as 1.2..!2 | 3 (default: every version).
@@ -90,6 +98,8 @@ there, or ends with status 44 where nothing is. ZI_FETCH_SECONDS says how many s
 for one address (default: as long as it likes).
 Where ZI_LOG names a file, the path and the system's reason of each failure are added to it,
 or written to standard error where it is -.
+Where standard error is a terminal, or ZI_HINTS is 1, up to three lines follow the one of the status
+that begin with hint: and say what is wrong and what to do. ZI_HINTS=0 leaves them out.
 
 Status, and the line on standard error behind \"zi: \":
      0  (no line)                     done
@@ -140,7 +150,7 @@ Kinds of faults of feeds:
     4  version expression            11  stability
     5  arch                          12  address
     6  digest                        13  an id twice
-    7  binding, command, dependency
+    7  binding, command, dependency  14  a package without a name
 
 Faults of selections:
     1  no document                    4  two selections for one interface

@@ -13,7 +13,9 @@ use zi_fetching::download;
 use zi_launching::launch;
 use zi_outcome::{Outcome, put_text, tell};
 use zi_outside::{Feeds, Sink, SinkFault, Spawner, Vars, Web};
+use zi_scripting::{script, script_file};
 use zi_shelf::Shelf;
+use zi_showing::show;
 use zi_storing::{add, list, manifest, purge, verify_tree};
 use zi_text::Text;
 use zi_words::{Request, WordsFault};
@@ -30,6 +32,8 @@ use zi_words::{Request, WordsFault};
 /// whether selections are the best choice. `download` chooses as `select` does, fetches from the web what is selected and no store has,
 /// and writes the document, where each package that is selected is installed; `run` fetches as `download` does and starts the program,
 /// and `launch` starts that of a document of selections, each once every stored tree in it was read and found to be what its name says.
+/// `script` does all that `run`, or `launch`, does up to the start, and writes the launch as a script for the shell.
+/// `show` reads a document of selections, and writes its selections as people read them, and which of them are stored.
 /// `manifest` and `store verify` read the first store that has the tree, and `store list` reads all; `store add` puts files into the
 /// one that is written, as a tree, and `store purge` takes away from it each tree whose digest no selection in its files has. `demo`
 /// counts what the best choice of a demonstration selects, whose feeds it makes itself; `--help` and `--version`
@@ -171,6 +175,17 @@ fn answer<F: Feeds, K: Shelf, R: Shelf, W: Web, P: Spawner, O: Sink>(
                 spawner,
             )
         }
+        Request::Script { ask, user } => {
+            let Ok(asked) = Asked::by(alloc, ask, vars) else {
+                return Outcome::Memory;
+            };
+            let user = user.as_slice();
+            script(alloc, asked, user, vars, feeds, shelf, others, web, out)
+        }
+        Request::ScriptLaunch { file, user } => {
+            let words = user.as_slice();
+            script_file(alloc, file, words, vars, feeds, shelf, others, out)
+        }
         Request::Check { ask, sels, proof } => {
             let Ok(asked) = Asked::by(alloc, ask, vars) else {
                 return Outcome::Memory;
@@ -184,6 +199,7 @@ fn answer<F: Feeds, K: Shelf, R: Shelf, W: Web, P: Spawner, O: Sink>(
         Request::Purge { files } => purge(alloc, files, feeds, shelf, out),
         Request::Verify { name } => verify_tree(alloc, name, shelf, others, out),
         Request::Names => list(alloc, shelf, others, out),
+        Request::Show { file } => show(alloc, file, feeds, shelf, others, out),
         Request::Demo { n } => demonstrate(alloc, n, out),
         Request::Help => put_text(HELP.as_bytes(), out),
         Request::Version => put_text(VERSION.as_bytes(), out),

@@ -1,23 +1,16 @@
 -- What is known of a universe's constraints and of parts of them, for the search.
-use Rattle.std.proofs.Common.{◌≡◌, ℕ, ◌+◌, ◌-◌, ◌<◌, ◌≤◌, ◌^◌, List, [], length, refl, sym, ap, ◌∙◌, subst, arith}
+use Rattle.std.proofs.Common.{◌≡◌, ℕ, ◌+◌, ◌-◌, ◌<◌, ◌≤◌, ◌^◌, List, length, sym, ap, ◌∙◌, subst, arith}
 use Rattle.zi_formula.specs.declared.formula.Formula.{Formula}
 use Rattle.zi_formula.specs.Form.{WellFormed}
 use Rattle.zi_universe.specs.declared.types.Requirement.{Requirement}
 use Rattle.zi_universe.specs.declared.types.Interface.{Interface}
 use Rattle.zi_choice.specs.Vars.{var_count}
-use Rattle.zi_build.specs.Clauses.{formula, literals, most_literals}
+use Rattle.zi_build.specs.Clauses.{formula, literals}
 use Rattle.zi_build.specs.Answers.{IsBuilt}
 use Rattle.zi_build.proofs.Formed.{is_formed}
-use Rattle.zi_walk.specs.Seen.{WalkSeen}
 use Rattle.zi_conflict.specs.Core.{only}
 use Rattle.zi_conflict.specs.Resting.{numbers_to, IsPart}
 use Rattle.zi_conflict.proofs.PartLaws.{only_formed, only_length, part_length, to_length}
-
-pub needed : (u : List Interface) (req : Requirement) (n : ℕ) (w : WalkSeen) → w ≡ record { universe = u; requirement = req; taken = [] } → var_count u ≤ n → var_count w.universe ≤ n
-needed u req n w by l = subst (λ (v : WalkSeen). var_count v.universe ≤ n) (sym by) l
-
-pub nothing_taken : (u : List Interface) (req : Requirement) (w : WalkSeen) → w ≡ record { universe = u; requirement = req; taken = [] } → w.taken ≡ []
-nothing_taken u req w by = ap (λ (v : WalkSeen). v.taken) by
 
 pub built_few : (u : List Interface) (req : Requirement) (f : Formula) → IsBuilt u req f → length f.constraints ≤ 8000001
 built_few u req f h =
@@ -34,12 +27,6 @@ built_variables u req f n h e l =
 
 pub part_formed : (u : List Interface) (req : Requirement) (f g : Formula) (ns : List ℕ) → IsBuilt u req f → IsPart ns (numbers_to (length f.constraints)) → g ≡ only f ns → WellFormed g
 part_formed u req f g ns h p e = subst WellFormed (sym e) (only_formed f ns h.formed p)
-
-pub part_variables : (u : List Interface) (req : Requirement) (f g : Formula) (ns : List ℕ) → IsBuilt u req f → g ≡ only f ns → var_count u ≤ g.variables
-part_variables u req f g ns h e =
-    let a : g.variables ≡ f.variables = ap (λ (k : Formula). k.variables) e in
-    let b : f.variables ≡ var_count u = ap (λ (k : Formula). k.variables) h.is in
-    omega (arith, a, b)
 
 pub part_few : (u : List Interface) (req : Requirement) (f g : Formula) (ns : List ℕ) → IsBuilt u req f → IsPart ns (numbers_to (length f.constraints)) → g ≡ only f ns → length g.constraints + 1000 < 2 ^ 32 - 1
 part_few u req f g ns h p e =

@@ -43,8 +43,9 @@ fn variables_of(f: &Formula) -> u32
 /// The facts that leave no choice, where a proof refutes: each is one of the constraints that the proof uses, they come in the order of
 /// the constraints, and no valuation models just these, so that no choice is valid whatever else the feeds say
 /// (`laws::core_is_none`). They are the constraints on which the proof's last lemma rests; of these each is left out, from the
-/// last on, where a search that learns at most 1,000 lemmas refutes the others. The work is linear in the proof, in the universe and its
-/// constraints, and for each fact that of such a search.
+/// last on, where a search that learns at most 1,000 lemmas refutes the others, while all these searches together have learned fewer than
+/// 1,000 lemmas and two for each of the proof. One isn't tried where the model of an earlier search shows that it is needed. The work is linear
+/// in the proof, in the universe and its constraints, and for each fact that is tried in these constraints and that of its search.
 pub fn conflict<'u>(
     alloc: Global,
     names: &'u Names<'u>,

@@ -3,14 +3,17 @@
 //!
 //! Read specs/Core.antt (when constraints leave no choice, by their numbers) and Conflict.antt (what is told of them). Code: `resting` goes back
 //! over a refutation from its last lemma and marks the constraints on which that rests; `cores` takes these, and leaves out one
-//! after another where a search refutes the others; `conflicting` has `conflict`,
-//! `writing` its text.
+//! after another where a search refutes the others, which decides by `opposites`; `tries` says which are tried and how long, and `around` finds some
+//! that needn't be, from a model that a search found; `conflicting` has `conflict`, `writing` its text.
 #![tactic(auto)]
 
+mod around;
 mod conflicting;
 mod cores;
 pub mod laws;
+mod opposites;
 mod resting;
+mod tries;
 mod writing;
 
 pub use conflicting::conflict;

@@ -10,3 +10,4 @@ pub mod LiftLaws
 pub mod OwnLaws
 pub mod RunLaws
 pub mod OpenLaws
+pub mod StartLaws

@@ -151,6 +151,11 @@ Starts launch before after SpawnFault = Launches before launch (Err spawn.Failed
 Starts launch before after Memory = Launches before launch (Err spawn.Memory) after
 Starts launch before after other = ⊥
 
+-- A launch that was made ready is started; or there is none, and this is the outcome.
+abbrev pub StartsThen : Result Launch Outcome → Spawning → Spawning → Outcome → Type 0
+StartsThen (Ok launch) before after outcome = Starts launch before after outcome
+StartsThen (Err work) before after outcome = (outcome ≡ work) × (after ≡ before)
+
 -- Nothing is launched, or the launch is ready and is started, last of all.
 abbrev pub LaunchesOver : Task → List Tried → Lent → Lent → Outcome → Type 0
 LaunchesOver task tried before after outcome =

@@ -1,22 +1,21 @@
-//! Selections are launched: their folders, the plan, the shims, the trees, and the start.
+//! Selections are made ready to be launched: their folders, the plan, the shims, and the trees.
 ghost use Rattle.std.specs.Prelude.{◌≡◌, false, ◌+◌, ◌++◌, ◌∷◌, map, length, Ok, Err, OnOk, MatchResult};
 ghost use Rattle.zi_digest.specs.declared.DigestName.{DigestName as Name};
 ghost use Rattle.zi_plan.specs.Plans.{Plans};
 ghost use Rattle.zi_world.specs.Places.{place};
 ghost use Rattle.zi_fetching.specs.Known.{is_known};
 ghost use Rattle.zi_shim_laws.specs.Names.{HaveShimNames};
-ghost use Rattle.zi_launching.specs.Launching.{PlansNot, PreparesWith, LaunchesWith};
+ghost use Rattle.zi_launching.specs.Launching.{PlansNot, PreparesWith};
 
 use crate::folders::{folders_of, trees_of};
 use crate::places::Places;
 use crate::shims::{add_shims, calls_of, folders_at, unplanned};
-use crate::starting::start;
 use crate::verifying::verify_all;
 use std::alloc::Global;
 use zi_digest::DigestName;
 use zi_fetching::Stored;
 use zi_outcome::Outcome;
-use zi_outside::{Launch, Spawner, Vars};
+use zi_outside::{Launch, Vars};
 use zi_plan::plan;
 use zi_sels::Selections;
 use zi_shelf::Shelf;
@@ -50,9 +49,10 @@ fn add_all(names: &mut List<DigestName>, more: &[DigestName]) -> Result<(), Memo
     Ok(())
 }
 
-// The launch that selections mean, once each stored tree in it is found to be what its name says. Its shims are added before, each that no
-// store has.
-fn prepared<K: Shelf, R: Shelf>(
+/// The launch that selections mean, over stores in which these digests are stored, `each` those that were in each when the call began: their
+/// folders are found and the launch is planned; the shims that no store has are added to the first; and then each stored tree whose folder is
+/// exposed is read in the store where it stands, and its digest is its name.
+pub(crate) fn prepared<K: Shelf, R: Shelf>(
     alloc: Global,
     sels: &Selections,
     each: &List<List<DigestName>>,
@@ -84,31 +84,4 @@ fn prepared<K: Shelf, R: Shelf>(
         folders.as_slice(),
         shims.as_slice(),
     )
-}
-
-/// Launches selections over stores in which these digests are stored, `each` those that were in each when the call began: their
-/// folders are found and the launch is planned; the shims that no store has are added to the first; then each stored tree whose folder is
-/// exposed is read in the store where it stands, and its digest is its name; and then the program is started.
-pub(crate) fn launch_over<K: Shelf, R: Shelf, P: Spawner>(
-    alloc: Global,
-    sels: &Selections,
-    each: &List<List<DigestName>>,
-    stored: &mut Stored,
-    vars: &Vars,
-    user: &[Text],
-    shelf: &mut K,
-    others: &mut [R],
-    spawner: &mut P,
-) -> Outcome
-    requires stores { length each.now ≡ length others.old + 1 }
-    requires names { HaveShimNames sels.now }
-    requires fresh { (d : Name) → is_known stored.old d ≡ false → place each.now d ≡ 0 }
-    ensures { LaunchesWith (record { sels = sels.now; each = each.now; stored = stored.old; vars = vars.now; user = user.now })
-        (record { stores = K.seen shelf.old ∷ map R.seen others.old; spawner = P.seen spawner.old })
-        (record { stores = K.seen shelf.new ∷ map R.seen others.new; spawner = P.seen spawner.new }) result }
-{
-    match prepared(alloc, sels, each, stored, vars, user, shelf, others) {
-        Ok(launch) => start(&launch, spawner),
-        Err(outcome) => outcome,
-    }
 }

@@ -4,9 +4,10 @@
 //! Contracts say what each outcome means and what became of each object (specs/Launching.antt).
 //!
 //! `places` says in which store a digest stands, `folders` finds the folders, `zi_plan` makes the plan, `shims` adds what its shims are to
-//! run as trees, `verifying` reads each stored tree, `starting` starts the program; `launching` has these in their order, `running` and
-//! `opening` the commands `run` and `launch`. specs/Folders.antt, Shims.antt, Verifying.antt and Launching.antt say the same stages;
-//! Run.antt and Opening.antt are the two commands, Placing.antt is what the finding out of the stores promises.
+//! run as trees, `verifying` reads each stored tree, `starting` starts the program; `launching` has the others in their order, `running` and
+//! `opening` the commands `run` and `launch`, each in two steps: all up to the start, which a caller may make otherwise, and the start.
+//! specs/Folders.antt, Shims.antt, Verifying.antt and Launching.antt say the same stages; Run.antt and Opening.antt are the two commands,
+//! Placing.antt is what the finding out of the stores promises.
 #![tactic(auto)]
 
 mod folders;
@@ -18,5 +19,5 @@ mod shims;
 mod starting;
 mod verifying;
 
-pub use opening::launch;
-pub use running::run;
+pub use opening::{launch, prepare_file};
+pub use running::{prepare_run, run};

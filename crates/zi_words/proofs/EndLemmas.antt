@@ -52,6 +52,7 @@ open_ended loader.Check named e = cc
 open_ended loader.Refute named e = cc
 open_ended loader.Why named e = cc
 open_ended loader.Conflict named e = cc
+open_ended loader.Script named e = omega arith
 
 -- words are missing
 pub end_short : (l : Loader) (ws rest : List Word) (w : Word) → takes_more l ≡ false → ws ≡ w ∷ rest → is_address w ≡ true → length rest < count_of l → LeftAt (Asks (IsEnd l)) ws 0

@@ -15,3 +15,4 @@ pub mod SearchLaws
 pub mod OneLaws
 pub mod DemoLemmas
 pub mod LaunchLemmas
+pub mod ScriptLemmas

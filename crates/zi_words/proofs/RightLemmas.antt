@@ -1,5 +1,5 @@
 -- All words, by the first.
-use Rattle.std.proofs.Common.{◌≡◌, ◌≢◌, List, [], ◌∷◌, length, refl, sym, ap, ◌∙◌, subst, arith, ◌⊎◌, inl, inr, Option, Some, None, Result, Ok, Err}
+use Rattle.std.proofs.Common.{◌≡◌, ◌≢◌, false, List, [], ◌∷◌, length, refl, sym, ap, ◌∙◌, subst, arith, ◌⊎◌, inl, inr, Option, Some, None, Result, Ok, Err}
 use Rattle.std.specs.Prelude.{if◌then◌else◌, bytes_eq, codes, MatchResult}
 use Rattle.zi_text.specs.Front.{BeginsRight}
 use Rattle.zi_words.specs.declared.loader.Loader.{Loader}
@@ -11,8 +11,8 @@ use Rattle.zi_words.specs.declared.refusal.Refusal.TheVariants.{Left, Memory}
 use Rattle.zi_words.specs.Forms.{Word}
 use Rattle.zi_words.specs.Store.{AsksManifest, AsksStore, InStore}
 use Rattle.zi_words.specs.Demo.{AsksDemo, Demonstrates}
-use Rattle.zi_words.specs.Launch.{AsksLaunch, Launches}
-use Rattle.zi_words.specs.Words.{loader_word, AsksLoading, Loads, Alone, Right}
+use Rattle.zi_words.specs.Launch.{AsksLaunch, AsksShow, OfFile}
+use Rattle.zi_words.specs.Words.{loader_word, AsksLoading, AsksScript, Loads, Alone, Right}
 use Rattle.zi_words.specs.Refused.{Asks, LeftAt, Refused}
 use Rattle.zi_words.specs.Taken.{IsEnded}
 use Rattle.zi_words.proofs.KindLemmas.{not_same}
@@ -26,28 +26,31 @@ right_none [] e = short (Asks Right) [] begins (λ (r, h). h)
 right_none (w ∷ ws) e = absurd (omega arith)
 
 -- a word that is that of no command that loads feeds
-pub by_loaders : (w : Word) → w ≢ codes "select" → w ≢ codes "download" → w ≢ codes "run" → w ≢ codes "check" → w ≢ codes "refute" → w ≢ codes "why" → w ≢ codes "conflict"
+pub by_loaders : (w : Word) → w ≢ codes "select" → w ≢ codes "download" → w ≢ codes "run" → w ≢ codes "check" → w ≢ codes "refute" → w ≢ codes "why" → w ≢ codes "conflict" → w ≢ codes "script"
     → (l : Loader) → w ≢ loader_word l
-by_loaders w ns nd nu nc nr nw nf loader.Select = ns
-by_loaders w ns nd nu nc nr nw nf loader.Download = nd
-by_loaders w ns nd nu nc nr nw nf loader.Run = nu
-by_loaders w ns nd nu nc nr nw nf loader.Check = nc
-by_loaders w ns nd nu nc nr nw nf loader.Refute = nr
-by_loaders w ns nd nu nc nr nw nf loader.Why = nw
-by_loaders w ns nd nu nc nr nw nf loader.Conflict = nf
+by_loaders w ns nd nu nc nr nw nf ni loader.Select = ns
+by_loaders w ns nd nu nc nr nw nf ni loader.Download = nd
+by_loaders w ns nd nu nc nr nw nf ni loader.Run = nu
+by_loaders w ns nd nu nc nr nw nf ni loader.Check = nc
+by_loaders w ns nd nu nc nr nw nf ni loader.Refute = nr
+by_loaders w ns nd nu nc nr nw nf ni loader.Why = nw
+by_loaders w ns nd nu nc nr nw nf ni loader.Conflict = nf
+by_loaders w ns nd nu nc nr nw nf ni loader.Script = ni
 
-pub right_unknown : (ws rest : List Word) (w : Word) → ws ≡ w ∷ rest → ((l : Loader) → w ≢ loader_word l) → w ≢ codes "manifest" → w ≢ codes "store" → w ≢ codes "demo" → w ≢ codes "launch" → w ≢ codes "--help" → w ≢ codes "--version"
+pub right_unknown : (ws rest : List Word) (w : Word) → ws ≡ w ∷ rest → ((l : Loader) → w ≢ loader_word l) → w ≢ codes "manifest" → w ≢ codes "store" → w ≢ codes "demo" → w ≢ codes "launch" → w ≢ codes "show" → w ≢ codes "--help" → w ≢ codes "--version"
     → LeftAt (Asks Right) ws (length ws)
-right_unknown ws rest w e nl nm nt nd na nh nv =
+right_unknown ws rest w e nl nm nt nd na nw nh nv =
     let P : List Word → Type 0 = λ v. LeftAt (Asks Right) v (length v) in
     subst P (sym e) (stuck (Asks Right) [] w rest begins (λ (more, (r, h)). wrong more r h))
   where
-    wrong : (more : List Word) (r : Request) → Loads w more r ⊎ (InStore w more r ⊎ (Demonstrates w more r ⊎ (Launches w more r ⊎ Alone w more r))) → ⊥
+    wrong : (more : List Word) (r : Request) → Loads w more r ⊎ (InStore w more r ⊎ (Demonstrates w more r ⊎ (OfFile w more r ⊎ Alone w more r))) → ⊥
     wrong more r (inl (l, h, a)) = nl l h
     wrong more r (inr (inl (inl h))) = nm h.0
     wrong more r (inr (inl (inr h))) = nt h.0
     wrong more r (inr (inr (inl h))) = nd h.0
-    wrong more r (inr (inr (inr (inl h)))) = na h.0
+    wrong more r (inr (inr (inr (inl (inl h))))) = na h.0
+    wrong more r (inr (inr (inr (inl (inr (inl h)))))) = nl loader.Script h.0
+    wrong more r (inr (inr (inr (inl (inr (inr h)))))) = nw h.0
     wrong more r (inr (inr (inr (inr (e, inl h))))) = nh h.0
     wrong more r (inr (inr (inr (inr (e, inr h))))) = nv h.0
 
@@ -61,6 +64,7 @@ loader_at w =
     else if bytes_eq w (loader_word loader.Refute) then Some loader.Refute
     else if bytes_eq w (loader_word loader.Why) then Some loader.Why
     else if bytes_eq w (loader_word loader.Conflict) then Some loader.Conflict
+    else if bytes_eq w (loader_word loader.Script) then Some loader.Script
     else None
 
 at_word : (l : Loader) → loader_at (loader_word l) ≡ Some l
@@ -72,6 +76,7 @@ at_word loader.Check = refl
 at_word loader.Refute = refl
 at_word loader.Why = refl
 at_word loader.Conflict = refl
+at_word loader.Script = refl
 
 same_loader : (l m : Loader) → loader_word l ≡ loader_word m → l ≡ m
 same_loader l m e = let f : Some l ≡ Some m = sym (at_word l) ∙ (ap loader_at e ∙ at_word m) in cc
@@ -89,7 +94,9 @@ manifest_only u r (inl (l, h, a)) = absurd (no_loader (codes "manifest") l at_ma
 manifest_only u r (inr (inl (inl h))) = h.1
 manifest_only u r (inr (inl (inr h))) = absurd (not_same (codes "manifest") (codes "store") refl h.0)
 manifest_only u r (inr (inr (inl h))) = absurd (not_same (codes "manifest") (codes "demo") refl h.0)
-manifest_only u r (inr (inr (inr (inl h)))) = absurd (not_same (codes "manifest") (codes "launch") refl h.0)
+manifest_only u r (inr (inr (inr (inl (inl h))))) = absurd (not_same (codes "manifest") (codes "launch") refl h.0)
+manifest_only u r (inr (inr (inr (inl (inr (inl h)))))) = absurd (not_same (codes "manifest") (codes "script") refl h.0)
+manifest_only u r (inr (inr (inr (inl (inr (inr h)))))) = absurd (not_same (codes "manifest") (codes "show") refl h.0)
 manifest_only u r (inr (inr (inr (inr (n, inl h))))) = absurd (not_same (codes "manifest") (codes "--help") refl h.0)
 manifest_only u r (inr (inr (inr (inr (n, inr h))))) = absurd (not_same (codes "manifest") (codes "--version") refl h.0)
 
@@ -102,7 +109,9 @@ store_only u r (inl (l, h, a)) = absurd (no_loader (codes "store") l at_store h)
 store_only u r (inr (inl (inl h))) = absurd (not_same (codes "store") (codes "manifest") refl h.0)
 store_only u r (inr (inl (inr h))) = h.1
 store_only u r (inr (inr (inl h))) = absurd (not_same (codes "store") (codes "demo") refl h.0)
-store_only u r (inr (inr (inr (inl h)))) = absurd (not_same (codes "store") (codes "launch") refl h.0)
+store_only u r (inr (inr (inr (inl (inl h))))) = absurd (not_same (codes "store") (codes "launch") refl h.0)
+store_only u r (inr (inr (inr (inl (inr (inl h)))))) = absurd (not_same (codes "store") (codes "script") refl h.0)
+store_only u r (inr (inr (inr (inl (inr (inr h)))))) = absurd (not_same (codes "store") (codes "show") refl h.0)
 store_only u r (inr (inr (inr (inr (n, inl h))))) = absurd (not_same (codes "store") (codes "--help") refl h.0)
 store_only u r (inr (inr (inr (inr (n, inr h))))) = absurd (not_same (codes "store") (codes "--version") refl h.0)
 
@@ -115,7 +124,9 @@ demo_only u r (inl (l, h, a)) = absurd (no_loader (codes "demo") l at_demo h)
 demo_only u r (inr (inl (inl h))) = absurd (not_same (codes "demo") (codes "manifest") refl h.0)
 demo_only u r (inr (inl (inr h))) = absurd (not_same (codes "demo") (codes "store") refl h.0)
 demo_only u r (inr (inr (inl h))) = h.1
-demo_only u r (inr (inr (inr (inl h)))) = absurd (not_same (codes "demo") (codes "launch") refl h.0)
+demo_only u r (inr (inr (inr (inl (inl h))))) = absurd (not_same (codes "demo") (codes "launch") refl h.0)
+demo_only u r (inr (inr (inr (inl (inr (inl h)))))) = absurd (not_same (codes "demo") (codes "script") refl h.0)
+demo_only u r (inr (inr (inr (inl (inr (inr h)))))) = absurd (not_same (codes "demo") (codes "show") refl h.0)
 demo_only u r (inr (inr (inr (inr (n, inl h))))) = absurd (not_same (codes "demo") (codes "--help") refl h.0)
 demo_only u r (inr (inr (inr (inr (n, inr h))))) = absurd (not_same (codes "demo") (codes "--version") refl h.0)
 
@@ -128,9 +139,26 @@ launch_only u r (inl (l, h, a)) = absurd (no_loader (codes "launch") l at_launch
 launch_only u r (inr (inl (inl h))) = absurd (not_same (codes "launch") (codes "manifest") refl h.0)
 launch_only u r (inr (inl (inr h))) = absurd (not_same (codes "launch") (codes "store") refl h.0)
 launch_only u r (inr (inr (inl h))) = absurd (not_same (codes "launch") (codes "demo") refl h.0)
-launch_only u r (inr (inr (inr (inl h)))) = h.1
+launch_only u r (inr (inr (inr (inl (inl h))))) = h.1
+launch_only u r (inr (inr (inr (inl (inr (inl h)))))) = absurd (not_same (codes "launch") (codes "script") refl h.0)
+launch_only u r (inr (inr (inr (inl (inr (inr h)))))) = absurd (not_same (codes "launch") (codes "show") refl h.0)
 launch_only u r (inr (inr (inr (inr (n, inl h))))) = absurd (not_same (codes "launch") (codes "--help") refl h.0)
 launch_only u r (inr (inr (inr (inr (n, inr h))))) = absurd (not_same (codes "launch") (codes "--version") refl h.0)
+
+at_show : loader_at (codes "show") ≡ None
+unfolding loader_at
+at_show = refl
+
+pub show_only : (u : List Word) (r : Request) → Right (codes "show" ∷ u) r → AsksShow u r
+show_only u r (inl (l, h, a)) = absurd (no_loader (codes "show") l at_show h)
+show_only u r (inr (inl (inl h))) = absurd (not_same (codes "show") (codes "manifest") refl h.0)
+show_only u r (inr (inl (inr h))) = absurd (not_same (codes "show") (codes "store") refl h.0)
+show_only u r (inr (inr (inl h))) = absurd (not_same (codes "show") (codes "demo") refl h.0)
+show_only u r (inr (inr (inr (inl (inl h))))) = absurd (not_same (codes "show") (codes "launch") refl h.0)
+show_only u r (inr (inr (inr (inl (inr (inl h)))))) = absurd (not_same (codes "show") (codes "script") refl h.0)
+show_only u r (inr (inr (inr (inl (inr (inr h)))))) = h.1
+show_only u r (inr (inr (inr (inr (n, inl h))))) = absurd (not_same (codes "show") (codes "--help") refl h.0)
+show_only u r (inr (inr (inr (inr (n, inr h))))) = absurd (not_same (codes "show") (codes "--version") refl h.0)
 
 at_help : loader_at (codes "--help") ≡ None
 unfolding loader_at
@@ -141,7 +169,9 @@ help_only u r (inl (l, h, a)) = absurd (no_loader (codes "--help") l at_help h)
 help_only u r (inr (inl (inl h))) = absurd (not_same (codes "--help") (codes "manifest") refl h.0)
 help_only u r (inr (inl (inr h))) = absurd (not_same (codes "--help") (codes "store") refl h.0)
 help_only u r (inr (inr (inl h))) = absurd (not_same (codes "--help") (codes "demo") refl h.0)
-help_only u r (inr (inr (inr (inl h)))) = absurd (not_same (codes "--help") (codes "launch") refl h.0)
+help_only u r (inr (inr (inr (inl (inl h))))) = absurd (not_same (codes "--help") (codes "launch") refl h.0)
+help_only u r (inr (inr (inr (inl (inr (inl h)))))) = absurd (not_same (codes "--help") (codes "script") refl h.0)
+help_only u r (inr (inr (inr (inl (inr (inr h)))))) = absurd (not_same (codes "--help") (codes "show") refl h.0)
 help_only u r (inr (inr (inr (inr (n, inl h))))) = (n, h.1)
 help_only u r (inr (inr (inr (inr (n, inr h))))) = absurd (not_same (codes "--help") (codes "--version") refl h.0)
 
@@ -154,18 +184,34 @@ version_only u r (inl (l, h, a)) = absurd (no_loader (codes "--version") l at_ve
 version_only u r (inr (inl (inl h))) = absurd (not_same (codes "--version") (codes "manifest") refl h.0)
 version_only u r (inr (inl (inr h))) = absurd (not_same (codes "--version") (codes "store") refl h.0)
 version_only u r (inr (inr (inl h))) = absurd (not_same (codes "--version") (codes "demo") refl h.0)
-version_only u r (inr (inr (inr (inl h)))) = absurd (not_same (codes "--version") (codes "launch") refl h.0)
+version_only u r (inr (inr (inr (inl (inl h))))) = absurd (not_same (codes "--version") (codes "launch") refl h.0)
+version_only u r (inr (inr (inr (inl (inr (inl h)))))) = absurd (not_same (codes "--version") (codes "script") refl h.0)
+version_only u r (inr (inr (inr (inl (inr (inr h)))))) = absurd (not_same (codes "--version") (codes "show") refl h.0)
 version_only u r (inr (inr (inr (inr (n, inl h))))) = absurd (not_same (codes "--version") (codes "--help") refl h.0)
 version_only u r (inr (inr (inr (inr (n, inr h))))) = (n, h.1)
 
-pub loading_only : (l : Loader) (u : List Word) (r : Request) → Right (loader_word l ∷ u) r → AsksLoading l u r
-loading_only l u r (inl (m, h, a)) = let P : Loader → Type 0 = λ v. AsksLoading v u r in subst P (sym (same_loader l m h)) a
-loading_only l u r (inr (inl (inl h))) = absurd (no_loader (codes "manifest") l at_manifest (sym h.0))
-loading_only l u r (inr (inl (inr h))) = absurd (no_loader (codes "store") l at_store (sym h.0))
-loading_only l u r (inr (inr (inl h))) = absurd (no_loader (codes "demo") l at_demo (sym h.0))
-loading_only l u r (inr (inr (inr (inl h)))) = absurd (no_loader (codes "launch") l at_launch (sym h.0))
-loading_only l u r (inr (inr (inr (inr (n, inl h))))) = absurd (no_loader (codes "--help") l at_help (sym h.0))
-loading_only l u r (inr (inr (inr (inr (n, inr h))))) = absurd (no_loader (codes "--version") l at_version (sym h.0))
+-- a command that loads feeds, other than `script`, has no other words
+pub loading_only : (l : Loader) (u : List Word) (r : Request) → bytes_eq (loader_word l) (codes "script") ≡ false → Right (loader_word l ∷ u) r → AsksLoading l u r
+loading_only l u r apart (inl (m, h, a)) = let P : Loader → Type 0 = λ v. AsksLoading v u r in subst P (sym (same_loader l m h)) a
+loading_only l u r apart (inr (inl (inl h))) = absurd (no_loader (codes "manifest") l at_manifest (sym h.0))
+loading_only l u r apart (inr (inl (inr h))) = absurd (no_loader (codes "store") l at_store (sym h.0))
+loading_only l u r apart (inr (inr (inl h))) = absurd (no_loader (codes "demo") l at_demo (sym h.0))
+loading_only l u r apart (inr (inr (inr (inl (inl h))))) = absurd (no_loader (codes "launch") l at_launch (sym h.0))
+loading_only l u r apart (inr (inr (inr (inl (inr (inl h)))))) = absurd (not_same (loader_word l) (codes "script") apart h.0)
+loading_only l u r apart (inr (inr (inr (inl (inr (inr h)))))) = absurd (no_loader (codes "show") l at_show (sym h.0))
+loading_only l u r apart (inr (inr (inr (inr (n, inl h))))) = absurd (no_loader (codes "--help") l at_help (sym h.0))
+loading_only l u r apart (inr (inr (inr (inr (n, inr h))))) = absurd (no_loader (codes "--version") l at_version (sym h.0))
+
+pub script_only : (u : List Word) (r : Request) → Right (codes "script" ∷ u) r → AsksScript u r
+script_only u r (inl (l, h, a)) = let P : Loader → Type 0 = λ v. AsksLoading v u r in inl (subst P (sym (same_loader loader.Script l h)) a)
+script_only u r (inr (inl (inl h))) = absurd (not_same (codes "script") (codes "manifest") refl h.0)
+script_only u r (inr (inl (inr h))) = absurd (not_same (codes "script") (codes "store") refl h.0)
+script_only u r (inr (inr (inl h))) = absurd (not_same (codes "script") (codes "demo") refl h.0)
+script_only u r (inr (inr (inr (inl (inl h))))) = absurd (not_same (codes "script") (codes "launch") refl h.0)
+script_only u r (inr (inr (inr (inl (inr (inl h)))))) = inr h.1
+script_only u r (inr (inr (inr (inl (inr (inr h)))))) = absurd (not_same (codes "script") (codes "show") refl h.0)
+script_only u r (inr (inr (inr (inr (n, inl h))))) = absurd (not_same (codes "script") (codes "--help") refl h.0)
+script_only u r (inr (inr (inr (inr (n, inr h))))) = absurd (not_same (codes "script") (codes "--version") refl h.0)
 
 -- a command whose words are read apart
 module _ (name : Word) (Rel : List Word → Request → Type 0) (down : (u : List Word) (r : Request) → Right (name ∷ u) r → Rel u r) (up : (u : List Word) (r : Request) → Rel u r → Right (name ∷ u) r) where
@@ -192,9 +238,17 @@ module _ (name : Word) (asked : Request) (only : (u : List Word) (r : Request) �
       (subst Q (sym (e ∙ ap (λ v. v ∷ x ∷ rest) h))
       (stuck (Asks Right) (name ∷ []) x rest ([], (asked, right)) (λ (more, (r, a)). let j = (only (x ∷ more) r a).0 in cc)))
 
-pub right_loading : (l : Loader) (ws rest : List Word) (w : Word) (result : Result Request Refusal) → ws ≡ w ∷ rest → w ≡ loader_word l
+pub right_loading : (l : Loader) → bytes_eq (loader_word l) (codes "script") ≡ false → (ws rest : List Word) (w : Word) (result : Result Request Refusal) → ws ≡ w ∷ rest → w ≡ loader_word l
     → MatchResult result (AsksLoading l rest) (Refused (AsksLoading l) rest) → MatchResult result (Right ws) (Refused Right ws)
-right_loading l = command (loader_word l) (AsksLoading l) (loading_only l) (λ u r a. inl (l, refl, a))
+right_loading l apart = command (loader_word l) (AsksLoading l) (λ u r h. loading_only l u r apart h) (λ u r a. inl (l, refl, a))
+
+script_too : (u : List Word) (r : Request) → AsksScript u r → Right (codes "script" ∷ u) r
+script_too u r (inl a) = inl (loader.Script, refl, a)
+script_too u r (inr a) = inr (inr (inr (inl (inr (inl (refl, a))))))
+
+pub right_script : (ws rest : List Word) (w : Word) (result : Result Request Refusal) → ws ≡ w ∷ rest → w ≡ codes "script" → MatchResult result (AsksScript rest) (Refused AsksScript rest)
+    → MatchResult result (Right ws) (Refused Right ws)
+right_script = command (codes "script") AsksScript script_only script_too
 
 pub right_manifest : (ws rest : List Word) (w : Word) (result : Result Request Refusal) → ws ≡ w ∷ rest → w ≡ codes "manifest" → MatchResult result (AsksManifest rest) (Refused AsksManifest rest)
     → MatchResult result (Right ws) (Refused Right ws)
@@ -210,7 +264,11 @@ right_demo = command (codes "demo") AsksDemo demo_only (λ u r a. inr (inr (inl 
 
 pub right_launch : (ws rest : List Word) (w : Word) (result : Result Request Refusal) → ws ≡ w ∷ rest → w ≡ codes "launch" → MatchResult result (AsksLaunch rest) (Refused AsksLaunch rest)
     → MatchResult result (Right ws) (Refused Right ws)
-right_launch = command (codes "launch") AsksLaunch launch_only (λ u r a. inr (inr (inr (inl (refl, a)))))
+right_launch = command (codes "launch") AsksLaunch launch_only (λ u r a. inr (inr (inr (inl (inl (refl, a))))))
+
+pub right_show : (ws rest : List Word) (w : Word) (result : Result Request Refusal) → ws ≡ w ∷ rest → w ≡ codes "show" → MatchResult result (AsksShow rest) (Refused AsksShow rest)
+    → MatchResult result (Right ws) (Refused Right ws)
+right_show = command (codes "show") AsksShow show_only (λ u r a. inr (inr (inr (inl (inr (inr (refl, a)))))))
 
 pub right_help : (ws rest : List Word) (w : Word) (result : Result Request Refusal) → ws ≡ w ∷ rest → w ≡ codes "--help" → IsEnded request.Help rest result
     → MatchResult result (Right ws) (Refused Right ws)

@@ -76,6 +76,7 @@ IsWithin (request.Check ask sels proof) = ask.search ≤ most_lemmas
 IsWithin (request.Refute ask proof) = ask.search ≤ most_lemmas
 IsWithin (request.Why ask) = ask.search ≤ most_lemmas
 IsWithin (request.Conflict ask) = ask.search ≤ most_lemmas
+IsWithin (request.Script ask user) = ask.search ≤ most_lemmas
 IsWithin (request.Demo n) = (1 ≤ n) × (n ≤ 1000)
 IsWithin other = Unit {0}
 
@@ -87,6 +88,7 @@ of_loader loader.Check ask proof named h = h
 of_loader loader.Refute ask proof named h = h
 of_loader loader.Why ask proof named h = h
 of_loader loader.Conflict ask proof named h = h
+of_loader loader.Script ask proof named h = h
 
 pub is_within : (ws : List Word) (r : Request) → Right ws r → IsWithin r
 is_within [] r h = absurd h
@@ -106,6 +108,8 @@ is_within (w ∷ ws) r (inr (inr (inl (e, (word, n, f, number, is))))) =
     let P : Request → Type 0 = λ v. IsWithin v in
     let Q : Option ℕ → Type 0 = λ o. IsNumber o in
     subst P (sym is) (subst Q number (number_is word))
-is_within (w ∷ ws) r (inr (inr (inr (inl (e, (file, user, f, is)))))) = let P : Request → Type 0 = λ v. IsWithin v in subst P (sym is) tt
+is_within (w ∷ ws) r (inr (inr (inr (inl (inl (e, (file, user, f, is))))))) = let P : Request → Type 0 = λ v. IsWithin v in subst P (sym is) tt
+is_within (w ∷ ws) r (inr (inr (inr (inl (inr (inl (e, (behind, f, (file, user, g, is))))))))) = let P : Request → Type 0 = λ v. IsWithin v in subst P (sym is) tt
+is_within (w ∷ ws) r (inr (inr (inr (inl (inr (inr (e, (file, f, is)))))))) = let P : Request → Type 0 = λ v. IsWithin v in subst P (sym is) tt
 is_within (w ∷ ws) r (inr (inr (inr (inr (n, inl (e, is)))))) = let P : Request → Type 0 = λ v. IsWithin v in subst P (sym is) tt
 is_within (w ∷ ws) r (inr (inr (inr (inr (n, inr (e, is)))))) = let P : Request → Type 0 = λ v. IsWithin v in subst P (sym is) tt

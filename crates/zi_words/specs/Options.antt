@@ -50,6 +50,8 @@ has_option loader.Why kind.Proof = false
 has_option loader.Why k = true
 has_option loader.Conflict kind.Proof = false
 has_option loader.Conflict k = true
+has_option loader.Script kind.Proof = false
+has_option loader.Script k = true
 
 -- its arguments
 abbrev pub forms : Kind → List Form

@@ -13,7 +13,7 @@ use Rattle.zi_words.specs.Forms.{Word, is_address}
 use Rattle.zi_words.specs.Options.{Item, AreItems, spelled, any_clash, first, second, gathered, ask_of}
 use Rattle.zi_words.specs.Store.{InStore}
 use Rattle.zi_words.specs.Demo.{Demonstrates}
-use Rattle.zi_words.specs.Launch.{Launches}
+use Rattle.zi_words.specs.Launch.{AsksScriptFile, OfFile}
 
 -- what may end the options: nothing, or `--`
 abbrev pub EndsOptions : List Word → Type 0
@@ -28,6 +28,7 @@ loader_word loader.Check = codes "check"
 loader_word loader.Refute = codes "refute"
 loader_word loader.Why = codes "why"
 loader_word loader.Conflict = codes "conflict"
+loader_word loader.Script = codes "script"
 
 -- how many words it has behind the root, at least
 abbrev pub count_of : Loader → ℕ
@@ -38,6 +39,7 @@ count_of loader.Check = 2
 count_of loader.Refute = 1
 count_of loader.Why = 0
 count_of loader.Conflict = 0
+count_of loader.Script = 0
 
 -- any number of words may follow those: they are the program's
 abbrev pub takes_more : Loader → Bool
@@ -48,6 +50,7 @@ takes_more loader.Check = false
 takes_more loader.Refute = false
 takes_more loader.Why = false
 takes_more loader.Conflict = false
+takes_more loader.Script = true
 
 -- so many words are as many as these, or where more may follow at least as many
 abbrev pub AreMany : Bool → ℕ → ℕ → Type 0
@@ -67,6 +70,7 @@ request_of loader.Check ask proof named = request.Check ask (first named) (secon
 request_of loader.Refute ask proof named = request.Refute ask (first named)
 request_of loader.Why ask proof named = request.Why ask
 request_of loader.Conflict ask proof named = request.Conflict ask
+request_of loader.Script ask proof named = request.Script ask named
 
 abbrev pub asking : Loader → Word → List Word → Asked → Request
 asking l root named a = request_of l (ask_of root a) a.proof named
@@ -90,6 +94,10 @@ pub record AsksLoading (l : Loader) (ws : List Word) (r : Request) : Type 0 wher
 abbrev pub Loads : Word → List Word → Request → Type 0
 Loads w ws r = (l : Loader) × (w ≡ loader_word l) × AsksLoading l ws r
 
+-- behind `script`: as behind `run`, or `--launch` first
+abbrev pub AsksScript : List Word → Request → Type 0
+AsksScript ws r = AsksLoading loader.Script ws r ⊎ AsksScriptFile ws r
+
 -- a word that stands alone
 abbrev pub Alone : Word → List Word → Request → Type 0
 Alone w ws r = (ws ≡ []) × (((w ≡ codes "--help") × (r ≡ request.Help)) ⊎ ((w ≡ codes "--version") × (r ≡ request.Version)))
@@ -97,7 +105,7 @@ Alone w ws r = (ws ≡ []) × (((w ≡ codes "--help") × (r ≡ request.Help)) 
 -- These words are right, and ask for this.
 abbrev pub Right : List Word → Request → Type 0
 Right [] r = ⊥
-Right (w ∷ ws) r = Loads w ws r ⊎ (InStore w ws r ⊎ (Demonstrates w ws r ⊎ (Launches w ws r ⊎ Alone w ws r)))
+Right (w ∷ ws) r = Loads w ws r ⊎ (InStore w ws r ⊎ (Demonstrates w ws r ⊎ (OfFile w ws r ⊎ Alone w ws r)))
 
 -- these words are right
 abbrev pub AreRight : List Word → Type 0

@@ -21,6 +21,8 @@ pub enum Loader {
     Why,
     /// `conflict [options] ROOT`.
     Conflict,
+    /// `script [options] ROOT WORDS..`.
+    Script,
 }
 
 impl Loader {
@@ -35,7 +37,8 @@ impl Loader {
             | Loader::Check
             | Loader::Refute
             | Loader::Why
-            | Loader::Conflict => match kind {
+            | Loader::Conflict
+            | Loader::Script => match kind {
                 Kind::Proof => false,
                 _ => true,
             },
@@ -46,7 +49,7 @@ impl Loader {
     pub fn takes_more(self) -> bool
         ensures { result ≡ takes_more self }
     {
-        matches!(self, Loader::Run)
+        matches!(self, Loader::Run | Loader::Script)
     }
 
     /// How many words it has behind the root, at least.
@@ -54,7 +57,12 @@ impl Loader {
         ensures { result ≡ count_of self }
     {
         match self {
-            Loader::Select | Loader::Download | Loader::Run | Loader::Why | Loader::Conflict => 0,
+            Loader::Select
+            | Loader::Download
+            | Loader::Run
+            | Loader::Why
+            | Loader::Conflict
+            | Loader::Script => 0,
             Loader::Refute => 1,
             Loader::Check => 2,
         }

@@ -193,6 +193,10 @@ fn request(
             let user = copied(alloc, named)?;
             Ok(Request::Run { ask, user })
         }
+        Loader::Script => {
+            let user = copied(alloc, named)?;
+            Ok(Request::Script { ask, user })
+        }
         Loader::Check => {
             let sels = named[0].copy(alloc)?;
             let proof = named[1].copy(alloc)?;

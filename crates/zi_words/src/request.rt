@@ -41,6 +41,12 @@ pub enum Request {
     Run { ask: Ask, user: List<Text> },
     /// `launch`: the program of the selections in the file of this name, started with these words.
     Launch { file: Text, user: List<Text> },
+    /// `script`: a shell script that starts the program as `run` would have started it with these words.
+    Script { ask: Ask, user: List<Text> },
+    /// `script --launch`: one that starts the program of the selections in the file of this name, as `launch` would have.
+    ScriptLaunch { file: Text, user: List<Text> },
+    /// `show`: the selections in the file of this name, as people read them.
+    Show { file: Text },
     /// `check`: whether the proof of this name shows that the selections of that name are those of the best choice.
     Check { ask: Ask, sels: Text, proof: Text },
     /// `refute`: whether the proof of this name shows that no choice is valid.

@@ -35,3 +35,7 @@ returns-in-Version g c =
 
 pub returns-in-Launch : goal.returns-in-Launch
 returns-in-Launch g c = rw c.in-Launch.is (inl (rw c.as_slice.ensures at (c.launch.ensures (g.W.Web.seen c.args.web.now) (g.O.Sink.seen c.args.out.now))))
+
+pub returns-in-ScriptLaunch : goal.returns-in-ScriptLaunch
+returns-in-ScriptLaunch g c =
+    rw c.in-ScriptLaunch.is (inl (record { does = rw c.as_slice-words.ensures at (c.script_file.ensures (g.W.Web.seen c.args.web.now)); started = refl }))

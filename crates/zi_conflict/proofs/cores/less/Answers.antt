@@ -1,5 +1,5 @@
 use Rattle.std.proofs.Common.{◌≡◌, ◌∙◌, ◌<◌, true, [], length, ap, sym, subst}
-use Rattle.std.specs.Prelude.{IfSome, Some}
+use Rattle.std.specs.Prelude.{IfSome}
 use Rattle.std.specs.List.{All}
 use Rattle.zi_formula.specs.declared.formula.Formula.{Formula}
 use Rattle.zi_proof.specs.declared.proof.Proof.{Proof}
@@ -8,7 +8,7 @@ use Rattle.zi_conflict.specs.Ground.{formula_of}
 use Rattle.zi_conflict.specs.Core.{only}
 use Rattle.zi_conflict.specs.Resting.{numbers_to, RestsOn}
 use Rattle.zi_conflict.proofs.PartLaws.{less_is, part_own, part_trans}
-use Rattle.zi_conflict.proofs.GroundLaws.{part_formed, part_variables, part_few}
+use Rattle.zi_conflict.proofs.GroundLaws.{part_formed, part_few}
 use Rattle.zi_conflict.proofs.cores.less.Goals as goal
 
 pub only-requires : goal.only-requires
@@ -21,9 +21,6 @@ pub refutation-requires-clause-formed : goal.refutation-requires-clause-formed
 refutation-requires-clause-formed c =
     let f = formula_of c.args.on.now in
     part_formed c.args.on.now.universe.now c.args.on.now.req.now f c.in_ok-g.g c.in_ok-others.others.items c.requires.ground.built (part_trans c.in_ok-others.others.items c.args.numbers.now (numbers_to (length f.constraints)) c.in_ok-others.ensures c.requires.own) (c.in_ok-g.ensures ∙ ap (only f) c.as_slice.ensures.value)
-
-pub refutation-requires-clause-variables : goal.refutation-requires-clause-variables
-refutation-requires-clause-variables c = part_variables c.args.on.now.universe.now c.args.on.now.req.now (formula_of c.args.on.now) c.in_ok-g.g c.in_ok-others.others.items c.requires.ground.built (c.in_ok-g.ensures ∙ ap (only (formula_of c.args.on.now)) c.as_slice.ensures.value)
 
 pub refutation-requires-clause-few : goal.refutation-requires-clause-few
 refutation-requires-clause-few c =

@@ -1,12 +1,8 @@
-use Rattle.std.proofs.Common.{◌≡◌, ◌≤◌, ◌<◌, ◌+◌, ◌-◌, ◌^◌, true, [], length, ap, sym, subst}
+use Rattle.std.proofs.Common.{◌≡◌, ◌<◌, ◌+◌, ◌-◌, ◌^◌, true, [], length, ap, sym, subst}
 use Rattle.zi_proof.specs.declared.proof.Proof.{Proof}
 use Rattle.zi_proof.specs.Accepted.{follows, proves}
 use Rattle.zi_sat.specs.View.{SearchSeen}
-use Rattle.zi_choice.specs.Vars.{var_count}
 use Rattle.zi_conflict.proofs.cores.refutation.Goals as goal
-
-pub seek-requires-clause-variables : goal.seek-requires-clause-variables
-seek-requires-clause-variables c = subst (λ (s : SearchSeen). var_count c.args.on.now.universe.now ≤ s.formula.variables) (sym c.in_ok-search.ensures) c.requires.variables
 
 pub seek-requires-clause-few : goal.seek-requires-clause-few
 seek-requires-clause-few c = subst (λ (s : SearchSeen). length s.formula.constraints + 1000 < 2 ^ 32 - 1) (sym c.in_ok-search.ensures) c.requires.few

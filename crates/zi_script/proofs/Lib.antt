@@ -1,0 +1,5 @@
+pub mod NamingLaws
+pub mod LineLaws
+pub mod SaysLaws
+pub mod TurnLaws
+pub mod ScriptLaws

@@ -1,0 +1,3 @@
+pub mod ScriptingLaws
+pub mod KeptLaws
+pub mod PlanLaws

@@ -1,0 +1,5 @@
+pub mod Tree
+pub mod Text
+pub mod Showing
+pub mod Steps
+pub mod Laws
